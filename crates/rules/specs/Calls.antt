@@ -1,0 +1,116 @@
+-- What each of the six calls does where it is not refused.
+use Prim.Native.Nat.{ℕ, zero, suc, _+_}
+use mathlib.Core.List.{List, [], _∷_, _++_, map}
+use mathlib.Core.Bool.{Bool, true, false, cond, not, _&&_}
+use lib.ListN.{set}
+use lib.Dec.{eqb}
+use Rattle.rules.specs.declared.Call.{Call}
+use Rattle.rules.specs.declared.Call.the-variants.{Insert, FindMin, ExtractMin, DecreaseKey, Delete, Meld}
+use Rattle.rules.specs.declared.Answer.{Answer}
+use Rattle.rules.specs.Lists.{without, setAll}
+use Rattle.rules.specs.Forests.{
+  Forests,
+  none,
+  rowOf,
+  childrenOf,
+  parentOf,
+  keyOf,
+  heapNumber,
+  setRow,
+  setChildren,
+  setParent,
+  setKey,
+  setMark,
+  setHeap,
+  count,
+}
+use Rattle.rules.specs.Order.{precedes, minimum}
+use Rattle.rules.specs.Cut.{cutIf}
+use Rattle.rules.specs.Consolidate.{consolidate}
+
+-- the answer to a call, and the forests after it
+pub record Outcome : Type 0 where
+  pub reply : Answer
+  pub next : Forests
+
+-- a call that was done, with its item, key, links and cuts
+abbrev pub done : ℕ → ℕ → ℕ → ℕ → Forests → Outcome
+done i k links cuts t =
+    record { reply = record { code = 0; item = i; key = k; links = links; cuts = cuts }; next = t }
+
+-- I: a new tree at the row's end.
+unfoldable pub insert : ℕ → ℕ → ℕ → Forests → Forests
+insert h i k s = setRow h (rowOf s h ++ (i ∷ [])) (setHeap i (suc h) (setParent i none (setKey i k s)))
+
+-- Children that lose their parent become roots, unmarked.
+unfoldable pub release : List ℕ → Forests → Forests
+release cs s =
+    record {
+      rows = s .rows;
+      children = s .children;
+      parent = setAll cs none (s .parent);
+      key = s .key;
+      mark = setAll cs 0 (s .mark);
+      heap = s .heap;
+    }
+
+-- All that is known of x is cleared.
+unfoldable pub setFree : ℕ → Forests → Forests
+setFree x s = setHeap x 0 (setMark x 0 (setKey x 0 (setParent x 0 (setChildren x [] s))))
+
+-- The root x leaves row h and is free; its children join the end in their order, unmarked.
+unfoldable pub removeRoot : ℕ → ℕ → Forests → Forests
+removeRoot h x s =
+    let cs = childrenOf s x in
+    setFree x (setRow h (without x (rowOf s h) ++ cs) (release cs s))
+
+-- T: the minimum x of heap h leaves, then linking follows.
+unfoldable pub extract : ℕ → ℕ → Forests → Outcome
+extract h x s =
+    let w = consolidate h (removeRoot h x s) in
+    done x (keyOf s x) (w .links) 0 (w .forests)
+
+unfoldable pub hasParent : Forests → ℕ → Bool
+hasParent s i = not (eqb (parentOf s i) none)
+
+-- D: the key is lowered; i is cut only if it now comes before its parent.
+unfoldable pub decreaseKey : ℕ → ℕ → Forests → Outcome
+decreaseKey i k s =
+    let t = setKey i k s in
+    let c = cutIf (hasParent t i && precedes (t .key) i (parentOf t i)) (heapNumber s i) i t in
+    done i k 0 (c .cuts) (c .forests)
+
+-- X: a heap's minimum leaves as by T. Any other is cut if it has a parent, and then leaves its row with no linking.
+unfoldable pub deleteAs : Bool → ℕ → Forests → Outcome
+deleteAs true i s = extract (heapNumber s i) i s
+deleteAs false i s =
+    let c = cutIf (hasParent s i) (heapNumber s i) i s in
+    done i (keyOf s i) 0 (c .cuts) (removeRoot (heapNumber s i) i (c .forests))
+
+unfoldable pub delete : ℕ → Forests → Outcome
+delete i s = deleteAs (eqb (minimum s (heapNumber s i)) i) i s
+
+-- the heap field of an item once the items of heap b are heap a's
+unfoldable pub moveHeap : ℕ → ℕ → ℕ → ℕ
+moveHeap a b zero = zero
+moveHeap a b (suc g) = suc (cond (eqb g b) a g)
+
+-- J: b's row follows a's, and b is empty.
+unfoldable pub meld : ℕ → ℕ → Forests → Forests
+meld a b s =
+    record {
+      rows = set (set (s .rows) a (rowOf s a ++ rowOf s b)) b [];
+      children = s .children;
+      parent = s .parent;
+      key = s .key;
+      mark = s .mark;
+      heap = map (moveHeap a b) (s .heap);
+    }
+
+unfoldable pub perform : Forests → Call → Outcome
+perform s (Insert h i k) = done i k 0 0 (insert h i k s)
+perform s (FindMin h) = done (minimum s h) (keyOf s (minimum s h)) 0 0 s
+perform s (ExtractMin h) = extract h (minimum s h) s
+perform s (DecreaseKey i k) = decreaseKey i k s
+perform s (Delete i) = delete i s
+perform s (Meld a b) = done a (count s a + count s b) 0 0 (meld a b s)

@@ -1,0 +1,71 @@
+-- Linking: a row is walked over seventeen places, one for each rank 0 to 16.
+use Prim.Native.Nat.{ℕ, zero, suc}
+use mathlib.Core.List.{List, [], _∷_, _++_}
+use mathlib.Core.Bool.{Bool, true, false, cond}
+use lib.ListN.{getD, set, replicate}
+use lib.Dec.{eqb}
+use Rattle.rules.specs.Forests.{
+  Forests,
+  none,
+  rowOf,
+  childrenOf,
+  rankOf,
+  setRow,
+  setChildren,
+  setParent,
+  setMark,
+}
+use Rattle.rules.specs.Order.{precedes}
+
+-- The root l becomes the last child of the root w, unmarked.
+unfoldable pub link : ℕ → ℕ → Forests → Forests
+link w l s = setChildren w (childrenOf s w ++ (l ∷ [])) (setMark l 0 (setParent l w s))
+
+-- the tree at each place (`none`: it is free), the links made, and the forests they leave
+pub record Linking : Type 0 where
+  pub places : List ℕ
+  pub links : ℕ
+  pub forests : Forests
+
+unfoldable pub isFree : List ℕ → ℕ → Bool
+isFree places r = eqb (getD places r none) none
+
+-- The tree x of rank r comes to place r, which is free or not: it rests there, or it is linked with the holder, the
+-- root that comes second becoming the other's child, and the winner climbs one rank.
+-- The first argument bounds the climb; `ClimbBound` says that it changes nothing.
+unfoldable pub climb : ℕ → Bool → ℕ → ℕ → Linking → Linking
+climb zero free r x w = w
+climb (suc d) true r x w = record { places = set (w .places) r x; links = w .links; forests = w .forests }
+climb (suc d) false r x w =
+    let y = getD (w .places) r none in
+    let yFirst = precedes (w .forests .key) y x in
+    let winner = cond yFirst y x in
+    let loser = cond yFirst x y in
+    let v : Linking =
+    record {
+      places = set (w .places) r none;
+      links = suc (w .links);
+      forests = link winner loser (w .forests);
+    } in
+    climb d (isFree (v .places) (suc r)) (suc r) winner v
+
+-- one step for each tree, left to right
+unfoldable pub linkTrees : ℕ → List ℕ → Linking → Linking
+linkTrees d [] w = w
+linkTrees d (x ∷ xs) w =
+    let r = rankOf (w .forests) x in
+    linkTrees d xs (climb d (isFree (w .places) r) r x w)
+
+-- the trees at rest, by ascending rank
+unfoldable pub occupied : List ℕ → List ℕ
+occupied [] = []
+occupied (x ∷ xs) = cond (eqb x none) (occupied xs) (x ∷ occupied xs)
+
+unfoldable pub consolidateWithin : ℕ → ℕ → Forests → Linking
+consolidateWithin d h s =
+    let start : Linking = record { places = replicate 17 none; links = 0; forests = s } in
+    let w = linkTrees d (rowOf s h) start in
+    record { places = w .places; links = w .links; forests = setRow h (occupied (w .places)) (w .forests) }
+
+unfoldable pub consolidate : ℕ → Forests → Linking
+consolidate h s = consolidateWithin 18 h s

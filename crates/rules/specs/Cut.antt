@@ -1,0 +1,66 @@
+-- The cut and the cascading cut.
+use Prim.Native.Nat.{ℕ, zero, suc}
+use mathlib.Core.List.{List, [], _∷_, _++_}
+use mathlib.Core.Bool.{Bool, true, false, cond}
+use lib.Dec.{eqb}
+use Rattle.rules.specs.Lists.{without}
+use Rattle.rules.specs.Forests.{
+  Forests,
+  none,
+  rowOf,
+  childrenOf,
+  parentOf,
+  markOf,
+  tableSize,
+  setRow,
+  setChildren,
+  setParent,
+  setMark,
+}
+
+-- One cut: the tree x leaves its parent, whose rank falls by 1, and goes unmarked to the end of row h.
+unfoldable pub cut : ℕ → ℕ → Forests → Forests
+cut h x s =
+    let p = parentOf s x in
+    setRow h (rowOf s h ++ (x ∷ [])) (setMark x 0 (setParent x none (setChildren p (without x (childrenOf s p)) s)))
+
+-- What a parent that lost a child is.
+pub data Standing : Type 0 where
+  root : Standing
+  unmarked : Standing
+  marked : Standing
+
+unfoldable pub standing : Forests → ℕ → Standing
+standing s p = cond (eqb (parentOf s p) none) root (cond (eqb (markOf s p) 0) unmarked marked)
+
+-- the cuts made, and the forests they leave
+pub record Cuts : Type 0 where
+  pub cuts : ℕ
+  pub forests : Forests
+
+-- The item p lost a child: a root stays as it is, an unmarked child is marked, a marked one is cut likewise.
+-- The first argument bounds the cuts; `CascadeBound` says that it changes nothing.
+unfoldable pub cascadingCut : ℕ → Standing → ℕ → ℕ → Forests → Cuts
+cascadingCut zero st h p s = record { cuts = 0; forests = s }
+cascadingCut (suc d) root h p s = record { cuts = 0; forests = s }
+cascadingCut (suc d) unmarked h p s = record { cuts = 0; forests = setMark p 1 s }
+cascadingCut (suc d) marked h p s =
+    let t = cut h p s in
+    let q = parentOf s p in
+    let c = cascadingCut d (standing t q) h q t in
+    record { cuts = suc (c .cuts); forests = c .forests }
+
+-- x is cut, and its parent is then treated as one that lost a child.
+unfoldable pub cutWithin : ℕ → ℕ → ℕ → Forests → Cuts
+cutWithin d h x s =
+    let t = cut h x s in
+    let p = parentOf s x in
+    let c = cascadingCut d (standing t p) h p t in
+    record { cuts = suc (c .cuts); forests = c .forests }
+
+unfoldable pub cutOut : ℕ → ℕ → Forests → Cuts
+cutOut h x s = cutWithin (suc (tableSize s)) h x s
+
+unfoldable pub cutIf : Bool → ℕ → ℕ → Forests → Cuts
+cutIf true h x s = cutOut h x s
+cutIf false h x s = record { cuts = 0; forests = s }

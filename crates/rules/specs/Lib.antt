@@ -1,0 +1,13 @@
+pub mod Lists
+pub mod Forests
+pub mod Order
+pub mod Cut
+pub mod Consolidate
+pub mod Calls
+pub mod Answers
+pub mod Fibonacci
+pub mod WellFormed
+pub mod Ledger
+pub mod Words
+pub mod Worked
+pub mod Theorems

@@ -1,0 +1,139 @@
+-- What is proved of the rules. Each statement is a type; its proof is in proofs/, under the same name in lower case.
+-- The ledger (demand 3) has a file of its own.
+use Prim.Native.Nat.{ℕ, suc, _+_, _≤_, _<_}
+use mathlib.Core.Path.{_≡_}
+use mathlib.Core.Logic.{_≢_}
+use mathlib.Core.List.{List, [], _∷_, map}
+use mathlib.Core.Bool.{true}
+use lib.ListN.{length}
+use Rattle.rules.specs.declared.Call.{Call}
+use Rattle.rules.specs.declared.Call.the-variants.{Insert, FindMin, ExtractMin, DecreaseKey, Delete, Meld}
+use Rattle.rules.specs.declared.Line.{Line}
+use Rattle.rules.specs.declared.Line.the-variants.{Yields, NoCall}
+use Rattle.rules.specs.Lists.{sumTo}
+use Rattle.rules.specs.Forests.{
+  Forests,
+  empty,
+  rowOf,
+  heapOf,
+  rankOf,
+  tableSize,
+  count,
+  items,
+  marks,
+}
+use Rattle.rules.specs.Order.{precedes, minimum}
+use Rattle.rules.specs.Cut.{cutWithin, cutOut}
+use Rattle.rules.specs.Consolidate.{consolidateWithin, consolidate}
+use Rattle.rules.specs.Answers.{refusal, answer, after}
+use Rattle.rules.specs.Fibonacci.{F, R}
+use Rattle.rules.specs.WellFormed.{WellFormed}
+use Rattle.rules.specs.Ledger.{ifDone}
+use Rattle.rules.specs.Words.{encode, decode, storeSize}
+
+-- The empty forests of a fresh run are well-formed.
+unfoldable pub EmptyWellFormed : Type 0
+EmptyWellFormed = (n : ℕ) → n ≤ 4096 → WellFormed (empty n)
+
+-- A line's numbers are at most 4,294,967,295. Of these only an inserted key is kept, or lowered.
+unfoldable pub InRange : Line → Type 0
+InRange (Yields (Insert h i k)) = k < 4294967296
+InRange (Yields (FindMin h)) = Unit {0}
+InRange (Yields (ExtractMin h)) = Unit {0}
+InRange (Yields (DecreaseKey i k)) = Unit {0}
+InRange (Yields (Delete i)) = Unit {0}
+InRange (Yields (Meld a b)) = Unit {0}
+InRange NoCall = Unit {0}
+
+-- Every line, done or refused, leaves well-formed forests well-formed, and the table as long as it was.
+unfoldable pub KeepsWellFormed : Type 0
+KeepsWellFormed = (s : Forests) → WellFormed s → (l : Line) → InRange l → WellFormed ((answer s l) .next)
+
+unfoldable pub KeepsTableSize : Type 0
+KeepsTableSize = (s : Forests) → (l : Line) → tableSize ((answer s l) .next) ≡ tableSize s
+
+-- No bound in a definition changes a result: a larger one gives the same.
+unfoldable pub CascadeBound : Type 0
+CascadeBound =
+    (s : Forests) → marks s ≤ tableSize s → (h x d : ℕ) → tableSize s < d → cutWithin d h x s ≡ cutOut h x s
+
+unfoldable pub MarksFit : Type 0
+MarksFit = (s : Forests) → WellFormed s → marks s ≤ tableSize s
+
+unfoldable pub ClimbBound : Type 0
+ClimbBound =
+    (s : Forests) → WellFormed s → (h : ℕ) → h < 8 → (d : ℕ) → 18 ≤ d → consolidateWithin d h s ≡ consolidate h s
+
+-- R(n) is the largest k with F(k + 2) ≤ n, and F(k + 2) is 1 more than the sum of F(0) to F(k).
+pub record RLargest : Type 0 where
+  pub reached : (n : ℕ) → 1 ≤ n → F (suc (suc (R n))) ≤ n
+  pub largest : (n k : ℕ) → F (suc (suc k)) ≤ n → k ≤ R n
+  pub sums : (k : ℕ) → F (suc (suc k)) ≡ 1 + sumTo (suc k) F
+  -- so rank 17 would need 4,181 items
+  pub nineteen : F 19 ≡ 4181
+
+-- No item's rank is above R of its heap's item count, so none is above 16.
+unfoldable pub RankBound : Type 0
+RankBound = (s : Forests) → WellFormed s → (h x : ℕ) → heapOf s x ≡ suc h → rankOf s x ≤ R (count s h)
+
+unfoldable pub RankSixteen : Type 0
+RankSixteen = (s : Forests) → WellFormed s → (x : ℕ) → rankOf s x ≤ 16
+
+-- After a taking no two trees of the row have the same rank: the ranks rise strictly.
+abbrev pub Rising : ℕ → List ℕ → Type 0
+Rising least [] = Unit {0}
+Rising least (r ∷ rs) = (least ≤ r) × Rising (suc r) rs
+
+unfoldable pub RanksRise : Type 0
+RanksRise =
+    (s : Forests) → WellFormed s → (h : ℕ) → refusal s (ExtractMin h) ≡ 0 →
+    let t : Forests = (answer s (Yields (ExtractMin h))) .next in
+    Rising 0 (map (rankOf t) (rowOf t h))
+
+-- The minimum of a heap that is not empty is the one item of it that comes before all others of it.
+pub record IsMinimum (s : Forests) (h m : ℕ) : Type 0 where
+  pub inside : heapOf s m ≡ suc h
+  pub first : (x : ℕ) → heapOf s x ≡ suc h → x ≢ m → precedes (s .key) m x ≡ true
+
+unfoldable pub MinimumFirst : Type 0
+MinimumFirst = (s : Forests) → WellFormed s → (h : ℕ) → 1 ≤ count s h → IsMinimum s h (minimum s h)
+
+unfoldable pub MinimumUnique : Type 0
+MinimumUnique =
+    (s : Forests) → WellFormed s → (h m : ℕ) → IsMinimum s h m → minimum s h ≡ m
+
+-- The items in all heaps are those at the start and those inserted, less those taken and deleted.
+unfoldable pub inserted : Call → ℕ
+inserted (Insert h i k) = 1
+inserted (FindMin h) = 0
+inserted (ExtractMin h) = 0
+inserted (DecreaseKey i k) = 0
+inserted (Delete i) = 0
+inserted (Meld a b) = 0
+
+unfoldable pub removed : Call → ℕ
+removed (Insert h i k) = 0
+removed (FindMin h) = 0
+removed (ExtractMin h) = 1
+removed (DecreaseKey i k) = 0
+removed (Delete i) = 1
+removed (Meld a b) = 0
+
+unfoldable pub total : (Call → ℕ) → Forests → List Line → ℕ
+total f s [] = 0
+total f s (l ∷ ls) = ifDone f s l + total f ((answer s l) .next) ls
+
+unfoldable pub ItemsBalance : Type 0
+ItemsBalance =
+    (s : Forests) → WellFormed s → (ls : List Line)
+    → items (after s ls) + total removed s ls ≡ items s + total inserted s ls
+
+-- The words settle the forests.
+unfoldable pub EncodeLength : Type 0
+EncodeLength = (s : Forests) → length (encode s) ≡ storeSize (tableSize s)
+
+unfoldable pub DecodeEncode : Type 0
+DecodeEncode = (s : Forests) → WellFormed s → decode (tableSize s) (encode s) ≡ s
+
+unfoldable pub EncodeInjective : Type 0
+EncodeInjective = (s t : Forests) → WellFormed s → WellFormed t → encode s ≡ encode t → s ≡ t

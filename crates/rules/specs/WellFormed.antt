@@ -1,0 +1,71 @@
+-- Well-formed forests: eight disjoint forests in heap order, with their marks and ranks (scope paper, Store, "Sound").
+use Prim.Native.Nat.{ℕ, suc, _+_, _≤_, _<_}
+use mathlib.Core.Path.{_≡_}
+use mathlib.Core.Logic.{_≢_}
+use mathlib.Core.List.{List, [], _∷_}
+use mathlib.Core.Bool.{Bool, true, not, _&&_}
+use lib.ListN.{length, getD}
+use lib.Dec.{eqb}
+use Rattle.rules.specs.Lists.{indicator, occurs}
+use Rattle.rules.specs.Forests.{
+  Forests,
+  none,
+  rowOf,
+  childrenOf,
+  parentOf,
+  keyOf,
+  markOf,
+  heapOf,
+  tableSize,
+}
+use Rattle.rules.specs.Order.{precedes}
+
+abbrev pub isRootOf : Forests → ℕ → ℕ → Bool
+isRootOf s h x = eqb (heapOf s x) (suc h) && eqb (parentOf s x) none
+
+abbrev pub isChildOf : Forests → ℕ → ℕ → Bool
+isChildOf s p x = not (eqb (heapOf s x) 0) && eqb (parentOf s x) p
+
+-- Each item in a heap stands once: a root in its heap's row, any other among its parent's children. No other item
+-- stands anywhere, and a free item has nothing (that it has no children follows).
+pub record Disjoint (s : Forests) : Type 0 where
+  pub rows8 : length (s .rows) ≡ 8
+  pub childrenN : length (s .children) ≡ tableSize s
+  pub parentN : length (s .parent) ≡ tableSize s
+  pub keyN : length (s .key) ≡ tableSize s
+  pub markN : length (s .mark) ≡ tableSize s
+  pub small : tableSize s ≤ 4096
+  pub heaps : (x : ℕ) → heapOf s x ≤ 8
+  pub inRow : (h x : ℕ) → occurs x (rowOf s h) ≡ indicator (isRootOf s h x)
+  pub inChildren : (p x : ℕ) → p < tableSize s → occurs x (childrenOf s p) ≡ indicator (isChildOf s p x)
+  -- a parent is in the table, and in the same heap
+  pub up : (x : ℕ) → heapOf s x ≢ 0 → parentOf s x ≢ none
+      → (parentOf s x < tableSize s) × (heapOf s (parentOf s x) ≡ heapOf s x)
+  pub free : (x : ℕ) → heapOf s x ≡ 0 → (keyOf s x ≡ 0) × (parentOf s x ≡ 0) × (markOf s x ≡ 0)
+  pub bit : (x : ℕ) → markOf s x ≤ 1
+  -- no root is marked
+  pub bare : (x : ℕ) → parentOf s x ≡ none → markOf s x ≡ 0
+
+-- Each parent comes before its child. (Only that no child comes before its parent would let an item be its own.)
+unfoldable pub HeapOrdered : Forests → Type 0
+HeapOrdered s =
+    (x : ℕ) → heapOf s x ≢ 0 → parentOf s x ≢ none → precedes (s .key) (parentOf s x) x ≡ true
+
+-- The i-th child (from 1) has a rank of at least i - 1, or i - 2 if it is marked; j = i - 1 for the first of the list.
+abbrev pub ChildRanks : List (List ℕ) → List ℕ → ℕ → List ℕ → Type 0
+ChildRanks children mark j [] = Unit {0}
+ChildRanks children mark j (c ∷ cs) =
+    (j ≤ length (getD children c []) + getD mark c 0) × ChildRanks children mark (suc j) cs
+
+unfoldable pub RankRule : Forests → Type 0
+RankRule s = (p : ℕ) → p < tableSize s → ChildRanks (s .children) (s .mark) 0 (childrenOf s p)
+
+-- Keys are words of 32 bits.
+unfoldable pub KeysFit : Forests → Type 0
+KeysFit s = (x : ℕ) → keyOf s x < 4294967296
+
+pub record WellFormed (s : Forests) : Type 0 where
+  pub disjoint : Disjoint s
+  pub ordered : HeapOrdered s
+  pub ranked : RankRule s
+  pub keys : KeysFit s

@@ -1,0 +1,120 @@
+-- The runs worked by hand (scope paper, a to h): one table, and the claim that the rules give it.
+use Prim.Native.Nat.{ℕ, zero, suc}
+use mathlib.Core.Path.{_≡_}
+use mathlib.Core.List.{List, [], _∷_, _++_, map}
+use mathlib.Core.Bool.{cond}
+use lib.Dec.{eqb}
+use Rattle.rules.specs.declared.Call.the-variants.{Insert, ExtractMin, DecreaseKey, Delete}
+use Rattle.rules.specs.declared.Line.{Line}
+use Rattle.rules.specs.declared.Line.the-variants.{Yields}
+use Rattle.rules.specs.declared.Answer.{Answer}
+use Rattle.rules.specs.Forests.{Forests, empty, rowOf, potential}
+use Rattle.rules.specs.Answers.{isEmpty, answers, after}
+use Rattle.rules.specs.Fibonacci.{R}
+use Rattle.rules.specs.Ledger.{moves, allowed}
+
+-- What is seen after a run on nine items: the last answer, heap 0's row, the items that have children with these, the
+-- marked items, the potential, and over the whole run its moves and its allowance.
+pub record Seen : Type 0 where
+  pub last : Answer
+  pub row : List ℕ
+  pub families : List (ℕ × List ℕ)
+  pub marked : List ℕ
+  pub left : ℕ
+  pub moved : ℕ
+  pub may : ℕ
+
+unfoldable pub lastOf : Answer → List Answer → Answer
+lastOf a [] = a
+lastOf a (b ∷ bs) = lastOf b bs
+
+unfoldable pub familiesFrom : ℕ → List (List ℕ) → List (ℕ × List ℕ)
+familiesFrom i [] = []
+familiesFrom i (c ∷ cs) = cond (isEmpty c) (familiesFrom (suc i) cs) ((i, c) ∷ familiesFrom (suc i) cs)
+
+unfoldable pub markedFrom : ℕ → List ℕ → List ℕ
+markedFrom i [] = []
+markedFrom i (m ∷ ms) = cond (eqb m 0) (markedFrom (suc i) ms) (i ∷ markedFrom (suc i) ms)
+
+unfoldable pub reply : ℕ → ℕ → ℕ → ℕ → ℕ → Answer
+reply code item key links cuts = record { code = code; item = item; key = key; links = links; cuts = cuts }
+
+unfoldable pub sees : Answer → List ℕ → List (ℕ × List ℕ) → List ℕ → ℕ → ℕ → ℕ → Seen
+sees last row families marked left moved may =
+    record {
+      last = last;
+      row = row;
+      families = families;
+      marked = marked;
+      left = left;
+      moved = moved;
+      may = may;
+    }
+
+unfoldable pub seen : List Line → Seen
+seen ls =
+    let s = after (empty 9) ls in
+    sees (lastOf (reply 0 0 0 0 0) (answers (empty 9) ls)) (rowOf s 0) (familiesFrom 0 (s .children))
+    (markedFrom 0 (s .mark)) (potential s) (moves (empty 9) ls) (allowed (empty 9) ls)
+
+-- A row of the table: R at n is k, or a run and what is seen after it.
+pub data Row : Type 0 where
+  rank : ℕ → ℕ → Row
+  run : List Line → Seen → Row
+
+-- a row as the rules have it
+unfoldable pub byRules : Row → Row
+byRules (rank n k) = rank n (R n)
+byRules (run ls e) = run ls (seen ls)
+
+-- the lines of b, and those of e to h, each part after the one before
+unfoldable pub linesB : List Line
+linesB =
+    Yields (Insert 0 0 5) ∷ Yields (Insert 0 1 3) ∷ Yields (Insert 0 2 8) ∷ Yields (Insert 0 3 1)
+    ∷ Yields (ExtractMin 0) ∷ []
+
+unfoldable pub linesE : List Line
+linesE =
+    Yields (Insert 0 0 0) ∷ Yields (Insert 0 1 10) ∷ Yields (Insert 0 2 20) ∷ Yields (Insert 0 3 30)
+    ∷ Yields (Insert 0 4 40) ∷ Yields (Insert 0 5 50) ∷ Yields (Insert 0 6 60) ∷ Yields (Insert 0 7 70)
+    ∷ Yields (Insert 0 8 80) ∷ Yields (ExtractMin 0) ∷ []
+
+unfoldable pub linesF : List Line
+linesF = linesE ++ Yields (DecreaseKey 8 5) ∷ Yields (DecreaseKey 6 4) ∷ Yields (DecreaseKey 7 3) ∷ []
+
+unfoldable pub linesG : List Line
+linesG = linesF ++ Yields (Delete 3) ∷ []
+
+unfoldable pub linesH : List Line
+linesH = linesG ++ Yields (ExtractMin 0) ∷ []
+
+unfoldable pub table : List Row
+table =
+    -- (a)
+    rank 1 0 ∷ rank 2 1 ∷ rank 3 2 ∷ rank 4 2 ∷ rank 5 3 ∷ rank 8 4
+    -- (b), (c), (d)
+    ∷ run linesB (sees (reply 0 3 1 1 0) (2 ∷ 1 ∷ []) ((1, 0 ∷ []) ∷ []) [] 2 1 6)
+    ∷ run (linesB ++ Yields (DecreaseKey 0 4) ∷ [])
+    (sees (reply 0 0 4 0 0) (2 ∷ 1 ∷ []) ((1, 0 ∷ []) ∷ []) [] 2 1 10)
+    ∷ run (linesB ++ Yields (DecreaseKey 0 3) ∷ []) (sees (reply 0 0 3 0 1) (2 ∷ 1 ∷ 0 ∷ []) [] [] 3 2 10)
+    -- (e)
+    ∷ run linesE
+    (sees (reply 0 0 0 7 0) (1 ∷ [])
+    ((1, 2 ∷ 3 ∷ 5 ∷ []) ∷ (3, 4 ∷ []) ∷ (5, 6 ∷ 7 ∷ []) ∷ (7, 8 ∷ []) ∷ []) [] 1 7 13)
+    -- (f), call by call
+    ∷ run (linesE ++ Yields (DecreaseKey 8 5) ∷ [])
+    (sees (reply 0 8 5 0 1) (1 ∷ 8 ∷ [])
+    ((1, 2 ∷ 3 ∷ 5 ∷ []) ∷ (3, 4 ∷ []) ∷ (5, 6 ∷ 7 ∷ []) ∷ []) (7 ∷ []) 4 8 17)
+    ∷ run (linesE ++ Yields (DecreaseKey 8 5) ∷ Yields (DecreaseKey 6 4) ∷ [])
+    (sees (reply 0 6 4 0 1) (1 ∷ 8 ∷ 6 ∷ [])
+    ((1, 2 ∷ 3 ∷ 5 ∷ []) ∷ (3, 4 ∷ []) ∷ (5, 7 ∷ []) ∷ []) (5 ∷ 7 ∷ []) 7 9 21)
+    ∷ run linesF
+    (sees (reply 0 7 3 0 2) (1 ∷ 8 ∷ 6 ∷ 7 ∷ 5 ∷ []) ((1, 2 ∷ 3 ∷ []) ∷ (3, 4 ∷ []) ∷ []) [] 5 11 25)
+    -- (g), (h)
+    ∷ run linesG (sees (reply 0 3 30 0 1) (1 ∷ 8 ∷ 6 ∷ 7 ∷ 5 ∷ 4 ∷ []) ((1, 2 ∷ []) ∷ []) [] 6 12 32)
+    ∷ run linesH
+    (sees (reply 0 7 3 3 0) (4 ∷ 6 ∷ []) ((1, 2 ∷ []) ∷ (4, 5 ∷ []) ∷ (6, 8 ∷ 1 ∷ []) ∷ []) [] 2 15 35)
+    ∷ []
+
+unfoldable pub WorkedRuns : Type 0
+WorkedRuns = map byRules table ≡ table

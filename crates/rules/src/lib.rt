@@ -1,0 +1,42 @@
+// The types that the rules, the code and the theorems share. The rules themselves are in specs/.
+
+// A call on the queues: one of six kinds, each with its own numbers.
+pub enum Call {
+    Insert { heap: u32, item: u32, key: u32 },
+    FindMin { heap: u32 },
+    ExtractMin { heap: u32 },
+    DecreaseKey { item: u32, key: u32 },
+    Delete { item: u32 },
+    Meld { into: u32, from: u32 },
+}
+
+// A line of a sheet yields a call, or none, and is then refused.
+pub enum Line {
+    Yields(Call),
+    NoCall,
+}
+
+// What a line is answered. A refused line has its code and four zeros.
+pub struct Answer {
+    pub code: u32,
+    pub item: u32,
+    pub key: u32,
+    pub links: u32,
+    pub cuts: u32,
+}
+
+// The kinds of words in a store: four to a heap, eight to an item.
+pub enum Field {
+    FirstTree,
+    LastTree,
+    Minimum,
+    Count,
+    Key,
+    Parent,
+    FirstChild,
+    LastChild,
+    Next,
+    Prev,
+    Rank,
+    State,
+}
