@@ -1,0 +1,51 @@
+-- The item order: what it says of the keys, and that it is strict and total. Assumes nothing.
+use Prim.Native.Nat.{ℕ, _≤_, _<_}
+use mathlib.Core.Path.{_≡_, refl, sym, ap}
+use mathlib.Core.Logic.{_≢_}
+use mathlib.Core.List.{List}
+use mathlib.Core.Bool.{Bool, true, false, _&&_, _||_, true≢false, false≢true}
+use native.Mathlib.Omega.{arith}
+use lib.ListN.{getD, set}
+use lib.Seq.{getD-set-other}
+use lib.Dec.{eqb, ltb}
+use borrow.Author.Tests.{eqb-true, eqb-false, ltb-true, ltb-false}
+use Rattle.rules.specs.Order.{precedes}
+
+module _ (key : List ℕ) (a b : ℕ) where
+  -- the two keys
+  abbrev A : ℕ
+  A = getD key a 0
+
+  abbrev B : ℕ
+  B = getD key b 0
+
+  byTests : (P : Bool → Type 0) → (A < B → P true) → (A ≡ B → a < b → P true) → (A ≡ B → b ≤ a → P false) → (B < A → P false) → P (precedes key a b)
+  unfolding precedes
+  byTests P f g h k = go (ltb A B) (eqb A B) (ltb a b) refl refl refl
+    where
+      go : (u v w : Bool) → ltb A B ≡ u → eqb A B ≡ v → ltb a b ≡ w → P (u || (v && w))
+      go true v w p q r = f (ltb-true A B p)
+      go false true true p q r = g (eqb-true A B q) (ltb-true a b r)
+      go false true false p q r = h (eqb-true A B q) (ltb-false a b r)
+      go false false w p q r = let n : A ≢ B = eqb-false A B q in k (omega (arith, ltb-false A B p))
+
+  pub is-precedes : precedes key a b ≡ true → (A ≤ B) × (A ≡ B → a < b)
+  is-precedes = byTests (λ t. t ≡ true → (A ≤ B) × (A ≡ B → a < b)) (λ l _. (omega arith, λ z. absurd (omega arith))) (λ q l _. (omega arith, λ _. l)) (λ _ _ e. absurd (false≢true e)) (λ _ e. absurd (false≢true e))
+
+  pub precedes-is : A ≤ B → (A ≡ B → a < b) → precedes key a b ≡ true
+  precedes-is l k = byTests (λ t. t ≡ true) (λ _. refl) (λ _ _. refl) (λ q m. absurd (omega (arith, k q))) (λ m. absurd (omega arith))
+
+  pub not-precedes : precedes key a b ≡ false → (B ≤ A) × (A ≡ B → b ≤ a)
+  not-precedes = byTests (λ t. t ≡ false → (B ≤ A) × (A ≡ B → b ≤ a)) (λ _ e. absurd (true≢false e)) (λ _ _ e. absurd (true≢false e)) (λ q l _. (omega arith, λ _. l)) (λ l _. (omega arith, λ z. absurd (omega arith)))
+
+-- of two items, one comes before the other; none comes before itself
+pub precedes-total : (key : List ℕ) (a b : ℕ) → a ≢ b → precedes key a b ≡ false → precedes key b a ≡ true
+precedes-total key a b n e = let f = not-precedes key a b e in precedes-is key b a (f .0) (λ q. let g = f .1 (sym q) in omega arith)
+
+pub precedes-irrefl : (key : List ℕ) (a b : ℕ) → precedes key a b ≡ true → a ≢ b
+precedes-irrefl key a b e q = let f = is-precedes key a b e in omega (arith, f .1 (ap (λ c. getD key c 0) q))
+
+-- the order looks at two keys alone
+pub precedes-other : (key : List ℕ) (x v a b : ℕ) → a ≢ x → b ≢ x → precedes (set key x v) a b ≡ precedes key a b
+unfolding precedes
+precedes-other key x v a b m n = rw (getD-set-other key x a v 0 m, getD-set-other key x b v 0 n)
