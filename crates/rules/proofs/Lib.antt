@@ -6,3 +6,10 @@ pub mod Order
 pub mod SetAll
 pub mod Members
 pub mod Excused
+pub mod Fibonacci
+pub mod Linking
+pub mod Potential
+pub mod RankBound
+pub mod CutKeeps
+pub mod CascadeKeeps
+pub mod RemoveRootKeeps

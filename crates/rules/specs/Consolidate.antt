@@ -30,24 +30,30 @@ pub record Linking : Type 0 where
 unfoldable pub isFree : List ℕ → ℕ → Bool
 isFree places r = eqb (getD places r none) none
 
--- The tree x of rank r comes to place r, which is free or not: it rests there, or it is linked with the holder, the
--- root that comes second becoming the other's child, and the winner climbs one rank.
--- The first argument bounds the climb; `ClimbBound` says that it changes nothing.
+-- The holder of place r and the tree x, each a root: the one that comes first, and the other.
+abbrev pub winner : ℕ → ℕ → Linking → ℕ
+winner r x w = cond (precedes (w .forests .key) (getD (w .places) r none) x) (getD (w .places) r none) x
+
+abbrev pub loser : ℕ → ℕ → Linking → ℕ
+loser r x w = cond (precedes (w .forests .key) (getD (w .places) r none) x) x (getD (w .places) r none)
+
+-- one link: the holder leaves place r, and the loser becomes the winner's child
+abbrev pub linkAt : ℕ → ℕ → Linking → Linking
+linkAt r x w =
+    record {
+      places = set (w .places) r none;
+      links = suc (w .links);
+      forests = link (winner r x w) (loser r x w) (w .forests);
+    }
+
+-- The tree x of rank r comes to place r, which is free or not: it rests there, or it is linked with the holder and the
+-- winner climbs one rank. The first argument bounds the climb; `ClimbBound` says that it changes nothing.
 unfoldable pub climb : ℕ → Bool → ℕ → ℕ → Linking → Linking
 climb zero free r x w = w
 climb (suc d) true r x w = record { places = set (w .places) r x; links = w .links; forests = w .forests }
 climb (suc d) false r x w =
-    let y = getD (w .places) r none in
-    let yFirst = precedes (w .forests .key) y x in
-    let winner = cond yFirst y x in
-    let loser = cond yFirst x y in
-    let v : Linking =
-    record {
-      places = set (w .places) r none;
-      links = suc (w .links);
-      forests = link winner loser (w .forests);
-    } in
-    climb d (isFree (v .places) (suc r)) (suc r) winner v
+    let v = linkAt r x w in
+    climb d (isFree (v .places) (suc r)) (suc r) (winner r x w) v
 
 -- one step for each tree, left to right
 unfoldable pub linkTrees : ℕ → List ℕ → Linking → Linking

@@ -1,0 +1,157 @@
+-- The cuts that follow a cut leave the forests sound. Assumes nothing.
+use Prim.Native.Nat.{ℕ, zero, suc, _+_, _≤_, _<_}
+use mathlib.Core.Path.{_≡_, refl, sym, ap, _∙_}
+use mathlib.Core.Logic.{_≢_}
+use mathlib.Core.List.{List, [], _∷_}
+use mathlib.Core.Bool.{Bool, true, false, cond}
+use native.Mathlib.Nat.{le-refl}
+use native.Mathlib.Omega.{arith}
+use lib.ListN.{length, getD, set, length-set}
+use lib.Seq.{getD-set-same, getD-set-other}
+use lib.Dec.{eqb}
+use borrow.Author.Tests.{eqb-true, ne-eqb}
+use Rattle.rules.specs.Cut.{Standing, cascadingCut, cut, cutOut, cutWithin, marked, root, standing, unmarked}
+use Rattle.rules.specs.Forests.{Forests, childrenOf, heapOf, markOf, marks, none, parentOf, setMark}
+use Rattle.rules.specs.Lists.{delta, occurs, sumBy}
+use Rattle.rules.specs.WellFormed.{Disjoint}
+use Rattle.rules.proofs.CutKeeps.{cut-disjoint, cut-ordered, cut-ranked}
+use Rattle.rules.proofs.Excused.{Formed, FormedBut, OrderedBut, RankedBut, exact, ranks-mono}
+use Rattle.rules.proofs.Members.{heap-in, not-none}
+use Rattle.rules.proofs.Occurs.{and-false, byItem, delta-other, delta-self}
+use Rattle.rules.proofs.Potential.{cut-marks, marked-standing}
+use Rattle.rules.proofs.SetAll.{keep}
+
+standing-root : (s : Forests) (p : ℕ) → standing s p ≡ root → parentOf s p ≡ none
+unfolding standing
+standing-root s p e = go (eqb (parentOf s p) none) (eqb (markOf s p) 0) refl e
+  where
+    go : (a b : Bool) → eqb (parentOf s p) none ≡ a → cond a root (cond b unmarked marked) ≡ root → parentOf s p ≡ none
+    go true b q e = eqb-true (parentOf s p) none q
+    go false true q e = let z : _≡_ {A = ℕ} 0 1 = cc in absurd (omega arith)
+    go false false q e = let z : _≡_ {A = ℕ} 0 1 = cc in absurd (omega arith)
+
+standing-child : (s : Forests) (p : ℕ) (f : Standing) → f ≢ root → standing s p ≡ f → parentOf s p ≢ none
+unfolding standing
+standing-child s p f n e q = n (sym e ∙ rw (q))
+
+standing-unmarked : (s : Forests) (p : ℕ) → standing s p ≡ unmarked → markOf s p ≡ 0
+unfolding standing
+standing-unmarked s p e = go (eqb (parentOf s p) none) (eqb (markOf s p) 0) refl e
+  where
+    go : (a b : Bool) → eqb (markOf s p) 0 ≡ b → cond a root (cond b unmarked marked) ≡ unmarked → markOf s p ≡ 0
+    go a true q e = eqb-true (markOf s p) 0 q
+    go true false q e = let z : _≡_ {A = ℕ} 0 1 = cc in absurd (omega arith)
+    go false false q e = let z : _≡_ {A = ℕ} 0 1 = cc in absurd (omega arith)
+
+unmarked-child : unmarked ≢ root
+unmarked-child e = let z : _≡_ {A = ℕ} 0 1 = cc in absurd (omega arith)
+
+marked-child : marked ≢ root
+marked-child e = let z : _≡_ {A = ℕ} 0 1 = cc in absurd (omega arith)
+
+-- a root is nobody's child, so what it lacks of rank is nothing to anybody
+root-ranked : (s : Forests) (p : ℕ) → Disjoint s → parentOf s p ≡ none → RankedBut (delta p) s → RankedBut exact s
+unfolding RankedBut
+root-ranked s p S r K = λ q k. ranks-mono (delta p) exact (s .children) (s .children) (s .mark) (s .mark) 0 (childrenOf s q)
+    (λ c i. omega (arith, delta-other p c (λ e. omega (arith, absent q k, ap (λ z. occurs z (childrenOf s q)) e)))) (K q k)
+  where
+    absent : (q : ℕ) → q < length (s .heap) → occurs p (childrenOf s q) ≡ 0
+    absent q k = S .inChildren q p k ∙ rw (r, ne-eqb none q (not-none s S q k), and-false)
+
+-- a child without a mark gets one
+module _ (s : Forests) (p h : ℕ) (S : Disjoint s) (hp : heapOf s p ≡ suc h) (c : parentOf s p ≢ none) (m : markOf s p ≡ 0) where
+  live : heapOf s p ≢ 0
+  live e = omega (arith, hp)
+
+  mark-p : getD (set (s .mark) p 1) p 0 ≡ 1
+  mark-p = getD-set-same (s .mark) p 1 0 (omega (arith, S .markN, heap-in s p live))
+
+  mark-disjoint : Disjoint (setMark p 1 s)
+  mark-disjoint = record {
+    rows8 = S .rows8;
+    childrenN = S .childrenN;
+    parentN = S .parentN;
+    keyN = S .keyN;
+    markN = simp length-set (S .markN);
+    small = S .small;
+    heaps = S .heaps;
+    inRow = S .inRow;
+    inChildren = S .inChildren;
+    up = S .up;
+    free = byItem p (λ e. absurd (live e)) (λ y n. rw (getD-set-other (s .mark) p y) (S .free y));
+    bit = byItem p (rw mark-p (le-refl 1)) (λ y n. rw (getD-set-other (s .mark) p y) (S .bit y));
+    bare = byItem p (λ e. absurd (c e)) (λ y n. rw (getD-set-other (s .mark) p y) (S .bare y));
+  }
+
+  mark-ranked : RankedBut (delta p) s → RankedBut exact (setMark p 1 s)
+  unfolding RankedBut
+  mark-ranked K = λ q k. ranks-mono (delta p) exact (s .children) (s .children) (s .mark) (set (s .mark) p 1) 0 (childrenOf s q)
+      (λ c _. byItem {P = λ c. length (childrenOf s c) + markOf s c + delta p c ≤ length (childrenOf s c) + getD (set (s .mark) p 1) c 0 + 0} p
+      (rw mark-p (omega (arith, delta-self p, m))) (λ y n. rw (getD-set-other (s .mark) p y) (omega (arith, delta-other p y n))) c) (K q k)
+
+-- where all children are in order, all but one are
+pub ordered-but : (s : Forests) (x : ℕ) → Disjoint s → OrderedBut none s → OrderedBut x s
+unfolding OrderedBut
+ordered-but s x S O = λ y n l m. O y (λ e. not-none s S y (heap-in s y l) (sym e)) l m
+
+pub ranked-but : (s : Forests) (x : ℕ) → RankedBut exact s → RankedBut (delta x) s
+unfolding RankedBut
+ranked-but s x K = λ q k. ranks-mono exact (delta x) (s .children) (s .children) (s .mark) (s .mark) 0 (childrenOf s q) (λ c _. omega arith) (K q k)
+
+pub cascade-formed : (d : ℕ) (f : Standing) (h p : ℕ) (s : Forests) → standing s p ≡ f → FormedBut none (delta p) s → heapOf s p ≡ suc h → marks s < d
+    → Formed ((cascadingCut d f h p s) .forests)
+unfolding cascadingCut OrderedBut cut
+cascade-formed zero f h p s e S hp k = absurd (omega arith)
+cascade-formed (suc d) root h p s e S hp k = record { disjoint = S .disjoint; ordered = S .ordered; ranked = root-ranked s p (S .disjoint) (standing-root s p e) (S .ranked) }
+cascade-formed (suc d) unmarked h p s e S hp k =
+    let n = standing-child s p unmarked unmarked-child e in
+    let m = standing-unmarked s p e in
+    record { disjoint = mark-disjoint s p h (S .disjoint) hp n m; ordered = S .ordered; ranked = mark-ranked s p h (S .disjoint) hp n m (S .ranked) }
+cascade-formed (suc d) marked h p s e S hp k =
+    let n = standing-child s p marked marked-child e in
+    let t : Forests = cut h p s in
+    cascade-formed d (standing t (parentOf s p)) h (parentOf s p) t refl
+    (record { disjoint = cut-disjoint s (S .disjoint) h p hp n; ordered = cut-ordered s (S .disjoint) h p hp n (ordered-but s p (S .disjoint) (S .ordered)); ranked = cut-ranked s (S .disjoint) h p hp n (S .ranked) })
+    (S .disjoint .up p (λ z. omega (arith, hp)) n .1 ∙ hp) (omega (arith, cut-marks h p s, marked-standing s p e))
+
+sum-bits : (l : List ℕ) → ((i : ℕ) → getD l i 0 ≤ 1) → sumBy (λ m. m) l ≤ length l
+unfolding sumBy
+sum-bits [] h = le-refl 0
+sum-bits (x ∷ xs) h = omega (arith, h 0, sum-bits xs (λ i. h (suc i)))
+
+pub marks-le : (s : Forests) → Disjoint s → marks s ≤ length (s .heap)
+unfolding marks
+marks-le s S = omega (arith, sum-bits (s .mark) (S .bit), S .markN)
+
+pub cutOut-formed : (h x : ℕ) (s : Forests) → FormedBut x exact s → heapOf s x ≡ suc h → parentOf s x ≢ none → Formed ((cutOut h x s) .forests)
+unfolding cutOut cutWithin cut
+cutOut-formed h x s S hx px =
+    let t : Forests = cut h x s in
+    cascade-formed (suc (length (s .heap))) (standing t (parentOf s x)) h (parentOf s x) t refl
+    (record { disjoint = cut-disjoint s (S .disjoint) h x hx px; ordered = cut-ordered s (S .disjoint) h x hx px (S .ordered); ranked = cut-ranked s (S .disjoint) h x hx px (ranked-but s x (S .ranked)) })
+    (S .disjoint .up x (λ z. omega (arith, hx)) px .1 ∙ hx) (omega (arith, cut-marks h x s, marks-le s (S .disjoint)))
+
+-- cuts change no home, and a root stays a root
+pub cascade-heap : (d : ℕ) (f : Standing) (h p : ℕ) (s : Forests) → (cascadingCut d f h p s) .forests .heap ≡ s .heap
+unfolding cascadingCut cut
+cascade-heap zero f h p s = refl
+cascade-heap (suc d) root h p s = refl
+cascade-heap (suc d) unmarked h p s = refl
+cascade-heap (suc d) marked h p s = cascade-heap d (standing (cut h p s) (parentOf s p)) h (parentOf s p) (cut h p s)
+
+pub cutOut-heap : (h x : ℕ) (s : Forests) → (cutOut h x s) .forests .heap ≡ s .heap
+unfolding cutOut cutWithin cut
+cutOut-heap h x s = cascade-heap (suc (length (s .heap))) (standing (cut h x s) (parentOf s x)) h (parentOf s x) (cut h x s)
+
+pub cascade-root : (d : ℕ) (f : Standing) (h p : ℕ) (s : Forests) (y : ℕ) → parentOf s y ≡ none → parentOf ((cascadingCut d f h p s) .forests) y ≡ none
+unfolding cascadingCut cut
+cascade-root zero f h p s y e = e
+cascade-root (suc d) root h p s y e = e
+cascade-root (suc d) unmarked h p s y e = e
+cascade-root (suc d) marked h p s y e = cascade-root d (standing (cut h p s) (parentOf s p)) h (parentOf s p) (cut h p s) y (keep (s .parent) p y none 0 e)
+
+pub cutOut-root : (h x : ℕ) (s : Forests) → Disjoint s → heapOf s x ≡ suc h → parentOf ((cutOut h x s) .forests) x ≡ none
+unfolding cutOut cutWithin cut
+cutOut-root h x s S hx =
+    cascade-root (suc (length (s .heap))) (standing (cut h x s) (parentOf s x)) h (parentOf s x) (cut h x s) x
+    (getD-set-same (s .parent) x none 0 (omega (arith, S .parentN, heap-in s x (λ z. omega (arith, hx)))))
