@@ -13,3 +13,8 @@ pub mod RankBound
 pub mod CutKeeps
 pub mod CascadeKeeps
 pub mod RemoveRootKeeps
+pub mod LinkKeeps
+pub mod ConsolidateKeeps
+pub mod InsertKeeps
+pub mod KeyKeeps
+pub mod MeldKeeps

@@ -1,0 +1,262 @@
+-- Linking a whole row leaves the forests sound, and no tree is lost at the seventeen places. Assumes nothing.
+use Prim.Native.Nat.{ℕ, zero, suc, _+_, _≤_, _<_}
+use mathlib.Core.Path.{_≡_, refl, sym, ap, _∙_}
+use mathlib.Core.Logic.{_≢_}
+use mathlib.Core.List.{List, [], _∷_, _++_, map}
+use mathlib.Core.Bool.{Bool, true, false, cond}
+use native.Mathlib.Nat.{le-refl, le-trans}
+use native.Mathlib.Omega.{arith}
+use lib.ListN.{length, getD, set, replicate, length-set, length-append}
+use lib.Seq.{getD-set-same, getD-set-other}
+use lib.Dec.{eqb}
+use borrow.Author.Tests.{eqb-true, eqb-false, ne-eqb}
+use Rattle.rules.specs.Consolidate.{
+  Linking,
+  climb,
+  consolidate,
+  consolidateWithin,
+  isFree,
+  link,
+  linkAt,
+  linkTrees,
+  occupied,
+  winner,
+}
+use Rattle.rules.specs.Fibonacci.{R, lastFrom}
+use Rattle.rules.specs.Forests.{Forests, childrenOf, count, none, rankOf, rowOf, setRow}
+use Rattle.rules.specs.Lists.{delta, occurs, sumBy}
+use Rattle.rules.specs.Order.{precedes}
+use Rattle.rules.specs.Theorems.{Rising}
+use Rattle.rules.proofs.Excused.{Formed}
+use Rattle.rules.proofs.Fibonacci.{R-mono}
+use Rattle.rules.proofs.LinkKeeps.{anew, in-row, link-formed, once, re-row, row-h}
+use Rattle.rules.proofs.Members.{heap-in, not-none}
+use Rattle.rules.proofs.Occurs.{byItem, delta-self, occurs-append}
+use Rattle.rules.proofs.Order.{precedes-total}
+use Rattle.rules.proofs.RankBound.{rank-le}
+use Rattle.rules.proofs.Sums.{sumBy-set}
+
+-- ---- no rank is above 16
+
+count-le : (l : List ℕ) (h : ℕ) → sumBy (λ x. cond (eqb x (suc h)) 1 0) l ≤ length l
+unfolding sumBy
+count-le [] h = le-refl 0
+count-le (x ∷ xs) h = go (eqb x (suc h)) (count-le xs h)
+  where
+    go : (t : Bool) → sumBy (λ x. cond (eqb x (suc h)) 1 0) xs ≤ length xs → cond t 1 0 + sumBy (λ x. cond (eqb x (suc h)) 1 0) xs ≤ suc (length xs)
+    go true k = omega arith
+    go false k = omega arith
+
+R-top : R 4096 ≡ 16
+unfolding R lastFrom
+R-top = refl
+
+pub rank-16 : (s : Forests) → Formed s → (h x : ℕ) → 1 ≤ occurs x (rowOf s h) → rankOf s x ≤ 16
+unfolding count
+rank-16 s S h x k =
+    omega (arith, rank-le s (S .disjoint) (S .ranked) h x k, R-mono (count s h) 4096 (le-trans (count-le (s .heap) h) (S .disjoint .small)), R-top)
+
+-- ---- the places
+
+-- how often z stands at a place
+stand : ℕ → ℕ → ℕ
+stand z p = cond (eqb p none) 0 (delta z p)
+
+occurs-occupied : (z : ℕ) (ps : List ℕ) → occurs z (occupied ps) ≡ sumBy (stand z) ps
+unfolding occurs occupied sumBy stand
+occurs-occupied z [] = refl
+occurs-occupied z (p ∷ ps) = go (eqb p none) (occurs-occupied z ps)
+  where
+    go : (t : Bool) → occurs z (occupied ps) ≡ sumBy (stand z) ps → occurs z (cond t (occupied ps) (p ∷ occupied ps)) ≡ cond t 0 (delta z p) + sumBy (stand z) ps
+    go true e = omega arith
+    go false e = omega arith
+
+-- a tree put at a free place, and one taken from its place
+occupied-put : (ps : List ℕ) (r x z : ℕ) → r < length ps → getD ps r none ≡ none → x ≢ none → occurs z (occupied (set ps r x)) ≡ occurs z (occupied ps) + delta z x
+unfolding stand
+occupied-put ps r x z k e n =
+    let a : stand z (getD ps r none) ≡ 0 = rw e in
+    let b : stand z x ≡ delta z x = rw (ne-eqb x none n) in
+    omega (arith, occurs-occupied z (set ps r x), occurs-occupied z ps, sumBy-set (stand z) ps r x none k)
+
+occupied-extract : (ps : List ℕ) (r z : ℕ) → r < length ps → getD ps r none ≢ none → occurs z (occupied (set ps r none)) + delta z (getD ps r none) ≡ occurs z (occupied ps)
+unfolding stand
+occupied-extract ps r z k n =
+    let b : stand z (getD ps r none) ≡ delta z (getD ps r none) = rw (ne-eqb (getD ps r none) none n) in
+    omega (arith, occurs-occupied z (set ps r none), occurs-occupied z ps, sumBy-set (stand z) ps r none none k)
+
+-- Between two steps: the row of h is what stands at the places and what is still to come, and a tree at place r has rank r.
+record Held (h : ℕ) (ps rest : List ℕ) (s : Forests) : Type 0 where
+  formed : Formed (setRow h (occupied ps ++ rest) s)
+  long : length ps ≡ 17
+  rank : (r : ℕ) → getD ps r none ≢ none → rankOf s (getD ps r none) ≡ r
+
+module _ (h : ℕ) (hh : h < 8) (ps rest : List ℕ) (x : ℕ) (s : Forests) (H : Held h ps (x ∷ rest) s) where
+  abbrev ρ : List ℕ
+  ρ = occupied ps ++ (x ∷ rest)
+
+  occurs-ρ : (z : ℕ) → occurs z ρ ≡ occurs z (occupied ps) + delta z x + occurs z rest
+  unfolding occurs sumBy
+  occurs-ρ z = omega (arith, occurs-append z (occupied ps) (x ∷ rest))
+
+  x-in : 1 ≤ occurs x ρ
+  x-in = omega (arith, occurs-ρ x, delta-self x)
+
+  x-heap : x < length (s .heap)
+  x-heap = heap-in s x (λ e. omega (arith, in-row s h ρ (H .formed) hh x x-in .0))
+
+  x-some : x ≢ none
+  x-some e = not-none (setRow h ρ s) (H .formed .disjoint) x x-heap (sym e)
+
+  x-apart : occurs x (occupied ps) ≡ 0
+  x-apart = omega (arith, occurs-ρ x, delta-self x, once s h ρ (H .formed) hh x x-in)
+
+  low : rankOf s x ≤ 16
+  low = rank-16 (setRow h ρ s) (H .formed) h x (rw (row-h s h ρ (H .formed) hh ρ) x-in)
+
+  -- the tree comes to rest
+  put : (r : ℕ) → rankOf s x ≡ r → getD ps r none ≡ none → Held h (set ps r x) rest s
+  put r q e = record {
+    formed = anew s h ρ (H .formed) hh (occupied (set ps r x) ++ rest) (λ z. omega (arith, occurs-append z (occupied (set ps r x)) rest, occupied-put ps r x z r-in e x-some, occurs-ρ z));
+    long = length-set ps r x ∙ H .long;
+    rank = byItem r (λ _. rw (getD-set-same ps r x none r-in) q) (λ t n. rw (getD-set-other ps r t x none n) (H .rank t));
+  }
+    where
+      r-in : r < length ps
+      r-in = omega (arith, H .long, low, q)
+
+  -- the place is taken by a tree of the same rank, and one of the two becomes the other's child
+  module _ (r : ℕ) (q : rankOf s x ≡ r) (n : getD ps r none ≢ none) where
+    abbrev y : ℕ
+    y = getD ps r none
+
+    r-in : r < length ps
+    r-in = omega (arith, H .long, low, q)
+
+    y-in : 1 ≤ occurs y ρ
+    y-in = omega (arith, occurs-ρ y, occupied-extract ps r y r-in n, delta-self y)
+
+    y-apart : y ≢ x
+    y-apart e = omega (arith, x-apart, occupied-extract ps r x r-in n, delta-self x, ap (delta x) e)
+
+    linked : (a l : ℕ) → 1 ≤ occurs a ρ → 1 ≤ occurs l ρ → a ≢ l → rankOf s a ≡ r → rankOf s l ≡ r → precedes (s .key) a l ≡ true
+        → ((z : ℕ) → delta z a + delta z l ≡ delta z x + delta z y) → Held h (set ps r none) (a ∷ rest) (link a l s) × (rankOf (link a l s) a ≡ suc r)
+    unfolding link occurs sumBy
+    linked a l ia il al ra rl o e = (
+      record {
+        formed = link-formed s h ρ (H .formed) hh a l ia il al (ra ∙ sym rl) o (occupied (set ps r none) ++ (a ∷ rest))
+            (λ z. omega (arith, occurs-append z (occupied (set ps r none)) (a ∷ rest), occupied-extract ps r z r-in n, occurs-ρ z, e z));
+        long = length-set ps r none ∙ H .long;
+        rank = byItem r (λ m. absurd (m (getD-set-same ps r none none r-in)))
+            (λ t m. rw (getD-set-other ps r t none none m) (λ u. rw (getD-set-other (s .children) a (getD ps t none) (childrenOf s a ++ (l ∷ [])) [] (λ z. m (sym (H .rank t u) ∙ rw z ra))) (H .rank t u)));
+      },
+      rw (getD-set-same (s .children) a (childrenOf s a ++ (l ∷ [])) [] (omega (arith, H .formed .disjoint .childrenN, heap-in s a (λ z. omega (arith, in-row s h ρ (H .formed) hh a ia .0))))) (omega (arith, length-append (childrenOf s a) (l ∷ []), ra)),
+    )
+
+    met : (b : Bool) → precedes (s .key) y x ≡ b → Held h (set ps r none) (cond b y x ∷ rest) (link (cond b y x) (cond b x y) s) × (rankOf (link (cond b y x) (cond b x y) s) (cond b y x) ≡ suc r)
+    met true e = linked y x y-in x-in y-apart (H .rank r n) q e (λ z. omega arith)
+    met false e = linked x y x-in y-in (λ z. y-apart (sym z)) q (H .rank r n) (precedes-total (s .key) y x y-apart e) (λ z. refl)
+
+climb-held : (d : ℕ) (f : Bool) (r x h : ℕ) (rest : List ℕ) (w : Linking) → h < 8 → isFree (w .places) r ≡ f
+    → Held h (w .places) (x ∷ rest) (w .forests) → rankOf (w .forests) x ≡ r → 18 ≤ d + r
+    → Held h ((climb d f r x w) .places) rest ((climb d f r x w) .forests)
+unfolding climb isFree
+climb-held zero f r x h rest w hh e H q k = absurd (omega (arith, low h hh (w .places) rest x (w .forests) H))
+climb-held (suc d) true r x h rest w hh e H q k = put h hh (w .places) rest x (w .forests) H r q (eqb-true _ _ e)
+climb-held (suc d) false r x h rest w hh e H q k =
+    let v : Linking = linkAt r x w in
+    let m = met h hh (w .places) rest x (w .forests) H r q (eqb-false _ _ e) _ refl in
+    climb-held d (isFree (v .places) (suc r)) (suc r) (winner r x w) h rest v hh refl (m .0) (m .1) (omega arith)
+
+linkTrees-held : (d : ℕ) (xs : List ℕ) (h : ℕ) (w : Linking) → 18 ≤ d → h < 8 → Held h (w .places) xs (w .forests)
+    → Held h ((linkTrees d xs w) .places) [] ((linkTrees d xs w) .forests)
+unfolding linkTrees
+linkTrees-held d [] h w k hh H = H
+linkTrees-held d (x ∷ xs) h w k hh H =
+    let r : ℕ = rankOf (w .forests) x in
+    let v : Linking = climb d (isFree (w .places) r) r x w in
+    linkTrees-held d xs h v k hh (climb-held d (isFree (w .places) r) r x h xs w hh refl H refl (omega arith))
+
+-- ---- a larger bound on the climb changes nothing
+
+climb-bound : (d d′ : ℕ) (f : Bool) (r x h : ℕ) (rest : List ℕ) (w : Linking) → h < 8 → isFree (w .places) r ≡ f
+    → Held h (w .places) (x ∷ rest) (w .forests) → rankOf (w .forests) x ≡ r → 18 ≤ d + r → 18 ≤ d′ + r
+    → climb d f r x w ≡ climb d′ f r x w
+unfolding climb isFree
+climb-bound zero d′ f r x h rest w hh e H q k k′ =
+    absurd (omega (arith, low h hh (w .places) rest x (w .forests) H))
+climb-bound (suc d) zero f r x h rest w hh e H q k k′ =
+    absurd (omega (arith, low h hh (w .places) rest x (w .forests) H))
+climb-bound (suc d) (suc d′) true r x h rest w hh e H q k k′ = refl
+climb-bound (suc d) (suc d′) false r x h rest w hh e H q k k′ =
+    let v : Linking = linkAt r x w in
+    let m = met h hh (w .places) rest x (w .forests) H r q (eqb-false _ _ e) _ refl in
+    climb-bound d d′ (isFree (v .places) (suc r)) (suc r) (winner r x w) h rest v hh refl (m .0) (m .1)
+    (omega arith) (omega arith)
+
+linkTrees-bound : (d d′ : ℕ) (xs : List ℕ) (h : ℕ) (w : Linking) → 18 ≤ d → 18 ≤ d′ → h < 8
+    → Held h (w .places) xs (w .forests) → linkTrees d xs w ≡ linkTrees d′ xs w
+unfolding linkTrees
+linkTrees-bound d d′ [] h w k k′ hh H = refl
+linkTrees-bound d d′ (x ∷ xs) h w k k′ hh H =
+    let r : ℕ = rankOf (w .forests) x in
+    let f : Bool = isFree (w .places) r in
+    let v : Linking = climb d f r x w in
+    linkTrees-bound d d′ xs h v k k′ hh (climb-held d f r x h xs w hh refl H refl (omega arith))
+    ∙ ap (linkTrees d′ xs) (climb-bound d d′ f r x h xs w hh refl H refl (omega arith) (omega arith))
+
+no-place : (n r : ℕ) → getD (replicate n none) r none ≡ none
+no-place zero r = refl
+no-place (suc n) zero = refl
+no-place (suc n) (suc r) = no-place n r
+
+start : (h : ℕ) (s : Forests) → h < 8 → Formed s → Held h (replicate 17 none) (rowOf s h) s
+unfolding occupied
+start h s hh S = record { formed = re-row s h (rowOf s h) S hh (λ z. refl); long = refl; rank = λ r n. absurd (n (no-place 17 r)) }
+
+linked-row : (d h : ℕ) (s : Forests) → Linking
+linked-row d h s = linkTrees d (rowOf s h) (record { places = replicate 17 none; links = 0; forests = s })
+
+linked-held : (h : ℕ) (s : Forests) → h < 8 → Formed s
+    → Held h ((linked-row 18 h s) .places) [] ((linked-row 18 h s) .forests)
+unfolding linked-row
+linked-held h s hh S = linkTrees-held 18 (rowOf s h) h _ (le-refl 18) hh (start h s hh S)
+
+pub consolidate-formed : (h : ℕ) (s : Forests) → h < 8 → Formed s → Formed ((consolidate h s) .forests)
+unfolding consolidate consolidateWithin linked-row occurs sumBy
+consolidate-formed h s hh S =
+    let w : Linking = linked-row 18 h s in
+    anew (w .forests) h (occupied (w .places) ++ []) (linked-held h s hh S .formed) hh (occupied (w .places))
+    (λ y. omega (arith, occurs-append y (occupied (w .places)) []))
+
+pub consolidate-bound : (h : ℕ) (s : Forests) → h < 8 → Formed s → (d : ℕ) → 18 ≤ d → consolidateWithin d h s ≡ consolidate h s
+unfolding consolidate consolidateWithin
+consolidate-bound h s hh S d k =
+    ap (λ (w : Linking). record { places = w .places; links = w .links; forests = setRow h (occupied (w .places)) (w .forests) })
+    (linkTrees-bound d 18 (rowOf s h) h _ k (le-refl 18) hh (start h s hh S))
+
+-- ---- after linking the ranks rise strictly along the row
+
+rising-down : (j : ℕ) (l : List ℕ) → Rising (suc j) l → Rising j l
+rising-down j [] t = tt
+rising-down j (r ∷ rs) t = (omega (arith, t .0), t .1)
+
+occupied-rising : (rank : ℕ → ℕ) (j : ℕ) (ps : List ℕ) → ((r : ℕ) → getD ps r none ≢ none → rank (getD ps r none) ≡ j + r)
+    → Rising j (map rank (occupied ps))
+unfolding occupied
+occupied-rising rank j [] f = tt
+occupied-rising rank j (p ∷ ps) f = go (eqb p none) refl (occupied-rising rank (suc j) ps (λ r n. f (suc r) n ∙ omega arith))
+  where
+    go : (t : Bool) → eqb p none ≡ t → Rising (suc j) (map rank (occupied ps))
+        → Rising j (map rank (cond t (occupied ps) (p ∷ occupied ps)))
+    go true e u = rising-down j (map rank (occupied ps)) u
+    go false e u = let q : rank p ≡ j = f 0 (eqb-false p none e) ∙ omega arith in (omega arith, rw q u)
+
+pub consolidate-rising : (h : ℕ) (s : Forests) → h < 8 → Formed s
+    → Rising 0 (map (rankOf ((consolidate h s) .forests)) (rowOf ((consolidate h s) .forests) h))
+unfolding consolidate consolidateWithin linked-row
+consolidate-rising h s hh S =
+    let w : Linking = linked-row 18 h s in
+    let H = linked-held h s hh S in
+    rw (row-h (w .forests) h (occupied (w .places) ++ []) (H .formed) hh (occupied (w .places)))
+    (occupied-rising (rankOf (w .forests)) 0 (w .places) (λ r n. H .rank r n ∙ omega arith))
