@@ -19,7 +19,6 @@ use Rattle.rules.proofs.Excused.{Formed, FormedBut, OrderedBut, RankedB
 use Rattle.rules.proofs.Members.{heap-in, not-none}
 use Rattle.rules.proofs.Occurs.{and-false, byItem, delta-other, delta-self}
 use Rattle.rules.proofs.Potential.{cut-marks, marked-standing}
-use Rattle.rules.proofs.SetAll.{keep}
 
 standing-root : (s : Forests) (p : ℕ) → standing s p ≡ root → parentOf s p ≡ none
 unfolding standing
@@ -130,28 +129,3 @@ cutOut-formed h x s S hx px =
     cascade-formed (suc (length (s .heap))) (standing t (parentOf s x)) h (parentOf s x) t refl
     (record { disjoint = cut-disjoint s (S .disjoint) h x hx px; ordered = cut-ordered s (S .disjoint) h x hx px (S .ordered); ranked = cut-ranked s (S .disjoint) h x hx px (ranked-but s x (S .ranked)) })
     (S .disjoint .up x (λ z. omega (arith, hx)) px .1 ∙ hx) (omega (arith, cut-marks h x s, marks-le s (S .disjoint)))
-
--- cuts change no home, and a root stays a root
-pub cascade-heap : (d : ℕ) (f : Standing) (h p : ℕ) (s : Forests) → (cascadingCut d f h p s) .forests .heap ≡ s .heap
-unfolding cascadingCut cut
-cascade-heap zero f h p s = refl
-cascade-heap (suc d) root h p s = refl
-cascade-heap (suc d) unmarked h p s = refl
-cascade-heap (suc d) marked h p s = cascade-heap d (standing (cut h p s) (parentOf s p)) h (parentOf s p) (cut h p s)
-
-pub cutOut-heap : (h x : ℕ) (s : Forests) → (cutOut h x s) .forests .heap ≡ s .heap
-unfolding cutOut cutWithin cut
-cutOut-heap h x s = cascade-heap (suc (length (s .heap))) (standing (cut h x s) (parentOf s x)) h (parentOf s x) (cut h x s)
-
-pub cascade-root : (d : ℕ) (f : Standing) (h p : ℕ) (s : Forests) (y : ℕ) → parentOf s y ≡ none → parentOf ((cascadingCut d f h p s) .forests) y ≡ none
-unfolding cascadingCut cut
-cascade-root zero f h p s y e = e
-cascade-root (suc d) root h p s y e = e
-cascade-root (suc d) unmarked h p s y e = e
-cascade-root (suc d) marked h p s y e = cascade-root d (standing (cut h p s) (parentOf s p)) h (parentOf s p) (cut h p s) y (keep (s .parent) p y none 0 e)
-
-pub cutOut-root : (h x : ℕ) (s : Forests) → Disjoint s → heapOf s x ≡ suc h → parentOf ((cutOut h x s) .forests) x ≡ none
-unfolding cutOut cutWithin cut
-cutOut-root h x s S hx =
-    cascade-root (suc (length (s .heap))) (standing (cut h x s) (parentOf s x)) h (parentOf s x) (cut h x s) x
-    (getD-set-same (s .parent) x none 0 (omega (arith, S .parentN, heap-in s x (λ z. omega (arith, hx)))))

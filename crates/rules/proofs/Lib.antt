@@ -18,3 +18,8 @@ pub mod ConsolidateKeeps
 pub mod InsertKeeps
 pub mod KeyKeeps
 pub mod MeldKeeps
+pub mod Cutting
+pub mod Minimum
+pub mod Refusals
+pub mod EmptyForests
+pub mod CascadeBound

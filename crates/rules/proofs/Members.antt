@@ -1,18 +1,19 @@
 -- Who stands in a row or among children, in disjoint forests.
 -- an item outside the table has no home
 use Prim.Native.Nat.{ℕ, suc, _≤_, _<_}
-use mathlib.Core.Path.{_≡_, refl, sym, _∙_}
+use mathlib.Core.Path.{_≡_, refl, sym, ap, _∙_}
 use mathlib.Core.Logic.{_≢_}
+use mathlib.Core.List.{List, [], _∷_}
 use mathlib.Core.Bool.{Bool, true, false, not, _&&_}
 use native.Mathlib.Omega.{arith}
 use lib.ListN.{length, List·getD-eq-default}
 use lib.Dec.{eqb, ltb}
 use borrow.Author.Tests.{eqb-true, eqb-false, ne-eqb, ltb-true, ltb-false}
 use Rattle.rules.specs.Forests.{Forests, childrenOf, heapOf, none, parentOf, rowOf}
-use Rattle.rules.specs.Lists.{indicator, occurs}
+use Rattle.rules.specs.Lists.{indicator, occurs, sumBy}
 use Rattle.rules.specs.WellFormed.{Disjoint}
 use Rattle.rules.specs.Words.{at}
-use Rattle.rules.proofs.Occurs.{and-false, eqb-self}
+use Rattle.rules.proofs.Occurs.{and-false, delta-self, eqb-self}
 
 pub out-heap : (s : Forests) (x : ℕ) → length (s .heap) ≤ x → heapOf s x ≡ 0
 out-heap s x k = List·getD-eq-default (s .heap) 0 k
@@ -56,3 +57,20 @@ parent-child s S q c j a b = S .inChildren q c j ∙ rw (b, ne-eqb (heapOf s c) 
 -- a root is nobody's child
 pub root-child : (s : Forests) → Disjoint s → (q x : ℕ) → q < length (s .heap) → parentOf s x ≡ none → occurs x (childrenOf s q) ≡ 0
 root-child s S q x j e = S .inChildren q x j ∙ rw (e, ne-eqb none q (not-none s S q j), and-false)
+
+-- a free item has no children: it need not be said
+pub free-children : (s : Forests) → Disjoint s → (x : ℕ) → x < length (s .heap) → heapOf s x ≡ 0 → childrenOf s x ≡ []
+unfolding occurs sumBy
+free-children s S x j e = go (childrenOf s x) (λ z. out z (eqb (occurs z (childrenOf s x)) 0) refl)
+  where
+    out : (z : ℕ) (t : Bool) → eqb (occurs z (childrenOf s x)) 0 ≡ t → occurs z (childrenOf s x) ≡ 0
+    out z true q = eqb-true (occurs z (childrenOf s x)) 0 q
+    out z false q =
+        let m : occurs z (childrenOf s x) ≢ 0 = eqb-false (occurs z (childrenOf s x)) 0 q in
+        let k = child-parent s S x z j (omega arith) in
+        let u = S .up z (k .0) (λ n. not-none s S x j (sym n ∙ k .1)) in
+        absurd (k .0 (sym (u .1) ∙ ap (heapOf s) (k .1) ∙ e))
+
+    go : (l : List ℕ) → ((z : ℕ) → occurs z l ≡ 0) → l ≡ []
+    go [] f = refl
+    go (y ∷ ys) f = absurd (omega (arith, f y, delta-self y))

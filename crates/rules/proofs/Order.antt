@@ -1,9 +1,10 @@
 -- The item order: what it says of the keys, and that it is strict and total. Assumes nothing.
-use Prim.Native.Nat.{ℕ, _≤_, _<_}
+use Prim.Native.Nat.{ℕ, _+_, _*_, _≤_, _<_}
 use mathlib.Core.Path.{_≡_, refl, sym, ap}
 use mathlib.Core.Logic.{_≢_}
 use mathlib.Core.List.{List}
 use mathlib.Core.Bool.{Bool, true, false, _&&_, _||_, true≢false, false≢true}
+use native.Mathlib.Nat.{le-refl}
 use native.Mathlib.Omega.{arith}
 use lib.ListN.{getD, set}
 use lib.Seq.{getD-set-other}
@@ -49,3 +50,29 @@ precedes-irrefl key a b e q = let f = is-precedes key a b e in omega (arith, f .
 pub precedes-other : (key : List ℕ) (x v a b : ℕ) → a ≢ x → b ≢ x → precedes (set key x v) a b ≡ precedes key a b
 unfolding precedes
 precedes-other key x v a b m n = rw (getD-set-other key x a v 0 m, getD-set-other key x b v 0 n)
+
+-- the order as one number, for items up to 4096
+unfoldable pub ord : List ℕ → ℕ → ℕ
+ord key x = 4097 * getD key x 0 + x
+
+pub ord-precedes : (key : List ℕ) (a b : ℕ) → a ≤ 4096 → precedes key a b ≡ true → ord key a < ord key b
+unfolding ord
+ord-precedes key a b h e = go (eqb (getD key a 0) (getD key b 0)) refl (is-precedes key a b e)
+  where
+    go : (t : Bool) → eqb (getD key a 0) (getD key b 0) ≡ t → (getD key a 0 ≤ getD key b 0) × (getD key a 0 ≡ getD key b 0 → a < b) → 4097 * getD key a 0 + a < 4097 * getD key b 0 + b
+    go true q f = omega (arith, f .1 (eqb-true (getD key a 0) (getD key b 0) q), f .0)
+    go false q f = let n : getD key a 0 ≢ getD key b 0 = eqb-false (getD key a 0) (getD key b 0) q in omega (arith, f .0)
+
+pub precedes-ord : (key : List ℕ) (a b : ℕ) → a ≤ 4096 → ord key b ≤ ord key a → precedes key a b ≡ false
+precedes-ord key a b h k = go (precedes key a b) refl
+  where
+    go : (t : Bool) → precedes key a b ≡ t → t ≡ false
+    go true e = absurd (omega (arith, ord-precedes key a b h e))
+    go false e = refl
+
+pub ord-total : (key : List ℕ) (a b : ℕ) → b ≤ 4096 → precedes key a b ≡ false → ord key b ≤ ord key a
+ord-total key a b h e = go (eqb a b) refl
+  where
+    go : (t : Bool) → eqb a b ≡ t → ord key b ≤ ord key a
+    go true q = rw (eqb-true a b q) (le-refl _)
+    go false q = omega (arith, ord-precedes key b a h (precedes-total key a b (eqb-false a b q) e))
