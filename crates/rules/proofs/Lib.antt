@@ -23,3 +23,5 @@ pub mod Minimum
 pub mod Refusals
 pub mod EmptyForests
 pub mod CascadeBound
+pub mod CallsKeep
+pub mod Ledger

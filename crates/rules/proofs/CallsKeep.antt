@@ -1,0 +1,231 @@
+-- Each call leaves the forests formed, and is paid for by its price.
+use Prim.Native.Nat.{ℕ, zero, suc, _+_, _≤_, _<_}
+use mathlib.Core.Path.{_≡_, refl, sym, ap, _∙_}
+use mathlib.Core.Logic.{_≢_}
+use mathlib.Core.List.{List, [], _∷_, _++_}
+use mathlib.Core.Bool.{Bool, true, false, cond, not, _&&_, true≢false, false≢true}
+use native.Mathlib.Omega.{arith}
+use lib.ListN.{length, getD, set, length-append}
+use lib.Seq.{getD-set-other}
+use lib.Dec.{eqb}
+use borrow.Author.Tests.{eqb-true, ne-eqb}
+use Rattle.rules.specs.declared.Line.{Line}
+use Rattle.rules.specs.declared.Line.the-variants.{NoCall, Yields}
+use Rattle.rules.specs.declared.Call.{Call}
+use Rattle.rules.specs.declared.Call.the-variants.{DecreaseKey, Delete, ExtractMin, FindMin, Insert, Meld}
+use Rattle.rules.specs.Answers.{answer, refusal, refused, unlessRefused}
+use Rattle.rules.specs.Calls.{
+  Outcome,
+  decreaseKey,
+  delete,
+  deleteAs,
+  extract,
+  hasParent,
+  insert,
+  meld,
+  perform,
+  removeRoot,
+}
+use Rattle.rules.specs.Cut.{Cuts, cutIf}
+use Rattle.rules.specs.Fibonacci.{R}
+use Rattle.rules.specs.Forests.{
+  Forests,
+  count,
+  heapNumber,
+  heapOf,
+  keyOf,
+  marks,
+  none,
+  parentOf,
+  potential,
+  rowOf,
+  setKey,
+  trees,
+}
+use Rattle.rules.specs.Ledger.{allowance, ifDone, price}
+use Rattle.rules.specs.Lists.{occurs, sumBy}
+use Rattle.rules.specs.Order.{leastIn, minimum, precedes}
+use Rattle.rules.specs.Words.{at}
+use Rattle.rules.proofs.CascadeKeeps.{cutOut-formed, ordered-but}
+use Rattle.rules.proofs.ConsolidateKeeps.{consolidate-formed}
+use Rattle.rules.proofs.Cutting.{cutIf-heap, cutOut-root}
+use Rattle.rules.proofs.Excused.{Formed, FormedBut, OrderedBut, exact}
+use Rattle.rules.proofs.InsertKeeps.{insert-formed}
+use Rattle.rules.proofs.KeyKeeps.{key-formed}
+use Rattle.rules.proofs.MeldKeeps.{meld-formed}
+use Rattle.rules.proofs.Members.{heap-in, not-none, root-row, row-root}
+use Rattle.rules.proofs.Minimum.{leastOf-in}
+use Rattle.rules.proofs.Occurs.{byItem}
+use Rattle.rules.proofs.Order.{precedes-irrefl, precedes-total}
+use Rattle.rules.proofs.Potential.{cutOut-potential, extract-potential, removeRoot-potential}
+use Rattle.rules.proofs.RankBound.{rank-le}
+use Rattle.rules.proofs.Refusals.{decrease-ok, delete-ok, extract-ok, insert-ok, meld-ok}
+use Rattle.rules.proofs.RemoveRootKeeps.{remove-formed}
+use Rattle.rules.proofs.Sums.{sumBy-set-le}
+
+-- what a call is to keep
+pub record Kept (s : Forests) (o : Outcome) (price : ℕ) : Type 0 where
+  pub formed : Formed (o .next)
+  pub paid : o .reply .links + o .reply .cuts + potential (o .next) ≤ potential s + price
+
+insert-potential : (h i k : ℕ) (s : Forests) → potential (insert h i k s) ≤ potential s + 1
+unfolding insert potential trees marks
+insert-potential h i k s =
+    omega (
+      arith,
+      sumBy-set-le length (s .rows) h (rowOf s h ++ (i ∷ [])) [] refl,
+      length-append (rowOf s h) (i ∷ []),
+    )
+
+meld-potential : (a b : ℕ) (s : Forests) → a ≢ b → potential (meld a b s) ≤ potential s
+unfolding meld potential trees marks
+meld-potential a b s n =
+    let r : List ℕ = rowOf s a ++ rowOf s b in
+    omega (
+      arith,
+      sumBy-set-le length (set (s .rows) a r) b [] [] refl,
+      sumBy-set-le length (s .rows) a r [] refl,
+      length-append (rowOf s a) (rowOf s b),
+      ap length (getD-set-other (s .rows) a b r [] (λ e. n (sym e))),
+    )
+
+extract-kept : (s : Forests) → Formed s → (h x : ℕ) → 1 ≤ occurs x (rowOf s h) → Kept s (extract h x s) (R (count s h))
+unfolding extract
+extract-kept s S h x k =
+    let r = row-root s (S .disjoint) h x k in
+    let hh : h < 8 = omega (arith, S .disjoint .heaps x, r .0) in
+    record {
+      formed = consolidate-formed h (removeRoot h x s) hh
+          (remove-formed s (S .disjoint) h x (r .0) (r .1) (S .ordered) (S .ranked));
+      paid = omega (arith, extract-potential h x s k, rank-le s (S .disjoint) (S .ranked) h x k);
+    }
+
+pub has-parent : (s : Forests) (i : ℕ) → hasParent s i ≡ true → parentOf s i ≢ none
+unfolding hasParent
+has-parent s i e n = let z : false ≡ true = sym (rw n) ∙ e in absurd (false≢true z)
+
+pub has-none : (s : Forests) (i : ℕ) → hasParent s i ≡ false → parentOf s i ≡ none
+unfolding hasParent
+has-none s i e = go (eqb (parentOf s i) none) refl e
+  where
+    go : (t : Bool) → eqb (parentOf s i) none ≡ t → not t ≡ false → parentOf s i ≡ none
+    go true q _ = eqb-true (parentOf s i) none q
+    go false q z = absurd (true≢false z)
+
+-- i, which alone may come before its parent, is cut if it does
+record CutKept (t : Forests) (c : Cuts) : Type 0 where
+  formed : Formed (c .forests)
+  paid : c .cuts + potential (c .forests) ≤ potential t + 4
+
+cutIf-kept : (t : Forests) (h i : ℕ) → FormedBut i exact t → heapOf t i ≡ suc h → (b : Bool)
+    → (b ≡ true → parentOf t i ≢ none)
+    → (b ≡ false → parentOf t i ≢ none → precedes (t .key) (parentOf t i) i ≡ true) → CutKept t (cutIf b h i t)
+unfolding cutIf OrderedBut
+cutIf-kept t h i S hi true u v = record { formed = cutOut-formed h i t S hi (u refl); paid = cutOut-potential h i t }
+cutIf-kept t h i S hi false u v =
+    record {
+      formed = record {
+        disjoint = S .disjoint;
+        ordered = λ y _. byItem {P = InOrder} i (λ _. v refl) (λ y n. S .ordered y n) y;
+        ranked = S .ranked;
+      };
+      paid = omega arith;
+    }
+  where
+    InOrder : ℕ → Type 0
+    InOrder y = heapOf t y ≢ 0 → parentOf t y ≢ none → precedes (t .key) (parentOf t y) y ≡ true
+
+decrease-kept : (s : Forests) → Formed s → (i k : ℕ) → heapOf s i ≢ 0 → k ≤ keyOf s i → Kept s (decreaseKey i k s) 4
+unfolding decreaseKey potential trees marks OrderedBut
+decrease-kept s S i k l low =
+    let t : Forests = setKey i k s in
+    let b : Bool = precedes (t .key) i (parentOf t i) in
+    let c = cutIf-kept t (heapNumber s i) i (key-formed s (S .disjoint) i k l low (S .ordered) (S .ranked)) (omega arith)
+    (hasParent t i && b) (λ e. has-parent t i (left (hasParent t i) b e))
+    (λ e n. precedes-total (t .key) i (parentOf t i) (own n) (right (hasParent t i) b (λ z. n (has-none t i z)) e)) in
+    record { formed = c .formed; paid = omega (arith, c .paid) }
+  where
+    own : parentOf s i ≢ none → i ≢ parentOf s i
+    own n e =
+        precedes-irrefl (s .key) (parentOf s i) i
+        (S .ordered i (λ z. not-none s (S .disjoint) i (heap-in s i l) (sym z)) l n) (sym e)
+
+    left : (a b : Bool) → (a && b) ≡ true → a ≡ true
+    left true b e = refl
+    left false b e = e
+
+    right : (a b : Bool) → a ≢ false → (a && b) ≡ false → b ≡ false
+    right true b n e = e
+    right false b n e = absurd (n refl)
+
+-- a minimum that is an item stands in its row
+minimum-stands : (s : Forests) (h : ℕ) → minimum s h ≢ none → 1 ≤ occurs (minimum s h) (rowOf s h)
+unfolding minimum leastIn
+minimum-stands s h n = go (rowOf s h) n
+  where
+    go : (l : List ℕ) → leastIn (s .key) l ≢ none → 1 ≤ occurs (leastIn (s .key) l) l
+    go [] n = absurd (n refl)
+    go (x ∷ xs) n = leastOf-in (s .key) x xs
+
+delete-kept : (s : Forests) → Formed s → (i : ℕ) → heapOf s i ≢ 0 → (b : Bool)
+    → eqb (minimum s (heapNumber s i)) i ≡ b → Kept s (deleteAs b i s) (R (count s (heapNumber s i)) + 3)
+unfolding deleteAs cutIf count
+delete-kept s S i l true e =
+    let h : ℕ = heapNumber s i in
+    let q : minimum s h ≡ i = eqb-true _ _ e in
+    let n : minimum s h ≢ none = λ z. not-none s (S .disjoint) i (heap-in s i l) (sym z ∙ q) in
+    let k = extract-kept s S h i (rw q at (minimum-stands s h n)) in
+    record { formed = k .formed; paid = omega (arith, k .paid) }
+delete-kept s S i l false e =
+    let h : ℕ = heapNumber s i in
+    let hi : heapOf s i ≡ suc h = omega arith in
+    let m : Cuts = cutIf (hasParent s i) h i s in
+    let c = cutIf-kept s h i
+    (record { disjoint = S .disjoint; ordered = ordered-but s i (S .disjoint) (S .ordered); ranked = S .ranked }) hi
+    (hasParent s i) (has-parent s i) (λ z n. absurd (n (has-none s i z))) in
+    let same : m .forests .heap ≡ s .heap = cutIf-heap (hasParent s i) h i s in
+    let hm : heapOf (m .forests) i ≡ suc h = ap (λ l. getD l i 0) same ∙ hi in
+    let r : parentOf (m .forests) i ≡ none = rooted (hasParent s i) refl in
+    let w : occurs i (rowOf (m .forests) h) ≡ 1 = root-row (m .forests) (c .formed .disjoint) h i hm r in
+    record {
+      formed = remove-formed (m .forests) (c .formed .disjoint) h i hm r (c .formed .ordered) (c .formed .ranked);
+      paid = omega (
+        arith,
+        c .paid,
+        removeRoot-potential h i (m .forests) (omega (arith, w)),
+        rank-le (m .forests) (c .formed .disjoint) (c .formed .ranked) h i (omega (arith, w)),
+        ap (λ l. R (sumBy (λ x. cond (eqb x (suc h)) 1 0) l)) same,
+      );
+    }
+  where
+    rooted : (t : Bool) → hasParent s i ≡ t → parentOf ((cutIf t (heapNumber s i) i s) .forests) i ≡ none
+    rooted true z = cutOut-root (heapNumber s i) i s (S .disjoint) l
+    rooted false z = has-none s i z
+
+pub perform-kept : (s : Forests) → Formed s → (c : Call) → refusal s c ≡ 0 → Kept s (perform s c) (price s c)
+unfolding perform price delete
+perform-kept s S (Insert h i k) e =
+    let o = insert-ok s h i k e in
+    record {
+      formed = insert-formed s (S .disjoint) h i k (o .0) (o .1) (o .2) (S .ordered) (S .ranked);
+      paid = omega (arith, insert-potential h i k s);
+    }
+perform-kept s S (FindMin h) e = record { formed = S; paid = omega arith }
+perform-kept s S (ExtractMin h) e = extract-kept s S h (minimum s h) (extract-ok s h e)
+perform-kept s S (DecreaseKey i k) e = decrease-kept s S i k (decrease-ok s i k e .0) (decrease-ok s i k e .1)
+perform-kept s S (Delete i) e = delete-kept s S i (delete-ok s i e) (eqb (minimum s (heapNumber s i)) i) refl
+perform-kept s S (Meld a b) e =
+    let o = meld-ok s a b e in
+    record {
+      formed = meld-formed s (S .disjoint) a b (o .0) (o .1) (o .2) (S .ordered) (S .ranked);
+      paid = omega (arith, meld-potential a b s (o .2));
+    }
+
+pub answer-kept : (s : Forests) → Formed s → (l : Line) → Kept s (answer s l) (allowance s l)
+unfolding answer allowance unlessRefused refused ifDone
+answer-kept s S NoCall = record { formed = S; paid = omega arith }
+answer-kept s S (Yields c) = go (refusal s c) refl
+  where
+    go : (r : ℕ) → refusal s c ≡ r → Kept s (unlessRefused r s c) (cond (eqb r 0) (price s c) 0)
+    go zero e = perform-kept s S c e
+    go (suc r) e = rw (ne-eqb (suc r) 0 (λ z. omega arith)) (record { formed = S; paid = omega arith })
