@@ -25,3 +25,6 @@ pub mod EmptyForests
 pub mod CascadeBound
 pub mod CallsKeep
 pub mod Ledger
+pub mod Lists
+pub mod Counts
+pub mod KeepsWellFormed
