@@ -49,7 +49,7 @@ marked-child : marked ≢ root
 marked-child e = let z : _≡_ {A = ℕ} 0 1 = cc in absurd (omega arith)
 
 -- a root is nobody's child, so what it lacks of rank is nothing to anybody
-root-ranked : (s : Forests) (p : ℕ) → Disjoint s → parentOf s p ≡ none → RankedBut (delta p) s → RankedBut exact s
+pub root-ranked : (s : Forests) (p : ℕ) → Disjoint s → parentOf s p ≡ none → RankedBut (delta p) s → RankedBut exact s
 unfolding RankedBut
 root-ranked s p S r K = λ q k. ranks-mono (delta p) exact (s .children) (s .children) (s .mark) (s .mark) 0 (childrenOf s q)
     (λ c i. omega (arith, delta-other p c (λ e. omega (arith, absent q k, ap (λ z. occurs z (childrenOf s q)) e)))) (K q k)

@@ -4,12 +4,14 @@ use mathlib.Core.Path.{_≡_, refl, sym, ap, _∙_}
 use mathlib.Core.Logic.{_≢_}
 use mathlib.Core.List.{List, [], _∷_, _++_, map}
 use mathlib.Core.Bool.{Bool, true, false, cond}
-use native.Mathlib.Nat.{le-refl, le-trans}
+use native.Mathlib.Nat.{le-refl}
 use native.Mathlib.Omega.{arith}
 use lib.ListN.{length, getD, set, replicate, length-set, length-append}
 use lib.Seq.{getD-set-same, getD-set-other}
 use lib.Dec.{eqb}
 use borrow.Author.Tests.{eqb-true, eqb-false, ne-eqb}
+use Rattle.rules.specs.Answers.{answer, unlessRefused}
+use Rattle.rules.specs.Calls.{extract, perform, removeRoot}
 use Rattle.rules.specs.Consolidate.{
   Linking,
   climb,
@@ -22,39 +24,20 @@ use Rattle.rules.specs.Consolidate.{
   occupied,
   winner,
 }
-use Rattle.rules.specs.Fibonacci.{R, lastFrom}
-use Rattle.rules.specs.Forests.{Forests, childrenOf, count, none, rankOf, rowOf, setRow}
+use Rattle.rules.specs.Fibonacci.{F}
+use Rattle.rules.specs.Forests.{Forests, childrenOf, none, rankOf, rowOf, setRow}
 use Rattle.rules.specs.Lists.{delta, occurs, sumBy}
-use Rattle.rules.specs.Order.{precedes}
-use Rattle.rules.specs.Theorems.{Rising}
-use Rattle.rules.proofs.Excused.{Formed}
-use Rattle.rules.proofs.Fibonacci.{R-mono}
+use Rattle.rules.specs.Order.{minimum, precedes}
+use Rattle.rules.specs.Theorems.{ClimbBound, RanksRise, Rising}
+use Rattle.rules.proofs.Excused.{Formed, to-formed}
 use Rattle.rules.proofs.LinkKeeps.{anew, in-row, link-formed, once, re-row, row-h}
-use Rattle.rules.proofs.Members.{heap-in, not-none}
+use Rattle.rules.proofs.Members.{heap-in, not-none, row-root}
 use Rattle.rules.proofs.Occurs.{byItem, delta-self, occurs-append}
 use Rattle.rules.proofs.Order.{precedes-total}
-use Rattle.rules.proofs.RankBound.{rank-le}
+use Rattle.rules.proofs.RankSixteen.{root-rank-16}
+use Rattle.rules.proofs.Refusals.{extract-ok}
+use Rattle.rules.proofs.RemoveRootKeeps.{remove-formed}
 use Rattle.rules.proofs.Sums.{sumBy-set}
-
--- ---- no rank is above 16
-
-count-le : (l : List ℕ) (h : ℕ) → sumBy (λ x. cond (eqb x (suc h)) 1 0) l ≤ length l
-unfolding sumBy
-count-le [] h = le-refl 0
-count-le (x ∷ xs) h = go (eqb x (suc h)) (count-le xs h)
-  where
-    go : (t : Bool) → sumBy (λ x. cond (eqb x (suc h)) 1 0) xs ≤ length xs → cond t 1 0 + sumBy (λ x. cond (eqb x (suc h)) 1 0) xs ≤ suc (length xs)
-    go true k = omega arith
-    go false k = omega arith
-
-R-top : R 4096 ≡ 16
-unfolding R lastFrom
-R-top = refl
-
-pub rank-16 : (s : Forests) → Formed s → (h x : ℕ) → 1 ≤ occurs x (rowOf s h) → rankOf s x ≤ 16
-unfolding count
-rank-16 s S h x k =
-    omega (arith, rank-le s (S .disjoint) (S .ranked) h x k, R-mono (count s h) 4096 (le-trans (count-le (s .heap) h) (S .disjoint .small)), R-top)
 
 -- ---- the places
 
@@ -112,7 +95,7 @@ module _ (h : ℕ) (hh : h < 8) (ps rest : List ℕ) (x : ℕ) (s : Forests) (H 
   x-apart = omega (arith, occurs-ρ x, delta-self x, once s h ρ (H .formed) hh x x-in)
 
   low : rankOf s x ≤ 16
-  low = rank-16 (setRow h ρ s) (H .formed) h x (rw (row-h s h ρ (H .formed) hh ρ) x-in)
+  low = root-rank-16 (setRow h ρ s) (H .formed) h x (rw (row-h s h ρ (H .formed) hh ρ) x-in)
 
   -- the tree comes to rest
   put : (r : ℕ) → rankOf s x ≡ r → getD ps r none ≡ none → Held h (set ps r x) rest s
@@ -260,3 +243,17 @@ consolidate-rising h s hh S =
     let H = linked-held h s hh S in
     rw (row-h (w .forests) h (occupied (w .places) ++ []) (H .formed) hh (occupied (w .places)))
     (occupied-rising (rankOf (w .forests)) 0 (w .places) (λ r n. H .rank r n ∙ omega arith))
+
+pub climbBound : ClimbBound
+unfolding ClimbBound
+climbBound s S h hh d k = consolidate-bound h s hh (to-formed s S) d k
+
+pub ranksRise : RanksRise
+unfolding RanksRise answer unlessRefused perform extract
+ranksRise s S h e =
+    let F = to-formed s S in
+    let r = row-root s (F .disjoint) h (minimum s h) (extract-ok s h e) in
+    let hh : h < 8 = omega (arith, F .disjoint .heaps (minimum s h), r .0) in
+    rw e
+    (consolidate-rising h (removeRoot h (minimum s h) s) hh
+    (remove-formed s (F .disjoint) h (minimum s h) (r .0) (r .1) (F .ordered) (F .ranked)))

@@ -21,7 +21,7 @@ use Rattle.rules.specs.Order.{minimum}
 use Rattle.rules.specs.Theorems.{ItemsBalance, inserted, removed, total}
 use Rattle.rules.specs.WellFormed.{Disjoint}
 use Rattle.rules.proofs.CallsKeep.{answer-kept, perform-kept}
-use Rattle.rules.proofs.Excused.{Formed, formed}
+use Rattle.rules.proofs.Excused.{Formed, to-formed}
 use Rattle.rules.proofs.Lists.{decrease-heap, delete-heap, extract-heap}
 use Rattle.rules.proofs.Members.{heap-in, row-root}
 use Rattle.rules.proofs.Occurs.{byItem, eqb-self}
@@ -186,4 +186,4 @@ all-items s S (l ∷ ls) =
 
 pub itemsBalance : ItemsBalance
 unfolding ItemsBalance
-itemsBalance s S ls = all-items s (formed s S) ls
+itemsBalance s S ls = all-items s (to-formed s S) ls

@@ -79,9 +79,9 @@ exact-ranks : (cs : List (List ℕ)) (ms : List ℕ) (j : ℕ) (l : List ℕ) �
 exact-ranks cs ms j [] t = tt
 exact-ranks cs ms j (c ∷ l) t = (omega (arith, t .0), exact-ranks cs ms (suc j) l (t .1))
 
-pub formed : (s : Forests) → WellFormed s → Formed s
+pub to-formed : (s : Forests) → WellFormed s → Formed s
 unfolding HeapOrdered RankRule OrderedBut RankedBut
-formed s S = record {
+to-formed s S = record {
   disjoint = S .disjoint;
   ordered = λ x _. S .ordered x;
   ranked = λ p k. ranks-exact (s .children) (s .mark) 0 (childrenOf s p) (S .ranked p k);

@@ -19,7 +19,7 @@ use Rattle.rules.specs.Order.{minimum}
 use Rattle.rules.specs.Theorems.{InRange, KeepsTableSize, KeepsWellFormed}
 use Rattle.rules.specs.WellFormed.{KeysFit}
 use Rattle.rules.proofs.CallsKeep.{answer-kept}
-use Rattle.rules.proofs.Excused.{formed, well-formed}
+use Rattle.rules.proofs.Excused.{to-formed, well-formed}
 use Rattle.rules.proofs.Lists.{decrease-heap, decrease-key, delete-heap, delete-key, extract-heap, extract-key}
 use Rattle.rules.proofs.Occurs.{byItem}
 use Rattle.rules.proofs.Refusals.{decrease-ok}
@@ -46,7 +46,7 @@ perform-keys s K (Meld a b) e f = K
 
 pub keepsWellFormed : KeepsWellFormed
 unfolding KeepsWellFormed answer unlessRefused refused
-keepsWellFormed s S l f = well-formed ((answer s l) .next) (answer-kept s (formed s S) l .formed) (keys l f)
+keepsWellFormed s S l f = well-formed ((answer s l) .next) (answer-kept s (to-formed s S) l .formed) (keys l f)
   where
     guarded : (c : Call) → InRange (Yields c) → (r : ℕ) → refusal s c ≡ r → KeysFit ((unlessRefused r s c) .next)
     guarded c f zero e = perform-keys s (S .keys) c e f

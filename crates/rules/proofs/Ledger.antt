@@ -9,7 +9,7 @@ use Rattle.rules.specs.Forests.{Forests, potential}
 use Rattle.rules.specs.Ledger.{Ledger, allowed, moves}
 use Rattle.rules.specs.Lists.{sumBy}
 use Rattle.rules.proofs.CallsKeep.{answer-kept}
-use Rattle.rules.proofs.Excused.{Formed, formed}
+use Rattle.rules.proofs.Excused.{Formed, to-formed}
 
 pub after-formed : (s : Forests) → Formed s → (ls : List Line) → Formed (after s ls)
 unfolding after
@@ -27,4 +27,4 @@ all-paid s S (l ∷ ls) =
 
 pub ledger : Ledger
 unfolding Ledger
-ledger s S ls i n = all-paid (after s (take i ls)) (after-formed s (formed s S) (take i ls)) (take n (drop i ls))
+ledger s S ls i n = all-paid (after s (take i ls)) (after-formed s (to-formed s S) (take i ls)) (take n (drop i ls))

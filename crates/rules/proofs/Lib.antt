@@ -28,3 +28,5 @@ pub mod Ledger
 pub mod Lists
 pub mod Counts
 pub mod KeepsWellFormed
+pub mod RankSixteen
+pub mod AnyRank

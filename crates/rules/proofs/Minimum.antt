@@ -3,17 +3,19 @@ use Prim.Native.Nat.{ℕ, zero, suc, _+_, _≤_, _<_}
 use mathlib.Core.Path.{_≡_, refl, sym, _∙_}
 use mathlib.Core.Logic.{_≢_}
 use mathlib.Core.List.{List, [], _∷_}
-use mathlib.Core.Bool.{Bool, true, false, cond}
+use mathlib.Core.Bool.{Bool, true, false, cond, true≢false}
 use native.Mathlib.Nat.{le-refl, le-trans}
 use native.Mathlib.Omega.{arith}
-use lib.ListN.{length}
+use lib.ListN.{length, getD}
 use lib.Dec.{eqb}
 use borrow.Author.Tests.{eqb-true, eqb-false}
-use Rattle.rules.specs.Forests.{Forests, heapOf, none, parentOf, rowOf}
+use Rattle.rules.specs.Fibonacci.{F}
+use Rattle.rules.specs.Forests.{Forests, count, heapOf, none, parentOf, rowOf}
 use Rattle.rules.specs.Lists.{delta, occurs, sumBy}
 use Rattle.rules.specs.Order.{leastIn, leastOf, minimum, precedes}
+use Rattle.rules.specs.Theorems.{MinimumFirst, MinimumUnique}
 use Rattle.rules.specs.WellFormed.{Disjoint}
-use Rattle.rules.proofs.Excused.{Formed, OrderedBut}
+use Rattle.rules.proofs.Excused.{Formed, OrderedBut, to-formed}
 use Rattle.rules.proofs.Members.{heap-in, not-none, root-row, row-root}
 use Rattle.rules.proofs.Occurs.{byItem, delta-other, delta-self}
 use Rattle.rules.proofs.Order.{ord, ord-precedes, ord-total, precedes-ord, precedes-total}
@@ -58,13 +60,13 @@ minimum-least s S h x k = go (rowOf s h) (λ z i. let q = heap-in s z (λ e. ome
     go (y ∷ ys) b k = leastOf-least (s .key) y ys b x k
 
 -- a parent's number in the order is below its child's
-pub parent-below : (s : Forests) → Formed s → (x : ℕ) → heapOf s x ≢ 0 → parentOf s x ≢ none
+pub parent-below : (s : Forests) → Disjoint s → OrderedBut none s → (x : ℕ) → heapOf s x ≢ 0 → parentOf s x ≢ none
     → ord (s .key) (parentOf s x) < ord (s .key) x
 unfolding OrderedBut
-parent-below s S x live m =
-    let u = S .disjoint .up x live m in
-    ord-precedes (s .key) (parentOf s x) x (omega (arith, u .0, S .disjoint .small))
-    (S .ordered x (λ z. not-none s (S .disjoint) x (heap-in s x live) (sym z)) live m)
+parent-below s D O x live m =
+    let u = D .up x live m in
+    ord-precedes (s .key) (parentOf s x) x (omega (arith, u .0, D .small))
+    (O x (λ z. not-none s D x (heap-in s x live) (sym z)) live m)
 
 -- up the parents, whose numbers fall
 above : (s : Forests) → Formed s → (h n x : ℕ) → heapOf s x ≡ suc h → ord (s .key) x < n → ord (s .key) (minimum s h) ≤ ord (s .key) x
@@ -80,7 +82,7 @@ above s S h (suc n) x e k = go (eqb (parentOf s x) none) refl (above s S h n (pa
     go false q ih =
         let m : parentOf s x ≢ none = eqb-false (parentOf s x) none q in
         let u = S .disjoint .up x live m in
-        let o = parent-below s S x live m in
+        let o = parent-below s (S .disjoint) (S .ordered) x live m in
         omega (arith, ih (u .1 ∙ e) (omega arith))
 
 -- no item of heap h comes before its minimum
@@ -130,4 +132,44 @@ root-above s S h (suc n) x e k = go (eqb (parentOf s x) none) refl (root-above s
     go false q ih =
         let m : parentOf s x ≢ none = eqb-false (parentOf s x) none q in
         let u = S .disjoint .up x live m in
-        ih (u .1 ∙ e) (omega (arith, parent-below s S x live m))
+        ih (u .1 ∙ e) (omega (arith, parent-below s (S .disjoint) (S .ordered) x live m))
+
+some-item : (l : List ℕ) (h : ℕ) → 1 ≤ sumBy (λ v. cond (eqb v (suc h)) 1 0) l → (x : ℕ) × (getD l x 0 ≡ suc h)
+unfolding sumBy
+some-item [] h k = absurd (omega arith)
+some-item (v ∷ l) h k = go (eqb v (suc h)) refl k (some-item l h)
+  where
+    go : (t : Bool) → eqb v (suc h) ≡ t → 1 ≤ cond t 1 0 + sumBy (λ v. cond (eqb v (suc h)) 1 0) l
+        → (1 ≤ sumBy (λ v. cond (eqb v (suc h)) 1 0) l → (x : ℕ) × (getD l x 0 ≡ suc h)) → (x : ℕ) × (getD (v ∷ l) x 0 ≡ suc h)
+    go true e k ih = (0, eqb-true v (suc h) e)
+    go false e k ih = let i = ih (omega arith) in (suc (i .0), i .1)
+
+pub minimum-inside : (s : Forests) → Formed s → (h x : ℕ) → heapOf s x ≡ suc h → heapOf s (minimum s h) ≡ suc h
+unfolding minimum leastIn
+minimum-inside s S h x e =
+    row-root s (S .disjoint) h (minimum s h) (go (rowOf s h) (root-above s S h (suc (ord (s .key) x)) x e (le-refl _))) .0
+  where
+    go : (l : List ℕ) → 1 ≤ length l → 1 ≤ occurs (leastIn (s .key) l) l
+    go [] k = absurd (omega arith)
+    go (y ∷ ys) k = leastOf-in (s .key) y ys
+
+pub minimumFirst : MinimumFirst
+unfolding MinimumFirst count
+minimumFirst s S h k =
+    let F = to-formed s S in
+    let i = some-item (s .heap) h k in
+    record {
+      inside = minimum-inside s F h (i .0) (i .1);
+      first = λ x e n. precedes-total (s .key) x (minimum s h) n (none-before s F h x e);
+    }
+
+pub minimumUnique : MinimumUnique
+unfolding MinimumUnique
+minimumUnique s S h m M = go (eqb (minimum s h) m) refl
+  where
+    go : (t : Bool) → eqb (minimum s h) m ≡ t → minimum s h ≡ m
+    go true e = eqb-true _ _ e
+    go false e =
+        let F = to-formed s S in
+        let a = M .first (minimum s h) (minimum-inside s F h m (M .inside)) (eqb-false (minimum s h) m e) in
+        absurd (true≢false (sym a ∙ none-before s F h m (M .inside)))
