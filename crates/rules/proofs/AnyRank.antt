@@ -66,7 +66,7 @@ up-from (suc n) h p x s A k = go (eqb (parentOf s p) none) refl (up-from n h (pa
 
     go : (t : Bool) → eqb (parentOf s p) none ≡ t
         → (Above h (parentOf s p) x (cut h p s) → ord (s .key) (parentOf s p) < n
-            → rankOf (cut h p s) x ≤ R (count s h)) → rankOf s x ≤ R (count s h)
+        → rankOf (cut h p s) x ≤ R (count s h)) → rankOf s x ≤ R (count s h)
     go true e ih =
         rank-le s (S .disjoint) (root-ranked s p (S .disjoint) (eqb-true _ _ e) (S .ranked)) h x
         (omega (arith, root-row s (S .disjoint) h x (A .heap-x) (A .root-x)))
@@ -85,7 +85,8 @@ any-rank s S h x hx = go (eqb (parentOf s x) none) refl
     live e = omega (arith, hx)
 
     go : (t : Bool) → eqb (parentOf s x) none ≡ t → rankOf s x ≤ R (count s h)
-    go true e = rank-le s (S .disjoint) (S .ranked) h x (omega (arith, root-row s (S .disjoint) h x hx (eqb-true _ _ e)))
+    go true e =
+        rank-le s (S .disjoint) (S .ranked) h x (omega (arith, root-row s (S .disjoint) h x hx (eqb-true _ _ e)))
     go false e =
         let m : parentOf s x ≢ none = eqb-false (parentOf s x) none e in
         let p : ℕ = parentOf s x in
@@ -101,7 +102,8 @@ any-rank s S h x hx = go (eqb (parentOf s x) none) refl
           root-x = getD-set-same (s .parent) x none 0 (omega (arith, S .disjoint .parentN, heap-in s x live));
           below = b;
         } in
-        let c : rankOf (cut h x s) x ≤ R (count s h) = up-from (suc (ord (s .key) p)) h p x (cut h x s) A (le-refl _) in
+        let c : rankOf (cut h x s) x ≤ R (count s h) =
+        up-from (suc (ord (s .key) p)) h p x (cut h x s) A (le-refl _) in
         let q : x ≢ p = λ z. omega (arith, ap (ord (s .key)) z) in
         rw (getD-set-other (s .children) p x (without x (childrenOf s p)) [] q) at c
 
@@ -118,5 +120,6 @@ rankSixteen s S x = go (heapOf s x) refl
       where
         bare : (t : Bool) → ltb x (tableSize s) ≡ t → heapOf s x ≡ 0 → childrenOf s x ≡ []
         bare true q e = free-children s (S .disjoint) x (ltb-true _ _ q) e
-        bare false q e = List·getD-eq-default (s .children) [] (omega (arith, S .disjoint .childrenN, ltb-false x (tableSize s) q))
+        bare false q e =
+            List·getD-eq-default (s .children) [] (omega (arith, S .disjoint .childrenN, ltb-false x (tableSize s) q))
     go (suc h) e = omega (arith, any-rank s (to-formed s S) h x e, R-sixteen s (S .disjoint) h)

@@ -89,7 +89,8 @@ meld-potential a b s n =
       ap length (getD-set-other (s .rows) a b r [] (λ e. n (sym e))),
     )
 
-extract-kept : (s : Forests) → Formed s → (h x : ℕ) → 1 ≤ occurs x (rowOf s h) → Kept s (extract h x s) (R (count s h))
+extract-kept : (s : Forests) → Formed s → (h x : ℕ) → 1 ≤ occurs x (rowOf s h)
+    → Kept s (extract h x s) (R (count s h))
 unfolding extract
 extract-kept s S h x k =
     let r = row-root s (S .disjoint) h x k in
@@ -140,7 +141,8 @@ unfolding decreaseKey potential trees marks OrderedBut
 decrease-kept s S i k l low =
     let t : Forests = setKey i k s in
     let b : Bool = precedes (t .key) i (parentOf t i) in
-    let c = cutIf-kept t (heapNumber s i) i (key-formed s (S .disjoint) i k l low (S .ordered) (S .ranked)) (omega arith)
+    let c = cutIf-kept t (heapNumber s i) i (key-formed s (S .disjoint) i k l low (S .ordered) (S .ranked))
+    (omega arith)
     (hasParent t i && b) (λ e. has-parent t i (left (hasParent t i) b e))
     (λ e n. precedes-total (t .key) i (parentOf t i) (own n) (right (hasParent t i) b (λ z. n (has-none t i z)) e)) in
     record { formed = c .formed; paid = omega (arith, c .paid) }

@@ -19,7 +19,8 @@ use Rattle.rules.specs.Theorems.{CascadeBound, MarksFit}
 use Rattle.rules.proofs.CascadeKeeps.{marks-le}
 use Rattle.rules.proofs.Potential.{cut-marks, marked-standing}
 
-cascade-bound : (d d′ : ℕ) (f : Standing) (h p : ℕ) (s : Forests) → standing s p ≡ f → marks s < d → marks s < d′ → cascadingCut d f h p s ≡ cascadingCut d′ f h p s
+cascade-bound : (d d′ : ℕ) (f : Standing) (h p : ℕ) (s : Forests) → standing s p ≡ f → marks s < d → marks s < d′
+    → cascadingCut d f h p s ≡ cascadingCut d′ f h p s
 unfolding cascadingCut
 cascade-bound zero d′ f h p s e k k′ = absurd (omega arith)
 cascade-bound (suc d) zero f h p s e k k′ = absurd (omega arith)
@@ -28,7 +29,9 @@ cascade-bound (suc d) (suc d′) unmarked h p s e k k′ = refl
 cascade-bound (suc d) (suc d′) marked h p s e k k′ =
     let t : Forests = cut h p s in
     ap (λ (m : Cuts). record { cuts = suc (m .cuts); forests = m .forests })
-    (cascade-bound d d′ (standing t (parentOf s p)) h (parentOf s p) t refl (omega (arith, cut-marks h p s, marked-standing s p e)) (omega (arith, cut-marks h p s, marked-standing s p e)))
+    (cascade-bound d d′ (standing t (parentOf s p)) h (parentOf s p) t refl
+    (omega (arith, cut-marks h p s, marked-standing s p e))
+    (omega (arith, cut-marks h p s, marked-standing s p e)))
 
 pub cascadeBound : CascadeBound
 unfolding CascadeBound cutOut cutWithin
@@ -36,7 +39,8 @@ cascadeBound s m h x d k =
     let t : Forests = cut h x s in
     let p : ℕ = parentOf s x in
     ap (λ (c : Cuts). record { cuts = suc (c .cuts); forests = c .forests })
-    (cascade-bound d (suc (tableSize s)) (standing t p) h p t refl (omega (arith, cut-marks h x s)) (omega (arith, cut-marks h x s)))
+    (cascade-bound d (suc (tableSize s)) (standing t p) h p t refl (omega (arith, cut-marks h x s))
+    (omega (arith, cut-marks h x s)))
 
 pub marksFit : MarksFit
 unfolding MarksFit

@@ -24,7 +24,8 @@ standing-root : (s : Forests) (p : ℕ) → standing s p ≡ root → parentOf s
 unfolding standing
 standing-root s p e = go (eqb (parentOf s p) none) (eqb (markOf s p) 0) refl e
   where
-    go : (a b : Bool) → eqb (parentOf s p) none ≡ a → cond a root (cond b unmarked marked) ≡ root → parentOf s p ≡ none
+    go : (a b : Bool) → eqb (parentOf s p) none ≡ a → cond a root (cond b unmarked marked) ≡ root
+        → parentOf s p ≡ none
     go true b q e = eqb-true (parentOf s p) none q
     go false true q e = let z : _≡_ {A = ℕ} 0 1 = cc in absurd (omega arith)
     go false false q e = let z : _≡_ {A = ℕ} 0 1 = cc in absurd (omega arith)
@@ -51,14 +52,17 @@ marked-child e = let z : _≡_ {A = ℕ} 0 1 = cc in absurd (omega arith)
 -- a root is nobody's child, so what it lacks of rank is nothing to anybody
 pub root-ranked : (s : Forests) (p : ℕ) → Disjoint s → parentOf s p ≡ none → RankedBut (delta p) s → RankedBut exact s
 unfolding RankedBut
-root-ranked s p S r K = λ q k. ranks-mono (delta p) exact (s .children) (s .children) (s .mark) (s .mark) 0 (childrenOf s q)
-    (λ c i. omega (arith, delta-other p c (λ e. omega (arith, absent q k, ap (λ z. occurs z (childrenOf s q)) e)))) (K q k)
+root-ranked s p S r K =
+    λ q k. ranks-mono (delta p) exact (s .children) (s .children) (s .mark) (s .mark) 0 (childrenOf s q)
+    (λ c i. omega (arith, delta-other p c (λ e. omega (arith, absent q k, ap (λ z. occurs z (childrenOf s q)) e))))
+    (K q k)
   where
     absent : (q : ℕ) → q < length (s .heap) → occurs p (childrenOf s q) ≡ 0
     absent q k = S .inChildren q p k ∙ rw (r, ne-eqb none q (not-none s S q k), and-false)
 
 -- a child without a mark gets one
-module _ (s : Forests) (p h : ℕ) (S : Disjoint s) (hp : heapOf s p ≡ suc h) (c : parentOf s p ≢ none) (m : markOf s p ≡ 0) where
+module _ (s : Forests) (p h : ℕ) (S : Disjoint s) (hp : heapOf s p ≡ suc h) (c : parentOf s p ≢ none)
+    (m : markOf s p ≡ 0) where
   live : heapOf s p ≢ 0
   live e = omega (arith, hp)
 
@@ -84,9 +88,13 @@ module _ (s : Forests) (p h : ℕ) (S : Disjoint s) (hp : heapOf s p ≡ suc h) 
 
   mark-ranked : RankedBut (delta p) s → RankedBut exact (setMark p 1 s)
   unfolding RankedBut
-  mark-ranked K = λ q k. ranks-mono (delta p) exact (s .children) (s .children) (s .mark) (set (s .mark) p 1) 0 (childrenOf s q)
-      (λ c _. byItem {P = λ c. length (childrenOf s c) + markOf s c + delta p c ≤ length (childrenOf s c) + getD (set (s .mark) p 1) c 0 + 0} p
-      (rw mark-p (omega (arith, delta-self p, m))) (λ y n. rw (getD-set-other (s .mark) p y) (omega (arith, delta-other p y n))) c) (K q k)
+  mark-ranked K =
+      λ q k. ranks-mono (delta p) exact (s .children) (s .children) (s .mark) (set (s .mark) p 1) 0 (childrenOf s q)
+      (λ c _. byItem
+      {P = λ c. length (childrenOf s c) + markOf s c + delta p c ≤ length (childrenOf s c) + getD
+      (set (s .mark) p 1) c 0 + 0} p
+      (rw mark-p (omega (arith, delta-self p, m)))
+      (λ y n. rw (getD-set-other (s .mark) p y) (omega (arith, delta-other p y n))) c) (K q k)
 
 -- where all children are in order, all but one are
 pub ordered-but : (s : Forests) (x : ℕ) → Disjoint s → OrderedBut none s → OrderedBut x s
@@ -95,22 +103,41 @@ ordered-but s x S O = λ y n l m. O y (λ e. not-none s S y (heap-in s y l) (sym
 
 pub ranked-but : (s : Forests) (x : ℕ) → RankedBut exact s → RankedBut (delta x) s
 unfolding RankedBut
-ranked-but s x K = λ q k. ranks-mono exact (delta x) (s .children) (s .children) (s .mark) (s .mark) 0 (childrenOf s q) (λ c _. omega arith) (K q k)
+ranked-but s x K =
+    λ q k. ranks-mono exact (delta x) (s .children) (s .children) (s .mark) (s .mark) 0 (childrenOf s q)
+    (λ c _. omega arith) (K q k)
 
-pub cascade-formed : (d : ℕ) (f : Standing) (h p : ℕ) (s : Forests) → standing s p ≡ f → FormedBut none (delta p) s → heapOf s p ≡ suc h → marks s < d
+pub cascade-formed : (d : ℕ) (f : Standing) (h p : ℕ) (s : Forests) → standing s p ≡ f → FormedBut none (delta p) s
+    → heapOf s p ≡ suc h → marks s < d
     → Formed ((cascadingCut d f h p s) .forests)
 unfolding cascadingCut OrderedBut cut
 cascade-formed zero f h p s e S hp k = absurd (omega arith)
-cascade-formed (suc d) root h p s e S hp k = record { disjoint = S .disjoint; ordered = S .ordered; ranked = root-ranked s p (S .disjoint) (standing-root s p e) (S .ranked) }
+cascade-formed (suc d) root h p s e S hp k =
+    record {
+      disjoint = S .disjoint;
+      ordered = S .ordered;
+      ranked = root-ranked s p (S .disjoint)
+          (standing-root s p e) (S .ranked);
+    }
 cascade-formed (suc d) unmarked h p s e S hp k =
     let n = standing-child s p unmarked unmarked-child e in
     let m = standing-unmarked s p e in
-    record { disjoint = mark-disjoint s p h (S .disjoint) hp n m; ordered = S .ordered; ranked = mark-ranked s p h (S .disjoint) hp n m (S .ranked) }
+    record {
+      disjoint = mark-disjoint s p h (S .disjoint) hp n m;
+      ordered = S .ordered;
+      ranked = mark-ranked s p h
+          (S .disjoint) hp n m (S .ranked);
+    }
 cascade-formed (suc d) marked h p s e S hp k =
     let n = standing-child s p marked marked-child e in
     let t : Forests = cut h p s in
     cascade-formed d (standing t (parentOf s p)) h (parentOf s p) t refl
-    (record { disjoint = cut-disjoint s (S .disjoint) h p hp n; ordered = cut-ordered s (S .disjoint) h p hp n (ordered-but s p (S .disjoint) (S .ordered)); ranked = cut-ranked s (S .disjoint) h p hp n (S .ranked) })
+    (record {
+      disjoint = cut-disjoint s (S .disjoint) h p hp n;
+      ordered = cut-ordered s (S .disjoint) h p hp n
+          (ordered-but s p (S .disjoint) (S .ordered));
+      ranked = cut-ranked s (S .disjoint) h p hp n (S .ranked);
+    })
     (S .disjoint .up p (λ z. omega (arith, hp)) n .1 ∙ hp) (omega (arith, cut-marks h p s, marked-standing s p e))
 
 sum-bits : (l : List ℕ) → ((i : ℕ) → getD l i 0 ≤ 1) → sumBy (λ m. m) l ≤ length l
@@ -122,10 +149,16 @@ pub marks-le : (s : Forests) → Disjoint s → marks s ≤ length (s .heap)
 unfolding marks
 marks-le s S = omega (arith, sum-bits (s .mark) (S .bit), S .markN)
 
-pub cutOut-formed : (h x : ℕ) (s : Forests) → FormedBut x exact s → heapOf s x ≡ suc h → parentOf s x ≢ none → Formed ((cutOut h x s) .forests)
+pub cutOut-formed : (h x : ℕ) (s : Forests) → FormedBut x exact s → heapOf s x ≡ suc h → parentOf s x ≢ none
+    → Formed ((cutOut h x s) .forests)
 unfolding cutOut cutWithin cut
 cutOut-formed h x s S hx px =
     let t : Forests = cut h x s in
     cascade-formed (suc (length (s .heap))) (standing t (parentOf s x)) h (parentOf s x) t refl
-    (record { disjoint = cut-disjoint s (S .disjoint) h x hx px; ordered = cut-ordered s (S .disjoint) h x hx px (S .ordered); ranked = cut-ranked s (S .disjoint) h x hx px (ranked-but s x (S .ranked)) })
+    (record {
+      disjoint = cut-disjoint s (S .disjoint) h x hx px;
+      ordered = cut-ordered s (S .disjoint) h x hx px
+          (S .ordered);
+      ranked = cut-ranked s (S .disjoint) h x hx px (ranked-but s x (S .ranked));
+    })
     (S .disjoint .up x (λ z. omega (arith, hx)) px .1 ∙ hx) (omega (arith, cut-marks h x s, marks-le s (S .disjoint)))

@@ -50,19 +50,22 @@ unfolding occurs occupied sumBy stand
 occurs-occupied z [] = refl
 occurs-occupied z (p ∷ ps) = go (eqb p none) (occurs-occupied z ps)
   where
-    go : (t : Bool) → occurs z (occupied ps) ≡ sumBy (stand z) ps → occurs z (cond t (occupied ps) (p ∷ occupied ps)) ≡ cond t 0 (delta z p) + sumBy (stand z) ps
+    go : (t : Bool) → occurs z (occupied ps) ≡ sumBy (stand z) ps
+        → occurs z (cond t (occupied ps) (p ∷ occupied ps)) ≡ cond t 0 (delta z p) + sumBy (stand z) ps
     go true e = omega arith
     go false e = omega arith
 
 -- a tree put at a free place, and one taken from its place
-occupied-put : (ps : List ℕ) (r x z : ℕ) → r < length ps → getD ps r none ≡ none → x ≢ none → occurs z (occupied (set ps r x)) ≡ occurs z (occupied ps) + delta z x
+occupied-put : (ps : List ℕ) (r x z : ℕ) → r < length ps → getD ps r none ≡ none → x ≢ none
+    → occurs z (occupied (set ps r x)) ≡ occurs z (occupied ps) + delta z x
 unfolding stand
 occupied-put ps r x z k e n =
     let a : stand z (getD ps r none) ≡ 0 = rw e in
     let b : stand z x ≡ delta z x = rw (ne-eqb x none n) in
     omega (arith, occurs-occupied z (set ps r x), occurs-occupied z ps, sumBy-set (stand z) ps r x none k)
 
-occupied-extract : (ps : List ℕ) (r z : ℕ) → r < length ps → getD ps r none ≢ none → occurs z (occupied (set ps r none)) + delta z (getD ps r none) ≡ occurs z (occupied ps)
+occupied-extract : (ps : List ℕ) (r z : ℕ) → r < length ps → getD ps r none ≢ none
+    → occurs z (occupied (set ps r none)) + delta z (getD ps r none) ≡ occurs z (occupied ps)
 unfolding stand
 occupied-extract ps r z k n =
     let b : stand z (getD ps r none) ≡ delta z (getD ps r none) = rw (ne-eqb (getD ps r none) none n) in
@@ -100,9 +103,12 @@ module _ (h : ℕ) (hh : h < 8) (ps rest : List ℕ) (x : ℕ) (s : Forests) (H 
   -- the tree comes to rest
   put : (r : ℕ) → rankOf s x ≡ r → getD ps r none ≡ none → Held h (set ps r x) rest s
   put r q e = record {
-    formed = anew s h ρ (H .formed) hh (occupied (set ps r x) ++ rest) (λ z. omega (arith, occurs-append z (occupied (set ps r x)) rest, occupied-put ps r x z r-in e x-some, occurs-ρ z));
+    formed = anew s h ρ (H .formed) hh (occupied (set ps r x) ++ rest)
+        (λ z. omega
+        (arith, occurs-append z (occupied (set ps r x)) rest, occupied-put ps r x z r-in e x-some, occurs-ρ z));
     long = length-set ps r x ∙ H .long;
-    rank = byItem r (λ _. rw (getD-set-same ps r x none r-in) q) (λ t n. rw (getD-set-other ps r t x none n) (H .rank t));
+    rank = byItem r (λ _. rw (getD-set-same ps r x none r-in) q)
+        (λ t n. rw (getD-set-other ps r t x none n) (H .rank t));
   }
     where
       r-in : r < length ps
@@ -122,23 +128,46 @@ module _ (h : ℕ) (hh : h < 8) (ps rest : List ℕ) (x : ℕ) (s : Forests) (H 
     y-apart : y ≢ x
     y-apart e = omega (arith, x-apart, occupied-extract ps r x r-in n, delta-self x, ap (delta x) e)
 
-    linked : (a l : ℕ) → 1 ≤ occurs a ρ → 1 ≤ occurs l ρ → a ≢ l → rankOf s a ≡ r → rankOf s l ≡ r → precedes (s .key) a l ≡ true
-        → ((z : ℕ) → delta z a + delta z l ≡ delta z x + delta z y) → Held h (set ps r none) (a ∷ rest) (link a l s) × (rankOf (link a l s) a ≡ suc r)
+    linked : (a l : ℕ) → 1 ≤ occurs a ρ → 1 ≤ occurs l ρ → a ≢ l → rankOf s a ≡ r → rankOf s l ≡ r
+        → precedes (s .key) a l ≡ true
+        → ((z : ℕ) → delta z a + delta z l ≡ delta z x + delta z y)
+        → Held h (set ps r none) (a ∷ rest) (link a l s) × (rankOf (link a l s) a ≡ suc r)
     unfolding link occurs sumBy
     linked a l ia il al ra rl o e = (
       record {
-        formed = link-formed s h ρ (H .formed) hh a l ia il al (ra ∙ sym rl) o (occupied (set ps r none) ++ (a ∷ rest))
-            (λ z. omega (arith, occurs-append z (occupied (set ps r none)) (a ∷ rest), occupied-extract ps r z r-in n, occurs-ρ z, e z));
+        formed = link-formed s h ρ (H .formed) hh a l ia il al (ra ∙ sym rl) o
+            (occupied (set ps r none) ++ (a ∷ rest))
+            (λ z. omega (
+              arith,
+              occurs-append z (occupied (set ps r none))
+                  (a ∷ rest),
+              occupied-extract ps r z r-in n,
+              occurs-ρ z,
+              e z,
+            ));
         long = length-set ps r none ∙ H .long;
         rank = byItem r (λ m. absurd (m (getD-set-same ps r none none r-in)))
-            (λ t m. rw (getD-set-other ps r t none none m) (λ u. rw (getD-set-other (s .children) a (getD ps t none) (childrenOf s a ++ (l ∷ [])) [] (λ z. m (sym (H .rank t u) ∙ rw z ra))) (H .rank t u)));
+            (λ t m. rw (getD-set-other ps r t none none m)
+            (λ u. rw (getD-set-other (s .children) a (getD ps t none) (childrenOf s a ++ (l ∷ [])) []
+            (λ z. m (sym (H .rank t u) ∙ rw z ra))) (H .rank t u)));
       },
-      rw (getD-set-same (s .children) a (childrenOf s a ++ (l ∷ [])) [] (omega (arith, H .formed .disjoint .childrenN, heap-in s a (λ z. omega (arith, in-row s h ρ (H .formed) hh a ia .0))))) (omega (arith, length-append (childrenOf s a) (l ∷ []), ra)),
+      rw (getD-set-same (s .children) a (childrenOf s a ++ (l ∷ [])) []
+          (omega (
+            arith,
+            H .formed .disjoint .childrenN,
+            heap-in s a
+                (λ z. omega (arith, in-row s h ρ (H .formed) hh a ia .0)),
+          )))
+          (omega (arith, length-append (childrenOf s a) (l ∷ []), ra)),
     )
 
-    met : (b : Bool) → precedes (s .key) y x ≡ b → Held h (set ps r none) (cond b y x ∷ rest) (link (cond b y x) (cond b x y) s) × (rankOf (link (cond b y x) (cond b x y) s) (cond b y x) ≡ suc r)
+    met : (b : Bool) → precedes (s .key) y x ≡ b
+        → Held h (set ps r none) (cond b y x ∷ rest) (link (cond b y x) (cond b x y) s) ×
+        (rankOf (link (cond b y x) (cond b x y) s) (cond b y x) ≡ suc r)
     met true e = linked y x y-in x-in y-apart (H .rank r n) q e (λ z. omega arith)
-    met false e = linked x y x-in y-in (λ z. y-apart (sym z)) q (H .rank r n) (precedes-total (s .key) y x y-apart e) (λ z. refl)
+    met false e =
+        linked x y x-in y-in (λ z. y-apart (sym z)) q (H .rank r n) (precedes-total (s .key) y x y-apart e)
+        (λ z. refl)
 
 climb-held : (d : ℕ) (f : Bool) (r x h : ℕ) (rest : List ℕ) (w : Linking) → h < 8 → isFree (w .places) r ≡ f
     → Held h (w .places) (x ∷ rest) (w .forests) → rankOf (w .forests) x ≡ r → 18 ≤ d + r
@@ -195,7 +224,8 @@ no-place (suc n) (suc r) = no-place n r
 
 start : (h : ℕ) (s : Forests) → h < 8 → Formed s → Held h (replicate 17 none) (rowOf s h) s
 unfolding occupied
-start h s hh S = record { formed = re-row s h (rowOf s h) S hh (λ z. refl); long = refl; rank = λ r n. absurd (n (no-place 17 r)) }
+start h s hh S =
+    record { formed = re-row s h (rowOf s h) S hh (λ z. refl); long = refl; rank = λ r n. absurd (n (no-place 17 r)) }
 
 linked-row : (d h : ℕ) (s : Forests) → Linking
 linked-row d h s = linkTrees d (rowOf s h) (record { places = replicate 17 none; links = 0; forests = s })
@@ -212,10 +242,12 @@ consolidate-formed h s hh S =
     anew (w .forests) h (occupied (w .places) ++ []) (linked-held h s hh S .formed) hh (occupied (w .places))
     (λ y. omega (arith, occurs-append y (occupied (w .places)) []))
 
-pub consolidate-bound : (h : ℕ) (s : Forests) → h < 8 → Formed s → (d : ℕ) → 18 ≤ d → consolidateWithin d h s ≡ consolidate h s
+pub consolidate-bound : (h : ℕ) (s : Forests) → h < 8 → Formed s → (d : ℕ) → 18 ≤ d
+    → consolidateWithin d h s ≡ consolidate h s
 unfolding consolidate consolidateWithin
 consolidate-bound h s hh S d k =
-    ap (λ (w : Linking). record { places = w .places; links = w .links; forests = setRow h (occupied (w .places)) (w .forests) })
+    ap (λ (w : Linking). record
+    { places = w .places; links = w .links; forests = setRow h (occupied (w .places)) (w .forests) })
     (linkTrees-bound d 18 (rowOf s h) h _ k (le-refl 18) hh (start h s hh S))
 
 -- ---- after linking the ranks rise strictly along the row
@@ -224,11 +256,13 @@ rising-down : (j : ℕ) (l : List ℕ) → Rising (suc j) l → Rising j l
 rising-down j [] t = tt
 rising-down j (r ∷ rs) t = (omega (arith, t .0), t .1)
 
-occupied-rising : (rank : ℕ → ℕ) (j : ℕ) (ps : List ℕ) → ((r : ℕ) → getD ps r none ≢ none → rank (getD ps r none) ≡ j + r)
+occupied-rising : (rank : ℕ → ℕ) (j : ℕ) (ps : List ℕ)
+    → ((r : ℕ) → getD ps r none ≢ none → rank (getD ps r none) ≡ j + r)
     → Rising j (map rank (occupied ps))
 unfolding occupied
 occupied-rising rank j [] f = tt
-occupied-rising rank j (p ∷ ps) f = go (eqb p none) refl (occupied-rising rank (suc j) ps (λ r n. f (suc r) n ∙ omega arith))
+occupied-rising rank j (p ∷ ps) f =
+    go (eqb p none) refl (occupied-rising rank (suc j) ps (λ r n. f (suc r) n ∙ omega arith))
   where
     go : (t : Bool) → eqb p none ≡ t → Rising (suc j) (map rank (occupied ps))
         → Rising j (map rank (cond t (occupied ps) (p ∷ occupied ps)))

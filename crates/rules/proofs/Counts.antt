@@ -85,7 +85,8 @@ count-meld s a b n =
   where
     One : ℕ → Type 0
     One g =
-        cond (eqb (suc (cond (eqb g b) a g)) (suc a)) 1 0 ≡ cond (eqb (suc g) (suc a)) 1 0 + cond (eqb (suc g) (suc b)) 1 0
+        cond (eqb (suc (cond (eqb g b) a g)) (suc a)) 1 0 ≡ cond (eqb (suc g) (suc a)) 1 0 + cond
+        (eqb (suc g) (suc b)) 1 0
 
     each : (x : ℕ) → at a (moveHeap a b x) ≡ at a x + at b x
     each zero = omega (arith, at-free a, at-free b)
@@ -132,7 +133,8 @@ items-entered s t h i S T j z e =
     let b : live (suc h) ≡ 1 = rw (ne-eqb (suc h) 0 (λ e. omega arith)) in
     omega (arith, items-live s S, items-live t T, ap (sumBy live) e, sumBy-set live (s .heap) i (suc h) 0 j)
 
-items-same : (s t : Forests) → Disjoint s → Disjoint t → sumBy live (t .heap) ≡ sumBy live (s .heap) → items t ≡ items s
+items-same : (s t : Forests) → Disjoint s → Disjoint t → sumBy live (t .heap) ≡ sumBy live (s .heap)
+    → items t ≡ items s
 items-same s t S T e = omega (arith, items-live s S, items-live t T)
 
 meld-live : (s : Forests) (a b : ℕ) → sumBy live (map (moveHeap a b) (s .heap)) ≡ sumBy live (s .heap)
@@ -154,13 +156,15 @@ perform-items s S c e = go c e (S .disjoint) (perform-kept s S c e .formed .disj
   where
     go : (c : Call) → refusal s c ≡ 0 → Disjoint s → Disjoint ((perform s c) .next)
         → items ((perform s c) .next) + removed c ≡ items s + inserted c
-    go (Insert h i k) e D T = let o = insert-ok s h i k e in omega (arith, items-entered s (insert h i k s) h i D T (o .1) (o .2) refl)
+    go (Insert h i k) e D T = let o =
+        insert-ok s h i k e in omega (arith, items-entered s (insert h i k s) h i D T (o .1) (o .2) refl)
     go (FindMin h) e D T = omega arith
     go (ExtractMin h) e D T =
         let x : ℕ = minimum s h in
         let r = row-root s D h x (extract-ok s h e) in
         omega (arith, items-left s ((extract h x s) .next) x D T (λ z. omega (arith, r .0)) (extract-heap h x s))
-    go (DecreaseKey i k) e D T = omega (arith, items-same s ((decreaseKey i k s) .next) D T (ap (sumBy live) (decrease-heap i k s)))
+    go (DecreaseKey i k) e D T =
+        omega (arith, items-same s ((decreaseKey i k s) .next) D T (ap (sumBy live) (decrease-heap i k s)))
     go (Delete i) e D T =
         let b : Bool = eqb (minimum s (heapNumber s i)) i in
         omega (arith, items-left s ((deleteAs b i s) .next) i D T (delete-ok s i e) (delete-heap b i s))

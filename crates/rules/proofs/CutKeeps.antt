@@ -74,20 +74,43 @@ module _ (s : Forests) (S : Disjoint s) (h x : ℕ) (hx : heapOf s x ≡ suc h) 
     small = S .small;
     heaps = S .heaps;
     inRow = byItem h
-        (byItem x (rw (row-h, parent-x, hx, eqb-self (suc h)) (omega (arith, occurs-append x (rowOf s h) (x ∷ []), occurs-one x x, delta-self x, x-row h)))
-        (λ y n. rw (row-h, getD-set-other) (omega (arith, occurs-append y (rowOf s h) (x ∷ []), occurs-one y x, delta-other y x (λ e. n (sym e)), S .inRow h y))))
-        (λ g m. byItem x (rw (getD-set-other (s .rows) h g, hx, ne-eqb (suc h) (suc g) (λ e. m (omega arith))) (x-row g))
+        (byItem x
+        (rw (row-h, parent-x, hx, eqb-self (suc h))
+        (omega (arith, occurs-append x (rowOf s h) (x ∷ []), occurs-one x x, delta-self x, x-row h)))
+        (λ y n. rw (row-h, getD-set-other)
+        (omega (
+          arith,
+          occurs-append y (rowOf s h) (x ∷ []),
+          occurs-one y x,
+          delta-other y x
+              (λ e. n (sym e)),
+          S .inRow h y,
+        ))))
+        (λ g m. byItem x
+        (rw (getD-set-other (s .rows) h g, hx, ne-eqb (suc h) (suc g) (λ e. m (omega arith))) (x-row g))
         (λ y n. rw (getD-set-other (s .rows) h g, getD-set-other (s .parent) x y) (S .inRow g y)));
     inChildren = byItem p
-        (byItem x (λ k. rw (children-p, parent-x, ne-eqb none p (not-none s S p k), and-false) (omega (arith, occurs-without x x (childrenOf s p) (omega (arith, x-child)), delta-self x, x-child)))
-        (λ y n k. rw (children-p, getD-set-other (s .parent) x y) (omega (arith, occurs-without y x (childrenOf s p) (omega (arith, x-child)), delta-other y x (λ e. n (sym e)), S .inChildren p y k))))
-        (λ q m. byItem x (λ k. rw (getD-set-other (s .children) p q, parent-x, ne-eqb none q (not-none s S q k), and-false)
+        (byItem x
+        (λ k. rw (children-p, parent-x, ne-eqb none p (not-none s S p k), and-false)
+        (omega (arith, occurs-without x x (childrenOf s p) (omega (arith, x-child)), delta-self x, x-child)))
+        (λ y n k. rw (children-p, getD-set-other (s .parent) x y)
+        (omega (
+          arith,
+          occurs-without y x (childrenOf s p) (omega (arith, x-child)),
+          delta-other y x
+              (λ e. n (sym e)),
+          S .inChildren p y k,
+        ))))
+        (λ q m. byItem x
+        (λ k. rw (getD-set-other (s .children) p q, parent-x, ne-eqb none q (not-none s S q k), and-false)
         (S .inChildren q x k ∙ rw (ne-eqb p q (λ e. m (sym e)), and-false)))
         (λ y n. rw (getD-set-other (s .children) p q, getD-set-other (s .parent) x y) (S .inChildren q y)));
     up = byItem x (λ l n. absurd (n parent-x)) (λ y n. rw (getD-set-other (s .parent) x y) (S .up y));
-    free = byItem x (λ e. absurd (live e)) (λ y n. rw (getD-set-other (s .parent) x y, getD-set-other (s .mark) x y) (S .free y));
+    free = byItem x (λ e. absurd (live e))
+        (λ y n. rw (getD-set-other (s .parent) x y, getD-set-other (s .mark) x y) (S .free y));
     bit = byItem x (rw mark-x zero-le) (λ y n. rw (getD-set-other (s .mark) x y) (S .bit y));
-    bare = byItem x (λ e. mark-x) (λ y n. rw (getD-set-other (s .parent) x y, getD-set-other (s .mark) x y) (S .bare y));
+    bare = byItem x (λ e. mark-x)
+        (λ y n. rw (getD-set-other (s .parent) x y, getD-set-other (s .mark) x y) (S .bare y));
   }
 
   pub cut-ordered : OrderedBut x s → OrderedBut none (cut h x s)
@@ -95,11 +118,20 @@ module _ (s : Forests) (S : Disjoint s) (h x : ℕ) (hx : heapOf s x ≡ suc h) 
   cut-ordered O = byItem x (λ a l n. absurd (n parent-x)) (λ y n a. rw (getD-set-other (s .parent) x y) (O y n))
 
   -- what a child other than x shows does not fall, but for p, which lost a child
-  fair : (c : ℕ) → c ≢ x → length (childrenOf s c) + markOf s c + delta x c ≤ rankOf (cut h x s) c + markOf (cut h x s) c + delta p c
+  fair : (c : ℕ) → c ≢ x
+      → length (childrenOf s c) + markOf s c + delta x c ≤ rankOf (cut h x s) c + markOf (cut h x s) c + delta p c
   unfolding cut
   fair = byItem p
-      (λ n. rw (children-p, getD-set-other (s .mark) x p) (omega (arith, length-without x (childrenOf s p) (omega (arith, x-child)), delta-self p, delta-other x p n)))
-      (λ c m n. rw (getD-set-other (s .children) p c, getD-set-other (s .mark) x c) (omega (arith, delta-other x c n)))
+      (λ n. rw (children-p, getD-set-other (s .mark) x p)
+      (omega (
+        arith,
+        length-without x (childrenOf s p)
+            (omega (arith, x-child)),
+        delta-self p,
+        delta-other x p n,
+      )))
+      (λ c m n. rw (getD-set-other (s .children) p c, getD-set-other (s .mark) x c)
+      (omega (arith, delta-other x c n)))
 
   -- x is no child now
   gone : (q : ℕ) → q < length (s .heap) → occurs x (childrenOf (cut h x s) q) ≡ 0
@@ -108,8 +140,13 @@ module _ (s : Forests) (S : Disjoint s) (h x : ℕ) (hx : heapOf s x ≡ suc h) 
 
   pub cut-ranked : RankedBut (delta x) s → RankedBut (delta p) (cut h x s)
   unfolding RankedBut cut
-  cut-ranked K = λ q k. ranks-mono (delta x) (delta p) (s .children) (cut h x s .children) (s .mark) (cut h x s .mark) 0 (childrenOf (cut h x s) q)
+  cut-ranked K =
+      λ q k. ranks-mono (delta x) (delta p) (s .children) (cut h x s .children) (s .mark) (cut h x s .mark) 0
+      (childrenOf (cut h x s) q)
       (λ c i. fair c (λ e. omega (arith, gone q k, ap (λ z. occurs z (childrenOf (cut h x s) q)) e))) (left q k)
     where
-      left : (q : ℕ) → q < length (s .heap) → ChildRanksBut (delta x) (s .children) (s .mark) 0 (childrenOf (cut h x s) q)
-      left = byItem p (λ k. rw children-p (ranks-without (delta x) (s .children) (s .mark) x 0 (childrenOf s p) (K p k))) (λ q m. rw (getD-set-other (s .children) p q) (K q))
+      left : (q : ℕ) → q < length (s .heap)
+          → ChildRanksBut (delta x) (s .children) (s .mark) 0 (childrenOf (cut h x s) q)
+      left = byItem p
+          (λ k. rw children-p (ranks-without (delta x) (s .children) (s .mark) x 0 (childrenOf s p) (K p k)))
+          (λ q m. rw (getD-set-other (s .children) p q) (K q))

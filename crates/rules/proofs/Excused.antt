@@ -43,39 +43,49 @@ Formed s = FormedBut none exact s
 
 -- the children's ranks and marks may change, so long as what each child shows does not fall
 pub ranks-mono : (σ τ : ℕ → ℕ) (ks ks′ : List (List ℕ)) (ms ms′ : List ℕ) (j : ℕ) (l : List ℕ)
-    → ((c : ℕ) → 1 ≤ occurs c l → length (getD ks c []) + getD ms c 0 + σ c ≤ length (getD ks′ c []) + getD ms′ c 0 + τ c)
+    → ((c : ℕ) → 1 ≤ occurs c l
+    → length (getD ks c []) + getD ms c 0 + σ c ≤ length (getD ks′ c []) + getD ms′ c 0 + τ c)
     → ChildRanksBut σ ks ms j l → ChildRanksBut τ ks′ ms′ j l
 unfolding occurs sumBy
 ranks-mono σ τ ks ks′ ms ms′ j [] h t = tt
-ranks-mono σ τ ks ks′ ms ms′ j (c ∷ cs) h t =
-    (omega (arith, t .0, h c (omega (arith, delta-self c))), ranks-mono σ τ ks ks′ ms ms′ (suc j) cs (λ d k. h d (omega arith)) (t .1))
+ranks-mono σ τ ks ks′ ms ms′ j (c ∷ cs) h t = (
+  omega (arith, t .0, h c (omega (arith, delta-self c))),
+  ranks-mono σ τ ks ks′ ms ms′ (suc j) cs
+      (λ d k. h d (omega arith)) (t .1),
+)
 
 -- a place nearer asks less
-pub ranks-down : (σ : ℕ → ℕ) (ks : List (List ℕ)) (ms : List ℕ) (j : ℕ) (l : List ℕ) → ChildRanksBut σ ks ms (suc j) l → ChildRanksBut σ ks ms j l
+pub ranks-down : (σ : ℕ → ℕ) (ks : List (List ℕ)) (ms : List ℕ) (j : ℕ) (l : List ℕ)
+    → ChildRanksBut σ ks ms (suc j) l → ChildRanksBut σ ks ms j l
 ranks-down σ ks ms j [] t = tt
 ranks-down σ ks ms j (c ∷ cs) t = (omega (arith, t .0), ranks-down σ ks ms (suc j) cs (t .1))
 
-pub ranks-without : (σ : ℕ → ℕ) (ks : List (List ℕ)) (ms : List ℕ) (x j : ℕ) (l : List ℕ) → ChildRanksBut σ ks ms j l → ChildRanksBut σ ks ms j (without x l)
+pub ranks-without : (σ : ℕ → ℕ) (ks : List (List ℕ)) (ms : List ℕ) (x j : ℕ) (l : List ℕ)
+    → ChildRanksBut σ ks ms j l → ChildRanksBut σ ks ms j (without x l)
 unfolding without
 ranks-without σ ks ms x j [] t = tt
 ranks-without σ ks ms x j (c ∷ cs) t = go (eqb c x) (ranks-without σ ks ms x (suc j) cs (t .1))
   where
-    go : (b : Bool) → ChildRanksBut σ ks ms (suc j) (without x cs) → ChildRanksBut σ ks ms j (cond b cs (c ∷ without x cs))
+    go : (b : Bool) → ChildRanksBut σ ks ms (suc j) (without x cs)
+        → ChildRanksBut σ ks ms j (cond b cs (c ∷ without x cs))
     go true u = ranks-down σ ks ms j cs (t .1)
     go false u = (t .0, u)
 
-pub ranks-snoc : (σ : ℕ → ℕ) (ks : List (List ℕ)) (ms : List ℕ) (j : ℕ) (l : List ℕ) (x : ℕ) → ChildRanksBut σ ks ms j l
+pub ranks-snoc : (σ : ℕ → ℕ) (ks : List (List ℕ)) (ms : List ℕ) (j : ℕ) (l : List ℕ) (x : ℕ)
+    → ChildRanksBut σ ks ms j l
     → j + length l ≤ length (getD ks x []) + getD ms x 0 + σ x → ChildRanksBut σ ks ms j (l ++ (x ∷ []))
 ranks-snoc σ ks ms j [] x t h = (omega arith, tt)
 ranks-snoc σ ks ms j (c ∷ cs) x t h = (t .0, ranks-snoc σ ks ms (suc j) cs x (t .1) (omega arith))
 
 -- ---- without excuses it is the rule of specs/
 
-ranks-exact : (cs : List (List ℕ)) (ms : List ℕ) (j : ℕ) (l : List ℕ) → ChildRanks cs ms j l → ChildRanksBut exact cs ms j l
+ranks-exact : (cs : List (List ℕ)) (ms : List ℕ) (j : ℕ) (l : List ℕ) → ChildRanks cs ms j l
+    → ChildRanksBut exact cs ms j l
 ranks-exact cs ms j [] t = tt
 ranks-exact cs ms j (c ∷ l) t = (omega (arith, t .0), ranks-exact cs ms (suc j) l (t .1))
 
-exact-ranks : (cs : List (List ℕ)) (ms : List ℕ) (j : ℕ) (l : List ℕ) → ChildRanksBut exact cs ms j l → ChildRanks cs ms j l
+exact-ranks : (cs : List (List ℕ)) (ms : List ℕ) (j : ℕ) (l : List ℕ) → ChildRanksBut exact cs ms j l
+    → ChildRanks cs ms j l
 exact-ranks cs ms j [] t = tt
 exact-ranks cs ms j (c ∷ l) t = (omega (arith, t .0), exact-ranks cs ms (suc j) l (t .1))
 

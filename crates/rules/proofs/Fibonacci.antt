@@ -38,31 +38,37 @@ F-mono a (suc b) h = go (leb a b) refl (F-mono a b)
     go true e ih = le-trans (ih (leb-true a b e)) (F-step b)
     go false e ih = let q : a ≡ suc b = omega (arith, leb-false a b e) in rw q (le-refl _)
 
-lastFrom-is : (d k a b n : ℕ) → a ≡ F (suc (suc k)) → b ≡ F (suc (suc (suc k))) → a ≤ n → F (suc (suc (lastFrom d k a b n))) ≤ n
+lastFrom-is : (d k a b n : ℕ) → a ≡ F (suc (suc k)) → b ≡ F (suc (suc (suc k))) → a ≤ n
+    → F (suc (suc (lastFrom d k a b n))) ≤ n
 unfolding lastFrom
 lastFrom-is zero k a b n p q h = rw (← p) h
 lastFrom-is (suc d) k a b n p q h = go (leb b n) refl (lastFrom-is d (suc k) b (a + b) n)
   where
     go : (t : Bool) → leb b n ≡ t
-        → (b ≡ F (suc (suc (suc k))) → a + b ≡ F (suc (suc (suc (suc k)))) → b ≤ n → F (suc (suc (lastFrom d (suc k) b (a + b) n))) ≤ n)
+        → (b ≡ F (suc (suc (suc k))) → a + b ≡ F (suc (suc (suc (suc k)))) → b ≤ n
+        → F (suc (suc (lastFrom d (suc k) b (a + b) n))) ≤ n)
         → F (suc (suc (elim t [ true ↦ lastFrom d (suc k) b (a + b) n | false ↦ k ]))) ≤ n
     go true e ih = ih q (rw F-rec (cc)) (leb-true b n e)
     go false e ih = rw (← p) h
 
-lastFrom-max : (d k a b n j : ℕ) → a ≡ F (suc (suc k)) → b ≡ F (suc (suc (suc k))) → F (suc (suc j)) ≤ n → j ≤ k + d → j ≤ lastFrom d k a b n
+lastFrom-max : (d k a b n j : ℕ) → a ≡ F (suc (suc k)) → b ≡ F (suc (suc (suc k))) → F (suc (suc j)) ≤ n → j ≤ k + d
+    → j ≤ lastFrom d k a b n
 unfolding lastFrom
 lastFrom-max zero k a b n j p q f h = omega arith
 lastFrom-max (suc d) k a b n j p q f h = go (leb b n) refl (lastFrom-max d (suc k) b (a + b) n j)
   where
     go : (t : Bool) → leb b n ≡ t
-        → (b ≡ F (suc (suc (suc k))) → a + b ≡ F (suc (suc (suc (suc k)))) → F (suc (suc j)) ≤ n → j ≤ suc k + d → j ≤ lastFrom d (suc k) b (a + b) n)
+        → (b ≡ F (suc (suc (suc k))) → a + b ≡ F (suc (suc (suc (suc k)))) → F (suc (suc j)) ≤ n → j ≤ suc k + d
+        → j ≤ lastFrom d (suc k) b (a + b) n)
         → j ≤ elim t [ true ↦ lastFrom d (suc k) b (a + b) n | false ↦ k ]
     go true e ih = ih q (rw F-rec (cc)) f (omega arith)
     go false e ih = low (leb j k) refl
       where
         low : (t : Bool) → leb j k ≡ t → j ≤ k
         low true u = leb-true j k u
-        low false u = absurd (omega (arith, leb-false b n e, F-mono (suc (suc (suc k))) (suc (suc j)) (omega (arith, leb-false j k u))))
+        low false u =
+            absurd (omega
+            (arith, leb-false b n e, F-mono (suc (suc (suc k))) (suc (suc j)) (omega (arith, leb-false j k u))))
 
 -- R n is the largest k with F (k + 2) ≤ n
 pub R-is : (n : ℕ) → 1 ≤ n → F (suc (suc (R n))) ≤ n

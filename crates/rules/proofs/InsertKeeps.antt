@@ -25,7 +25,8 @@ use Rattle.rules.proofs.Occurs.{
 }
 use Rattle.rules.proofs.Order.{precedes-other}
 
-module _ (s : Forests) (S : Disjoint s) (h i k : ℕ) (hh : h < 8) (i-in : i < length (s .heap)) (fr : heapOf s i ≡ 0) where
+module _ (s : Forests) (S : Disjoint s) (h i k : ℕ) (hh : h < 8) (i-in : i < length (s .heap))
+    (fr : heapOf s i ≡ 0) where
   row-h : (r : List ℕ) → getD (set (s .rows) h r) h [] ≡ r
   row-h r = getD-set-same (s .rows) h r [] (omega (arith, S .rows8))
 
@@ -59,15 +60,29 @@ module _ (s : Forests) (S : Disjoint s) (h i k : ℕ) (hh : h < 8) (i-in : i < l
     small = simp length-set (S .small);
     heaps = byItem i (rw heap-i hh) (λ y n. rw (heap-o y n) (S .heaps y));
     inRow = byItem h
-        (byItem i (rw (row-h, heap-i, parent-i, eqb-self (suc h)) (omega (arith, occurs-append i (rowOf s h) (i ∷ []), occurs-one i i, delta-self i, i-row h)))
-        (λ y n. rw (row-h, heap-o y n, parent-o y n) (omega (arith, occurs-append y (rowOf s h) (i ∷ []), occurs-one y i, delta-other y i (λ e. n (sym e)), S .inRow h y))))
-        (λ g m. byItem i (rw (getD-set-other (s .rows) h g, heap-i, ne-eqb (suc h) (suc g) (λ z. m (omega arith))) (i-row g))
+        (byItem i
+        (rw (row-h, heap-i, parent-i, eqb-self (suc h))
+        (omega (arith, occurs-append i (rowOf s h) (i ∷ []), occurs-one i i, delta-self i, i-row h)))
+        (λ y n. rw (row-h, heap-o y n, parent-o y n)
+        (omega (
+          arith,
+          occurs-append y (rowOf s h) (i ∷ []),
+          occurs-one y i,
+          delta-other y i
+              (λ e. n (sym e)),
+          S .inRow h y,
+        ))))
+        (λ g m. byItem i
+        (rw (getD-set-other (s .rows) h g, heap-i, ne-eqb (suc h) (suc g) (λ z. m (omega arith))) (i-row g))
         (λ y n. rw (getD-set-other (s .rows) h g, heap-o y n, parent-o y n) (S .inRow g y)));
     inChildren = rw (length-set (s .heap) i (suc h)) (λ q. byItem i
         (λ j. rw (parent-i, ne-eqb none q (not-none s S q j), and-false) (S .inChildren q i j ∙ rw fr))
         (λ y n. rw (heap-o y n, parent-o y n) (S .inChildren q y)));
-    up = byItem i (λ l m. absurd (m parent-i)) (λ y n. rw (heap-o y n, parent-o y n, length-set) (λ l m. (S .up y l m .0, rw (heap-o (parentOf s y) (no-child y l m)) (S .up y l m .1))));
-    free = byItem i (λ e. absurd (omega (arith, heap-i, e))) (λ y n. rw (heap-o y n, parent-o y n, getD-set-other (s .key) i y) (S .free y));
+    up = byItem i (λ l m. absurd (m parent-i))
+        (λ y n. rw (heap-o y n, parent-o y n, length-set)
+        (λ l m. (S .up y l m .0, rw (heap-o (parentOf s y) (no-child y l m)) (S .up y l m .1))));
+    free = byItem i (λ e. absurd (omega (arith, heap-i, e)))
+        (λ y n. rw (heap-o y n, parent-o y n, getD-set-other (s .key) i y) (S .free y));
     bit = S .bit;
     bare = byItem i (λ e. S .free i fr .2) (λ y n. rw (parent-o y n) (S .bare y));
   }
@@ -75,8 +90,15 @@ module _ (s : Forests) (S : Disjoint s) (h i k : ℕ) (hh : h < 8) (i-in : i < l
   insert-ordered : OrderedBut none s → OrderedBut none (insert h i k s)
   unfolding OrderedBut insert
   insert-ordered O = byItem i (λ a l m. absurd (m parent-i))
-      (λ y n a. rw (heap-o y n, parent-o y n) (λ l m. rw (precedes-other (s .key) i k (parentOf s y) y (no-child y l m) n) (O y a l m)))
+      (λ y n a. rw (heap-o y n, parent-o y n)
+      (λ l m. rw (precedes-other (s .key) i k (parentOf s y) y (no-child y l m) n) (O y a l m)))
 
   pub insert-formed : OrderedBut none s → RankedBut exact s → Formed (insert h i k s)
   unfolding RankedBut insert
-  insert-formed O K = record { disjoint = insert-disjoint; ordered = insert-ordered O; ranked = rw (length-set (s .heap) i (suc h)) K }
+  insert-formed O K =
+      record {
+        disjoint = insert-disjoint;
+        ordered = insert-ordered O;
+        ranked = rw (length-set (s .heap) i (suc h))
+            K;
+      }

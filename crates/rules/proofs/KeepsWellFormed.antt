@@ -34,14 +34,16 @@ keys-set s i k l K f e x = rw e (go (ltb i (length (s .key))) refl)
         (rw (getD-set-same (s .key) i k 0 (ltb-true _ _ q)) f) (λ y n. rw (getD-set-other (s .key) i y k 0 n) (K y)) x
     go false q = rw (set-out (s .key) i k (ltb-false _ _ q)) (K x)
 
-perform-keys : (s : Forests) → KeysFit s → (c : Call) → refusal s c ≡ 0 → InRange (Yields c) → KeysFit ((perform s c) .next)
+perform-keys : (s : Forests) → KeysFit s → (c : Call) → refusal s c ≡ 0 → InRange (Yields c)
+    → KeysFit ((perform s c) .next)
 unfolding KeysFit InRange perform insert meld delete
 perform-keys s K (Insert h i k) e f = keys-set s i k (set (s .key) i k) K f refl
 perform-keys s K (FindMin h) e f = K
 perform-keys s K (ExtractMin h) e f = keys-set s (minimum s h) 0 _ K (omega arith) (extract-key h (minimum s h) s)
 perform-keys s K (DecreaseKey i k) e f =
     keys-set s i k _ K (omega (arith, decrease-ok s i k e .1, K i)) (decrease-key i k s)
-perform-keys s K (Delete i) e f = keys-set s i 0 _ K (omega arith) (delete-key (eqb (minimum s (heapNumber s i)) i) i s)
+perform-keys s K (Delete i) e f =
+    keys-set s i 0 _ K (omega arith) (delete-key (eqb (minimum s (heapNumber s i)) i) i s)
 perform-keys s K (Meld a b) e f = K
 
 pub keepsWellFormed : KeepsWellFormed
@@ -63,7 +65,8 @@ perform-size s (Insert h i k) = length-set (s .heap) i (suc h)
 perform-size s (FindMin h) = refl
 perform-size s (ExtractMin h) = ap length (extract-heap h (minimum s h) s) ∙ length-set (s .heap) (minimum s h) 0
 perform-size s (DecreaseKey i k) = ap length (decrease-heap i k s)
-perform-size s (Delete i) = ap length (delete-heap (eqb (minimum s (heapNumber s i)) i) i s) ∙ length-set (s .heap) i 0
+perform-size s (Delete i) =
+    ap length (delete-heap (eqb (minimum s (heapNumber s i)) i) i s) ∙ length-set (s .heap) i 0
 perform-size s (Meld a b) = length-map (s .heap) (moveHeap a b)
 
 pub keepsTableSize : KeepsTableSize

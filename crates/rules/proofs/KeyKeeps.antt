@@ -40,10 +40,12 @@ module _ (s : Forests) (S : Disjoint s) (i k : ℕ) (li : heapOf s i ≢ 0) (low
   unfolding OrderedBut
   key-ordered O = λ y n l m. byParent y n (O y (λ e. not-none s S y (heap-in s y l) (sym e)) l m) (parentOf s y) refl
     where
-      byParent : (y : ℕ) → y ≢ i → precedes (s .key) (parentOf s y) y ≡ true → (p : ℕ) → parentOf s y ≡ p → precedes (set (s .key) i k) p y ≡ true
+      byParent : (y : ℕ) → y ≢ i → precedes (s .key) (parentOf s y) y ≡ true → (p : ℕ) → parentOf s y ≡ p
+          → precedes (set (s .key) i k) p y ≡ true
       byParent y n b = byItem i
           (λ e. let f = is-precedes (s .key) i y (rw e at b) in
-          precedes-is (set (s .key) i k) i y (rw (key-i, getD-set-other (s .key) i y) (omega (arith, f .0))) (rw (key-i, getD-set-other (s .key) i y) (λ z. f .1 (omega (arith, f .0)))))
+          precedes-is (set (s .key) i k) i y (rw (key-i, getD-set-other (s .key) i y) (omega (arith, f .0)))
+          (rw (key-i, getD-set-other (s .key) i y) (λ z. f .1 (omega (arith, f .0)))))
           (λ p m e. rw (precedes-other (s .key) i k p y m n) (rw e at b))
 
   pub key-formed : OrderedBut none s → RankedBut exact s → FormedBut i exact (setKey i k s)

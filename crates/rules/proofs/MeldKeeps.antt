@@ -37,18 +37,26 @@ module _ (s : Forests) (S : Disjoint s) (a b : ℕ) (aa : a < 8) (bb : b < 8) (a
 
   -- no home is b's now; a's are those of both; the others stay
   heap-b : (v : ℕ) → eqb (moveHeap a b v) (suc b) ≡ false
-  heap-b = byItem (suc b) (rw move-b (ne-eqb (suc a) (suc b) (λ e. ab (omega arith)))) (λ v n. rw (move-o a b v n) (ne-eqb v (suc b) n))
+  heap-b = byItem (suc b) (rw move-b (ne-eqb (suc a) (suc b) (λ e. ab (omega arith))))
+      (λ v n. rw (move-o a b v n) (ne-eqb v (suc b) n))
 
-  heap-a : (v : ℕ) (r : Bool) → indicator (eqb v (suc a) && r) + indicator (eqb v (suc b) && r) ≡ indicator (eqb (moveHeap a b v) (suc a) && r)
-  heap-a = byItem (suc b) (λ r. rw (move-b, ne-eqb (suc b) (suc a) (λ e. ab (omega arith)), eqb-self (suc b), eqb-self (suc a)) (omega arith))
+  heap-a : (v : ℕ) (r : Bool)
+      → indicator (eqb v (suc a) && r) + indicator (eqb v (suc b) && r) ≡ indicator
+      (eqb (moveHeap a b v) (suc a) && r)
+  heap-a = byItem (suc b)
+      (λ r. rw (move-b, ne-eqb (suc b) (suc a) (λ e. ab (omega arith)), eqb-self (suc b), eqb-self (suc a))
+      (omega arith))
       (λ v n r. rw (move-o a b v n, ne-eqb v (suc b) n) (omega arith))
 
   heap-g : (g : ℕ) → g ≢ a → g ≢ b → (v : ℕ) → eqb (moveHeap a b v) (suc g) ≡ eqb v (suc g)
-  heap-g g m n = byItem (suc b) (rw (move-b, ne-eqb (suc a) (suc g) (λ e. m (omega arith)), ne-eqb (suc b) (suc g) (λ e. n (omega arith))))
+  heap-g g m n =
+      byItem (suc b)
+      (rw (move-b, ne-eqb (suc a) (suc g) (λ e. m (omega arith)), ne-eqb (suc b) (suc g) (λ e. n (omega arith))))
       (λ v k. rw (move-o a b v k))
 
   heap-0 : (v : ℕ) → eqb (moveHeap a b v) 0 ≡ eqb v 0
-  heap-0 = byItem (suc b) (rw (move-b, ne-eqb (suc a) 0 (λ e. omega arith), ne-eqb (suc b) 0 (λ e. omega arith))) (λ v n. rw (move-o a b v n))
+  heap-0 = byItem (suc b) (rw (move-b, ne-eqb (suc a) 0 (λ e. omega arith), ne-eqb (suc b) 0 (λ e. omega arith)))
+      (λ v n. rw (move-o a b v n))
 
   stays : (y : ℕ) → heapOf s y ≡ 0 → moveHeap a b (heapOf s y) ≡ 0
   unfolding moveHeap
@@ -58,13 +66,16 @@ module _ (s : Forests) (S : Disjoint s) (a b : ℕ) (aa : a < 8) (bb : b < 8) (a
   heap-le = byItem (suc b) (λ _. rw move-b aa) (λ v n k. rw (move-o a b v n) k)
 
   row-b : getD (set (set (s .rows) a (rowOf s a ++ rowOf s b)) b []) b [] ≡ []
-  row-b = getD-set-same (set (s .rows) a (rowOf s a ++ rowOf s b)) b [] [] (omega (arith, length-set (s .rows) a (rowOf s a ++ rowOf s b), S .rows8))
+  row-b = getD-set-same (set (s .rows) a (rowOf s a ++ rowOf s b)) b [] []
+      (omega (arith, length-set (s .rows) a (rowOf s a ++ rowOf s b), S .rows8))
 
   absent : (y : ℕ) → occurs y [] ≡ 0
   unfolding occurs sumBy
   absent y = refl
 
-  meld-row : (g : ℕ) → g ≢ b → (y : ℕ) → occurs y (getD (set (s .rows) a (rowOf s a ++ rowOf s b)) g []) ≡ indicator (eqb (moveHeap a b (heapOf s y)) (suc g) && eqb (parentOf s y) none)
+  meld-row : (g : ℕ) → g ≢ b → (y : ℕ)
+      → occurs y (getD (set (s .rows) a (rowOf s a ++ rowOf s b)) g []) ≡ indicator
+      (eqb (moveHeap a b (heapOf s y)) (suc g) && eqb (parentOf s y) none)
   meld-row = byItem a
       (λ n y. rw (getD-set-same (s .rows) a (rowOf s a ++ rowOf s b) [] (omega (arith, S .rows8)), ← heap-a)
       (omega (arith, occurs-append y (rowOf s a) (rowOf s b), S .inRow a y, S .inRow b y)))
@@ -80,9 +91,11 @@ module _ (s : Forests) (S : Disjoint s) (a b : ℕ) (aa : a < 8) (bb : b < 8) (a
     markN = simp length-map (S .markN);
     small = simp length-map (S .small);
     heaps = λ y. rw (heap-t y) (heap-le (heapOf s y) (S .heaps y));
-    inRow = byItem b (λ y. rw (heap-t y, heap-b, row-b) (absent y)) (λ g n y. rw (heap-t y, getD-set-other (set (s .rows) a (rowOf s a ++ rowOf s b)) b g) (meld-row g n y));
+    inRow = byItem b (λ y. rw (heap-t y, heap-b, row-b) (absent y))
+        (λ g n y. rw (heap-t y, getD-set-other (set (s .rows) a (rowOf s a ++ rowOf s b)) b g) (meld-row g n y));
     inChildren = λ q y. rw (length-map (s .heap) (moveHeap a b), heap-t y, heap-0) (S .inChildren q y);
-    up = λ y. rw (heap-t y, length-map (s .heap) (moveHeap a b)) (λ l m. let u = S .up y (λ e. l (stays y e)) m in (u .0, heap-t (parentOf s y) ∙ ap (moveHeap a b) (u .1)));
+    up = λ y. rw (heap-t y, length-map (s .heap) (moveHeap a b))
+        (λ l m. let u = S .up y (λ e. l (stays y e)) m in (u .0, heap-t (parentOf s y) ∙ ap (moveHeap a b) (u .1)));
     free = λ y. rw (heap-t y) (λ e. S .free y (move-back a b (heapOf s y) e));
     bit = S .bit;
     bare = S .bare;

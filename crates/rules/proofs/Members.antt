@@ -38,24 +38,29 @@ not-true true e = sym e
 not-true false e = refl
 
 -- who stands in a row or among children
-pub row-root : (s : Forests) → Disjoint s → (h x : ℕ) → 1 ≤ occurs x (rowOf s h) → (heapOf s x ≡ suc h) × (parentOf s x ≡ none)
+pub row-root : (s : Forests) → Disjoint s → (h x : ℕ) → 1 ≤ occurs x (rowOf s h)
+    → (heapOf s x ≡ suc h) × (parentOf s x ≡ none)
 row-root s S h x k =
     let b = both (eqb (heapOf s x) (suc h)) (eqb (parentOf s x) none) (rw (S .inRow h x) at k) in
     (eqb-true (heapOf s x) (suc h) (b .0), eqb-true (parentOf s x) none (b .1))
 
-pub child-parent : (s : Forests) → Disjoint s → (q c : ℕ) → q < length (s .heap) → 1 ≤ occurs c (childrenOf s q) → (heapOf s c ≢ 0) × (parentOf s c ≡ q)
+pub child-parent : (s : Forests) → Disjoint s → (q c : ℕ) → q < length (s .heap) → 1 ≤ occurs c (childrenOf s q)
+    → (heapOf s c ≢ 0) × (parentOf s c ≡ q)
 child-parent s S q c j k =
     let b = both (not (eqb (heapOf s c) 0)) (eqb (parentOf s c) q) (rw (S .inChildren q c j) at k) in
     (eqb-false (heapOf s c) 0 (not-true (eqb (heapOf s c) 0) (b .0)), eqb-true (parentOf s c) q (b .1))
 
-pub root-row : (s : Forests) → Disjoint s → (h x : ℕ) → heapOf s x ≡ suc h → parentOf s x ≡ none → occurs x (rowOf s h) ≡ 1
+pub root-row : (s : Forests) → Disjoint s → (h x : ℕ) → heapOf s x ≡ suc h → parentOf s x ≡ none
+    → occurs x (rowOf s h) ≡ 1
 root-row s S h x a b = S .inRow h x ∙ rw (a, b, eqb-self (suc h))
 
-pub parent-child : (s : Forests) → Disjoint s → (q c : ℕ) → q < length (s .heap) → heapOf s c ≢ 0 → parentOf s c ≡ q → occurs c (childrenOf s q) ≡ 1
+pub parent-child : (s : Forests) → Disjoint s → (q c : ℕ) → q < length (s .heap) → heapOf s c ≢ 0 → parentOf s c ≡ q
+    → occurs c (childrenOf s q) ≡ 1
 parent-child s S q c j a b = S .inChildren q c j ∙ rw (b, ne-eqb (heapOf s c) 0 a, eqb-self q)
 
 -- a root is nobody's child
-pub root-child : (s : Forests) → Disjoint s → (q x : ℕ) → q < length (s .heap) → parentOf s x ≡ none → occurs x (childrenOf s q) ≡ 0
+pub root-child : (s : Forests) → Disjoint s → (q x : ℕ) → q < length (s .heap) → parentOf s x ≡ none
+    → occurs x (childrenOf s q) ≡ 0
 root-child s S q x j e = S .inChildren q x j ∙ rw (e, ne-eqb none q (not-none s S q j), and-false)
 
 -- a free item has no children: it need not be said

@@ -26,13 +26,16 @@ leastOf-in key x [] = omega (arith, delta-self x)
 leastOf-in key x (y ∷ ys) = go (precedes key y x) (leastOf-in key (cond (precedes key y x) y x) ys)
   where
     go : (b : Bool) → 1 ≤ delta (leastOf key (cond b y x) ys) (cond b y x) + occurs (leastOf key (cond b y x) ys) ys
-        → 1 ≤ delta (leastOf key (cond b y x) ys) x + (delta (leastOf key (cond b y x) ys) y + occurs (leastOf key (cond b y x) ys) ys)
+        → 1 ≤ delta (leastOf key (cond b y x) ys) x +
+        (delta (leastOf key (cond b y x) ys) y + occurs (leastOf key (cond b y x) ys) ys)
     go true h = omega arith
     go false h = omega arith
 
-leastOf-least : (key : List ℕ) (x : ℕ) (ys : List ℕ) → ((z : ℕ) → 1 ≤ occurs z (x ∷ ys) → z ≤ 4096) → (z : ℕ) → 1 ≤ occurs z (x ∷ ys) → ord key (leastOf key x ys) ≤ ord key z
+leastOf-least : (key : List ℕ) (x : ℕ) (ys : List ℕ) → ((z : ℕ) → 1 ≤ occurs z (x ∷ ys) → z ≤ 4096) → (z : ℕ)
+    → 1 ≤ occurs z (x ∷ ys) → ord key (leastOf key x ys) ≤ ord key z
 unfolding leastOf occurs sumBy
-leastOf-least key x [] b = byItem x (λ _. le-refl _) (λ z n k. absurd (omega (arith, delta-other z x (λ e. n (sym e)))))
+leastOf-least key x [] b =
+    byItem x (λ _. le-refl _) (λ z n k. absurd (omega (arith, delta-other z x (λ e. n (sym e)))))
 leastOf-least key x (y ∷ ys) b = go (precedes key y x) refl (leastOf-least key (cond (precedes key y x) y x) ys)
   where
     by : y ≤ 4096
@@ -42,20 +45,27 @@ leastOf-least key x (y ∷ ys) b = go (precedes key y x) refl (leastOf-least key
     bx = b x (omega (arith, delta-self x))
 
     go : (t : Bool) → precedes key y x ≡ t
-        → (((z : ℕ) → 1 ≤ delta z (cond t y x) + occurs z ys → z ≤ 4096) → (z : ℕ) → 1 ≤ delta z (cond t y x) + occurs z ys → ord key (leastOf key (cond t y x) ys) ≤ ord key z)
+        → (((z : ℕ) → 1 ≤ delta z (cond t y x) + occurs z ys → z ≤ 4096) → (z : ℕ)
+        → 1 ≤ delta z (cond t y x) + occurs z ys → ord key (leastOf key (cond t y x) ys) ≤ ord key z)
         → (z : ℕ) → 1 ≤ delta z x + (delta z y + occurs z ys) → ord key (leastOf key (cond t y x) ys) ≤ ord key z
     go true e ih =
         let f = ih (λ z k. b z (omega arith)) in
-        byItem x (λ _. le-trans (f y (omega (arith, delta-self y))) (omega (arith, ord-precedes key y x by e))) (λ z n k. f z (omega (arith, delta-other z x (λ e. n (sym e)))))
+        byItem x (λ _. le-trans (f y (omega (arith, delta-self y))) (omega (arith, ord-precedes key y x by e)))
+        (λ z n k. f z (omega (arith, delta-other z x (λ e. n (sym e)))))
     go false e ih =
         let f = ih (λ z k. b z (omega arith)) in
-        byItem y (λ _. le-trans (f x (omega (arith, delta-self x))) (ord-total key y x bx e)) (λ z n k. f z (omega (arith, delta-other z y (λ e. n (sym e)))))
+        byItem y (λ _. le-trans (f x (omega (arith, delta-self x))) (ord-total key y x bx e))
+        (λ z n k. f z (omega (arith, delta-other z y (λ e. n (sym e)))))
 
-minimum-least : (s : Forests) → Disjoint s → (h x : ℕ) → 1 ≤ occurs x (rowOf s h) → ord (s .key) (minimum s h) ≤ ord (s .key) x
+minimum-least : (s : Forests) → Disjoint s → (h x : ℕ) → 1 ≤ occurs x (rowOf s h)
+    → ord (s .key) (minimum s h) ≤ ord (s .key) x
 unfolding minimum leastIn occurs sumBy
-minimum-least s S h x k = go (rowOf s h) (λ z i. let q = heap-in s z (λ e. omega (arith, row-root s S h z i .0)) in omega (arith, S .small)) k
+minimum-least s S h x k =
+    go (rowOf s h)
+    (λ z i. let q = heap-in s z (λ e. omega (arith, row-root s S h z i .0)) in omega (arith, S .small)) k
   where
-    go : (l : List ℕ) → ((z : ℕ) → 1 ≤ occurs z l → z ≤ 4096) → 1 ≤ occurs x l → ord (s .key) (leastIn (s .key) l) ≤ ord (s .key) x
+    go : (l : List ℕ) → ((z : ℕ) → 1 ≤ occurs z l → z ≤ 4096) → 1 ≤ occurs x l
+        → ord (s .key) (leastIn (s .key) l) ≤ ord (s .key) x
     go [] b k = absurd (omega arith)
     go (y ∷ ys) b k = leastOf-least (s .key) y ys b x k
 
@@ -69,7 +79,8 @@ parent-below s D O x live m =
     (O x (λ z. not-none s D x (heap-in s x live) (sym z)) live m)
 
 -- up the parents, whose numbers fall
-above : (s : Forests) → Formed s → (h n x : ℕ) → heapOf s x ≡ suc h → ord (s .key) x < n → ord (s .key) (minimum s h) ≤ ord (s .key) x
+above : (s : Forests) → Formed s → (h n x : ℕ) → heapOf s x ≡ suc h → ord (s .key) x < n
+    → ord (s .key) (minimum s h) ≤ ord (s .key) x
 unfolding OrderedBut
 above s S h zero x e k = absurd (omega arith)
 above s S h (suc n) x e k = go (eqb (parentOf s x) none) refl (above s S h n (parentOf s x))
@@ -77,7 +88,9 @@ above s S h (suc n) x e k = go (eqb (parentOf s x) none) refl (above s S h n (pa
     live : heapOf s x ≢ 0
     live z = omega (arith, e)
 
-    go : (t : Bool) → eqb (parentOf s x) none ≡ t → (heapOf s (parentOf s x) ≡ suc h → ord (s .key) (parentOf s x) < n → ord (s .key) (minimum s h) ≤ ord (s .key) (parentOf s x)) → ord (s .key) (minimum s h) ≤ ord (s .key) x
+    go : (t : Bool) → eqb (parentOf s x) none ≡ t
+        → (heapOf s (parentOf s x) ≡ suc h → ord (s .key) (parentOf s x) < n
+        → ord (s .key) (minimum s h) ≤ ord (s .key) (parentOf s x)) → ord (s .key) (minimum s h) ≤ ord (s .key) x
     go true q ih = minimum-least s (S .disjoint) h x (omega (arith, root-row s (S .disjoint) h x e (eqb-true _ _ q)))
     go false q ih =
         let m : parentOf s x ≢ none = eqb-false (parentOf s x) none q in
@@ -86,9 +99,12 @@ above s S h (suc n) x e k = go (eqb (parentOf s x) none) refl (above s S h n (pa
         omega (arith, ih (u .1 ∙ e) (omega arith))
 
 -- no item of heap h comes before its minimum
-pub none-before : (s : Forests) → Formed s → (h x : ℕ) → heapOf s x ≡ suc h → precedes (s .key) x (minimum s h) ≡ false
+pub none-before : (s : Forests) → Formed s → (h x : ℕ) → heapOf s x ≡ suc h
+    → precedes (s .key) x (minimum s h) ≡ false
 none-before s S h x e =
-    precedes-ord (s .key) x (minimum s h) (let q = heap-in s x (λ z. omega (arith, e)) in omega (arith, S .disjoint .small)) (above s S h (suc (ord (s .key) x)) x e (le-refl _))
+    precedes-ord (s .key) x (minimum s h)
+    (let q = heap-in s x (λ z. omega (arith, e)) in omega (arith, S .disjoint .small))
+    (above s S h (suc (ord (s .key) x)) x e (le-refl _))
 
 -- the minimum of a row that is not empty stands in it
 pub minimum-in-row : (s : Forests) (h v : ℕ) → 1 ≤ occurs v (rowOf s h) → 1 ≤ occurs (minimum s h) (rowOf s h)
@@ -100,7 +116,8 @@ minimum-in-row s h v k = go (rowOf s h) k
     go (x ∷ xs) k = leastOf-in (s .key) x xs
 
 -- and it is the only root that no root comes before
-pub minimum-unique : (s : Forests) → Disjoint s → (h v : ℕ) → 1 ≤ occurs v (rowOf s h) → ((z : ℕ) → 1 ≤ occurs z (rowOf s h) → precedes (s .key) z v ≡ false) → minimum s h ≡ v
+pub minimum-unique : (s : Forests) → Disjoint s → (h v : ℕ) → 1 ≤ occurs v (rowOf s h)
+    → ((z : ℕ) → 1 ≤ occurs z (rowOf s h) → precedes (s .key) z v ≡ false) → minimum s h ≡ v
 minimum-unique s S h v k f = go (eqb (minimum s h) v) refl
   where
     row-le : (z : ℕ) → 1 ≤ occurs z (rowOf s h) → z ≤ 4096
@@ -114,7 +131,8 @@ minimum-unique s S h v k f = go (eqb (minimum s h) v) refl
         absurd (omega (arith, ord-precedes (s .key) v (minimum s h) (row-le v k) b, minimum-least s S h v k))
 
 -- a heap with items has roots, and the other way round
-pub root-above : (s : Forests) → Formed s → (h n x : ℕ) → heapOf s x ≡ suc h → ord (s .key) x < n → 1 ≤ length (rowOf s h)
+pub root-above : (s : Forests) → Formed s → (h n x : ℕ) → heapOf s x ≡ suc h → ord (s .key) x < n
+    → 1 ≤ length (rowOf s h)
 unfolding OrderedBut occurs sumBy
 root-above s S h zero x e k = absurd (omega arith)
 root-above s S h (suc n) x e k = go (eqb (parentOf s x) none) refl (root-above s S h n (parentOf s x))
@@ -127,7 +145,8 @@ root-above s S h (suc n) x e k = go (eqb (parentOf s x) none) refl (root-above s
     some (y ∷ ys) i = omega arith
 
     go : (t : Bool) → eqb (parentOf s x) none ≡ t
-        → (heapOf s (parentOf s x) ≡ suc h → ord (s .key) (parentOf s x) < n → 1 ≤ length (rowOf s h)) → 1 ≤ length (rowOf s h)
+        → (heapOf s (parentOf s x) ≡ suc h → ord (s .key) (parentOf s x) < n → 1 ≤ length (rowOf s h))
+        → 1 ≤ length (rowOf s h)
     go true q ih = some (rowOf s h) (omega (arith, root-row s (S .disjoint) h x e (eqb-true _ _ q)))
     go false q ih =
         let m : parentOf s x ≢ none = eqb-false (parentOf s x) none q in
@@ -140,14 +159,16 @@ some-item [] h k = absurd (omega arith)
 some-item (v ∷ l) h k = go (eqb v (suc h)) refl k (some-item l h)
   where
     go : (t : Bool) → eqb v (suc h) ≡ t → 1 ≤ cond t 1 0 + sumBy (λ v. cond (eqb v (suc h)) 1 0) l
-        → (1 ≤ sumBy (λ v. cond (eqb v (suc h)) 1 0) l → (x : ℕ) × (getD l x 0 ≡ suc h)) → (x : ℕ) × (getD (v ∷ l) x 0 ≡ suc h)
+        → (1 ≤ sumBy (λ v. cond (eqb v (suc h)) 1 0) l → (x : ℕ) × (getD l x 0 ≡ suc h))
+        → (x : ℕ) × (getD (v ∷ l) x 0 ≡ suc h)
     go true e k ih = (0, eqb-true v (suc h) e)
     go false e k ih = let i = ih (omega arith) in (suc (i .0), i .1)
 
 pub minimum-inside : (s : Forests) → Formed s → (h x : ℕ) → heapOf s x ≡ suc h → heapOf s (minimum s h) ≡ suc h
 unfolding minimum leastIn
 minimum-inside s S h x e =
-    row-root s (S .disjoint) h (minimum s h) (go (rowOf s h) (root-above s S h (suc (ord (s .key) x)) x e (le-refl _))) .0
+    row-root s (S .disjoint) h (minimum s h)
+    (go (rowOf s h) (root-above s S h (suc (ord (s .key) x)) x e (le-refl _))) .0
   where
     go : (l : List ℕ) → 1 ≤ length l → 1 ≤ occurs (leastIn (s .key) l) l
     go [] k = absurd (omega arith)

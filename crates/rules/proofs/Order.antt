@@ -20,7 +20,8 @@ module _ (key : List ℕ) (a b : ℕ) where
   abbrev B : ℕ
   B = getD key b 0
 
-  byTests : (P : Bool → Type 0) → (A < B → P true) → (A ≡ B → a < b → P true) → (A ≡ B → b ≤ a → P false) → (B < A → P false) → P (precedes key a b)
+  byTests : (P : Bool → Type 0) → (A < B → P true) → (A ≡ B → a < b → P true) → (A ≡ B → b ≤ a → P false)
+      → (B < A → P false) → P (precedes key a b)
   unfolding precedes
   byTests P f g h k = go (ltb A B) (eqb A B) (ltb a b) refl refl refl
     where
@@ -31,17 +32,25 @@ module _ (key : List ℕ) (a b : ℕ) where
       go false false w p q r = let n : A ≢ B = eqb-false A B q in k (omega (arith, ltb-false A B p))
 
   pub is-precedes : precedes key a b ≡ true → (A ≤ B) × (A ≡ B → a < b)
-  is-precedes = byTests (λ t. t ≡ true → (A ≤ B) × (A ≡ B → a < b)) (λ l _. (omega arith, λ z. absurd (omega arith))) (λ q l _. (omega arith, λ _. l)) (λ _ _ e. absurd (false≢true e)) (λ _ e. absurd (false≢true e))
+  is-precedes =
+      byTests (λ t. t ≡ true → (A ≤ B) × (A ≡ B → a < b)) (λ l _. (omega arith, λ z. absurd (omega arith)))
+      (λ q l _. (omega arith, λ _. l)) (λ _ _ e. absurd (false≢true e)) (λ _ e. absurd (false≢true e))
 
   pub precedes-is : A ≤ B → (A ≡ B → a < b) → precedes key a b ≡ true
-  precedes-is l k = byTests (λ t. t ≡ true) (λ _. refl) (λ _ _. refl) (λ q m. absurd (omega (arith, k q))) (λ m. absurd (omega arith))
+  precedes-is l k =
+      byTests (λ t. t ≡ true) (λ _. refl) (λ _ _. refl) (λ q m. absurd (omega (arith, k q)))
+      (λ m. absurd (omega arith))
 
   pub not-precedes : precedes key a b ≡ false → (B ≤ A) × (A ≡ B → b ≤ a)
-  not-precedes = byTests (λ t. t ≡ false → (B ≤ A) × (A ≡ B → b ≤ a)) (λ _ e. absurd (true≢false e)) (λ _ _ e. absurd (true≢false e)) (λ q l _. (omega arith, λ _. l)) (λ l _. (omega arith, λ z. absurd (omega arith)))
+  not-precedes =
+      byTests (λ t. t ≡ false → (B ≤ A) × (A ≡ B → b ≤ a)) (λ _ e. absurd (true≢false e))
+      (λ _ _ e. absurd (true≢false e)) (λ q l _. (omega arith, λ _. l))
+      (λ l _. (omega arith, λ z. absurd (omega arith)))
 
 -- of two items, one comes before the other; none comes before itself
 pub precedes-total : (key : List ℕ) (a b : ℕ) → a ≢ b → precedes key a b ≡ false → precedes key b a ≡ true
-precedes-total key a b n e = let f = not-precedes key a b e in precedes-is key b a (f .0) (λ q. let g = f .1 (sym q) in omega arith)
+precedes-total key a b n e = let f =
+    not-precedes key a b e in precedes-is key b a (f .0) (λ q. let g = f .1 (sym q) in omega arith)
 
 pub precedes-irrefl : (key : List ℕ) (a b : ℕ) → precedes key a b ≡ true → a ≢ b
 precedes-irrefl key a b e q = let f = is-precedes key a b e in omega (arith, f .1 (ap (λ c. getD key c 0) q))
@@ -59,9 +68,12 @@ pub ord-precedes : (key : List ℕ) (a b : ℕ) → a ≤ 4096 → precedes key 
 unfolding ord
 ord-precedes key a b h e = go (eqb (getD key a 0) (getD key b 0)) refl (is-precedes key a b e)
   where
-    go : (t : Bool) → eqb (getD key a 0) (getD key b 0) ≡ t → (getD key a 0 ≤ getD key b 0) × (getD key a 0 ≡ getD key b 0 → a < b) → 4097 * getD key a 0 + a < 4097 * getD key b 0 + b
+    go : (t : Bool) → eqb (getD key a 0) (getD key b 0) ≡ t
+        → (getD key a 0 ≤ getD key b 0) × (getD key a 0 ≡ getD key b 0 → a < b)
+        → 4097 * getD key a 0 + a < 4097 * getD key b 0 + b
     go true q f = omega (arith, f .1 (eqb-true (getD key a 0) (getD key b 0) q), f .0)
-    go false q f = let n : getD key a 0 ≢ getD key b 0 = eqb-false (getD key a 0) (getD key b 0) q in omega (arith, f .0)
+    go false q f = let n : getD key a 0 ≢ getD key b 0 =
+        eqb-false (getD key a 0) (getD key b 0) q in omega (arith, f .0)
 
 pub precedes-ord : (key : List ℕ) (a b : ℕ) → a ≤ 4096 → ord key b ≤ ord key a → precedes key a b ≡ false
 precedes-ord key a b h k = go (precedes key a b) refl

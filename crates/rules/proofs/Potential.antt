@@ -48,7 +48,13 @@ clear ms i = omega (arith, sumBy-set-le (λ m. m) ms i 0 0 refl)
 pub cut-potential : (h x : ℕ) (s : Forests) → potential (cut h x s) + 2 * markOf s x ≤ potential s + 1
 unfolding potential trees marks cut
 cut-potential h x s =
-    omega (arith, clear (s .mark) x, sumBy-set-le length (s .rows) h (rowOf s h ++ (x ∷ [])) [] refl, length-append (rowOf s h) (x ∷ []))
+    omega (
+      arith,
+      clear (s .mark) x,
+      sumBy-set-le length (s .rows) h (rowOf s h ++ (x ∷ [])) [] refl,
+      length-append
+          (rowOf s h) (x ∷ []),
+    )
 
 pub mark-potential : (p : ℕ) (s : Forests) → potential (setMark p 1 s) ≤ potential s + 2
 unfolding potential trees marks
@@ -69,15 +75,23 @@ marked-standing s p e = go (eqb (parentOf s p) none) (eqb (markOf s p) 0) refl e
     go false false q e = let n : markOf s p ≢ 0 = eqb-false (markOf s p) 0 q in omega arith
 
 -- cuts that follow cost nothing: each takes a mark away. The last parent may be marked.
-pub cascade-potential : (d : ℕ) (f : Standing) (h p : ℕ) (s : Forests) → standing s p ≡ f → (cascadingCut d f h p s) .cuts + potential ((cascadingCut d f h p s) .forests) ≤ potential s + 2
+pub cascade-potential : (d : ℕ) (f : Standing) (h p : ℕ) (s : Forests) → standing s p ≡ f
+    → (cascadingCut d f h p s) .cuts + potential ((cascadingCut d f h p s) .forests) ≤ potential s + 2
 unfolding cascadingCut
 cascade-potential zero f h p s e = omega arith
 cascade-potential (suc d) root h p s e = omega arith
 cascade-potential (suc d) unmarked h p s e = omega (arith, mark-potential p s)
 cascade-potential (suc d) marked h p s e =
-    omega (arith, marked-standing s p e, cut-potential h p s, cascade-potential d (standing (cut h p s) (parentOf s p)) h (parentOf s p) (cut h p s) refl)
+    omega (
+      arith,
+      marked-standing s p e,
+      cut-potential h p s,
+      cascade-potential d
+          (standing (cut h p s) (parentOf s p)) h (parentOf s p) (cut h p s) refl,
+    )
 
-pub cutOut-potential : (h x : ℕ) (s : Forests) → (cutOut h x s) .cuts + potential ((cutOut h x s) .forests) ≤ potential s + 4
+pub cutOut-potential : (h x : ℕ) (s : Forests)
+    → (cutOut h x s) .cuts + potential ((cutOut h x s) .forests) ≤ potential s + 4
 unfolding cutOut cutWithin
 cutOut-potential h x s =
     let t : Forests = cut h x s in
@@ -103,7 +117,8 @@ unfolding occupied sumBy busy
 length-occupied [] = refl
 length-occupied (x ∷ xs) = go (eqb x none) (length-occupied xs)
   where
-    go : (t : Bool) → length (occupied xs) ≡ sumBy busy xs → length (cond t (occupied xs) (x ∷ occupied xs)) ≡ cond t 0 1 + sumBy busy xs
+    go : (t : Bool) → length (occupied xs) ≡ sumBy busy xs
+        → length (cond t (occupied xs) (x ∷ occupied xs)) ≡ cond t 0 1 + sumBy busy xs
     go true ih = omega arith
     go false ih = omega arith
 
@@ -127,7 +142,8 @@ climb-count (suc d) false r x w e =
     )
 
 pub linkTrees-count : (d : ℕ) (xs : List ℕ) (w : Linking)
-    → (linkTrees d xs w) .links + sumBy busy ((linkTrees d xs w) .places) ≤ w .links + sumBy busy (w .places) + length xs
+    → (linkTrees d xs w) .links + sumBy busy ((linkTrees d xs w) .places) ≤ w .links + sumBy busy
+    (w .places) + length xs
 unfolding linkTrees
 linkTrees-count d [] w = omega arith
 linkTrees-count d (x ∷ xs) w =
@@ -142,7 +158,8 @@ linkTrees-rows d xs w = linkTrees-keeps (λ t. t .rows ≡ w .forests .rows) (λ
 linkTrees-marks : (d : ℕ) (xs : List ℕ) (w : Linking) → marks ((linkTrees d xs w) .forests) ≤ marks (w .forests)
 unfolding link marks
 linkTrees-marks d xs w =
-    linkTrees-keeps (λ t. marks t ≤ marks (w .forests)) (λ a l t k. omega (arith, clear (t .mark) l)) d xs w (le-refl _)
+    linkTrees-keeps (λ t. marks t ≤ marks (w .forests)) (λ a l t k. omega (arith, clear (t .mark) l)) d xs w
+    (le-refl _)
 
 -- each link takes one tree away
 pub consolidate-potential : (h : ℕ) (s : Forests)
@@ -170,7 +187,8 @@ unfolding setAll
 clear-all [] ms = le-refl _
 clear-all (c ∷ cs) ms = omega (arith, clear-all cs (set ms c 0), clear ms c)
 
-pub removeRoot-potential : (h x : ℕ) (s : Forests) → 1 ≤ occurs x (rowOf s h) → potential (removeRoot h x s) + 1 ≤ potential s + rankOf s x
+pub removeRoot-potential : (h x : ℕ) (s : Forests) → 1 ≤ occurs x (rowOf s h)
+    → potential (removeRoot h x s) + 1 ≤ potential s + rankOf s x
 unfolding removeRoot setFree release potential trees marks
 removeRoot-potential h x s i =
     omega (

@@ -36,13 +36,21 @@ abbrev pub worth : Forests → ℕ → ℕ
 worth s i = F (suc (suc (rankOf s i)))
 
 -- the children of an item are worth all of it but 1
-pub children-worth : (s : Forests) → ((x : ℕ) → markOf s x ≤ 1) → (j : ℕ) (cs : List ℕ) → ChildRanksBut exact (s .children) (s .mark) j cs
+pub children-worth : (s : Forests) → ((x : ℕ) → markOf s x ≤ 1) → (j : ℕ) (cs : List ℕ)
+    → ChildRanksBut exact (s .children) (s .mark) j cs
     → F (suc (suc (j + length cs))) ≤ F (suc (suc j)) + sumBy (worth s) cs
 unfolding sumBy
 children-worth s b j [] t = let e : j + 0 ≡ j = omega arith in rw e (omega arith)
 children-worth s b j (c ∷ cs) t =
     let e : j + suc (length cs) ≡ suc j + length cs = omega arith in
-    rw e (omega (arith, children-worth s b (suc j) cs (t .1), F-rec (suc j), b c, F-mono (suc j) (suc (suc (rankOf s c))) (omega (arith, t .0, b c))))
+    rw e (omega (
+      arith,
+      children-worth s b (suc j) cs (t .1),
+      F-rec (suc j),
+      b c,
+      F-mono (suc j) (suc (suc (rankOf s c)))
+          (omega (arith, t .0, b c)),
+    ))
 
 F-two : F 2 ≡ 1
 unfolding F
@@ -59,7 +67,8 @@ module _ (s : Forests) (S : Disjoint s) (K : RankedBut exact s) (h : ℕ) where
   item-worth : (i : ℕ) → i < N → worth s i ≤ 1 + sumBy (worth s) (childrenOf s i)
   unfolding RankedBut N
   item-worth i j =
-      let k : F (suc (suc (rankOf s i))) ≤ F 2 + sumBy (worth s) (childrenOf s i) = rw zero-add at (children-worth s (S .bit) 0 (childrenOf s i) (K i j)) in
+      let k : F (suc (suc (rankOf s i))) ≤ F 2 + sumBy (worth s) (childrenOf s i) =
+      rw zero-add at (children-worth s (S .bit) 0 (childrenOf s i) (K i j)) in
       omega (arith, F-two)
 
   out-row : (x : ℕ) → N ≤ x → occurs x (rowOf s h) ≡ 0
@@ -71,7 +80,9 @@ module _ (s : Forests) (S : Disjoint s) (K : RankedBut exact s) (h : ℕ) where
   out-children i j x k = S .inChildren i x j ∙ rw (out-heap s x k)
 
   -- what x is worth is counted at most once: as a root, or under its parent
-  once : (x : ℕ) → x < N → sumTo N (λ i. H i * (occurs x (childrenOf s i) * worth s x)) + occurs x (rowOf s h) * worth s x ≤ H x * worth s x
+  once : (x : ℕ) → x < N
+      → sumTo N (λ i. H i * (occurs x (childrenOf s i) * worth s x)) + occurs x
+      (rowOf s h) * worth s x ≤ H x * worth s x
   unfolding N H delta
   once x k = go (eqb (heapOf s x) 0) (eqb (parentOf s x) none) (eqb (heapOf s x) (suc h)) refl refl refl
     where
@@ -81,20 +92,24 @@ module _ (s : Forests) (S : Disjoint s) (K : RankedBut exact s) (h : ℕ) where
       go : (a b c : Bool) → eqb (heapOf s x) 0 ≡ a → eqb (parentOf s x) none ≡ b → eqb (heapOf s x) (suc h) ≡ c
           → sumTo N (λ i. H i * (occurs x (childrenOf s i) * W)) + occurs x (rowOf s h) * W ≤ cond c 1 0 * W
       go true b c e₀ e₁ e₂ =
-          let z : (i : ℕ) → i < N → H i * (occurs x (childrenOf s i) * W) ≡ 0 = λ i j. let t : occurs x (childrenOf s i) ≡ 0 = S .inChildren i x j ∙ rw e₀ in rw t (omega arith) in
+          let z : (i : ℕ) → i < N → H i * (occurs x (childrenOf s i) * W) ≡ 0 =
+          λ i j. let t : occurs x (childrenOf s i) ≡ 0 = S .inChildren i x j ∙ rw e₀ in rw t (omega arith) in
           let r : occurs x (rowOf s h) ≡ 0 = S .inRow h x ∙ rw (eqb-true (heapOf s x) 0 e₀, eqb·zero-suc h) in
           rw r (omega (arith, sumTo-cong N (λ i. H i * (occurs x (childrenOf s i) * W)) (λ _. 0) z, sumTo-zero N))
       go false b c e₀ e₁ e₂ = split b e₁
         where
           one : (i : ℕ) → i < N → H i * (occurs x (childrenOf s i) * W) ≡ delta i (parentOf s x) * (H i * W)
-          one i j = let t : occurs x (childrenOf s i) ≡ delta i (parentOf s x) = S .inChildren i x j ∙ rw e₀ in rw t (omega arith)
+          one i j = let t : occurs x (childrenOf s i) ≡ delta i (parentOf s x) =
+              S .inChildren i x j ∙ rw e₀ in rw t (omega arith)
 
-          split : (b : Bool) → eqb (parentOf s x) none ≡ b → sumTo N (λ i. H i * (occurs x (childrenOf s i) * W)) + occurs x (rowOf s h) * W ≤ cond c 1 0 * W
+          split : (b : Bool) → eqb (parentOf s x) none ≡ b
+              → sumTo N (λ i. H i * (occurs x (childrenOf s i) * W)) + occurs x (rowOf s h) * W ≤ cond c 1 0 * W
           split true e =
               let r : occurs x (rowOf s h) ≡ cond c 1 0 = S .inRow h x ∙ rw (e₂, e) (ap indicator (and-true c)) in
               rw r (omega (
                 arith,
-                sumTo-cong N (λ i. H i * (occurs x (childrenOf s i) * W)) (λ i. delta i (parentOf s x) * (H i * W)) one,
+                sumTo-cong N (λ i. H i * (occurs x (childrenOf s i) * W))
+                    (λ i. delta i (parentOf s x) * (H i * W)) one,
                 sumTo-miss N (parentOf s x) (λ i. H i * W) (omega (arith, S .small, eqb-true (parentOf s x) none e)),
               ))
           split false e =
@@ -103,7 +118,8 @@ module _ (s : Forests) (S : Disjoint s) (K : RankedBut exact s) (h : ℕ) where
               let q : H (parentOf s x) ≡ cond c 1 0 = rw (u .1, e₂) in
               rw r (omega (
                 arith,
-                sumTo-cong N (λ i. H i * (occurs x (childrenOf s i) * W)) (λ i. delta i (parentOf s x) * (H i * W)) one,
+                sumTo-cong N (λ i. H i * (occurs x (childrenOf s i) * W))
+                    (λ i. delta i (parentOf s x) * (H i * W)) one,
                 sumTo-pick N (parentOf s x) (λ i. H i * W) (u .0),
                 ap (λ y. y * W) q,
               ))
@@ -114,13 +130,19 @@ module _ (s : Forests) (S : Disjoint s) (K : RankedBut exact s) (h : ℕ) where
       omega (
         arith,
         sumBy-occurs N (worth s) (rowOf s h) out-row,
-        sumTo-le N (λ i. H i * worth s i) (λ i. H i + H i * sumBy (worth s) (childrenOf s i)) (λ i j. omega (arith, mul-le-mul-left (H i) (item-worth i j))),
+        sumTo-le N (λ i. H i * worth s i) (λ i. H i + H i * sumBy (worth s) (childrenOf s i))
+            (λ i j. omega (arith, mul-le-mul-left (H i) (item-worth i j))),
         sumTo-add N H (λ i. H i * sumBy (worth s) (childrenOf s i)),
-        sumTo-cong N (λ i. H i * sumBy (worth s) (childrenOf s i)) (λ i. sumTo N (λ x. H i * (occurs x (childrenOf s i) * worth s x)))
-            (λ i j. ap (λ y. H i * y) (sumBy-occurs N (worth s) (childrenOf s i) (out-children i j)) ∙ sym (sumTo-mul N (H i) (λ x. occurs x (childrenOf s i) * worth s x))),
+        sumTo-cong N (λ i. H i * sumBy (worth s) (childrenOf s i))
+            (λ i. sumTo N (λ x. H i * (occurs x (childrenOf s i) * worth s x)))
+            (λ i j. ap (λ y. H i * y) (sumBy-occurs N (worth s) (childrenOf s i) (out-children i j))
+            ∙ sym (sumTo-mul N (H i) (λ x. occurs x (childrenOf s i) * worth s x))),
         sumTo-swap N N (λ i x. H i * (occurs x (childrenOf s i) * worth s x)),
-        sumTo-le N (λ x. sumTo N (λ i. H i * (occurs x (childrenOf s i) * worth s x)) + occurs x (rowOf s h) * worth s x) (λ x. H x * worth s x) once,
-        sumTo-add N (λ x. sumTo N (λ i. H i * (occurs x (childrenOf s i) * worth s x))) (λ x. occurs x (rowOf s h) * worth s x),
+        sumTo-le N
+            (λ x. sumTo N (λ i. H i * (occurs x (childrenOf s i) * worth s x)) + occurs x (rowOf s h) * worth s x)
+            (λ x. H x * worth s x) once,
+        sumTo-add N (λ x. sumTo N (λ i. H i * (occurs x (childrenOf s i) * worth s x)))
+            (λ x. occurs x (rowOf s h) * worth s x),
         sumBy-places (λ x. cond (eqb x (suc h)) 1 0) 0 (s .heap),
       )
 
@@ -129,5 +151,7 @@ part-le : (f : ℕ → ℕ) (x : ℕ) (l : List ℕ) → 1 ≤ occurs x l → f 
 part-le f x l k = omega (arith, sumBy-without f x l k)
 
 -- a root's rank is at most R of the items in its heap
-pub rank-le : (s : Forests) → Disjoint s → RankedBut exact s → (h x : ℕ) → 1 ≤ occurs x (rowOf s h) → rankOf s x ≤ R (count s h)
-rank-le s S K h x k = R-max (count s h) (rankOf s x) (le-trans (part-le (worth s) x (rowOf s h) k) (rows-worth s S K h))
+pub rank-le : (s : Forests) → Disjoint s → RankedBut exact s → (h x : ℕ) → 1 ≤ occurs x (rowOf s h)
+    → rankOf s x ≤ R (count s h)
+rank-le s S K h x k =
+    R-max (count s h) (rankOf s x) (le-trans (part-le (worth s) x (rowOf s h) k) (rows-worth s S K h))

@@ -20,7 +20,8 @@ unfolding sumBy
 count-le [] h = le-refl 0
 count-le (x ∷ xs) h = go (eqb x (suc h)) (count-le xs h)
   where
-    go : (t : Bool) → sumBy (λ x. cond (eqb x (suc h)) 1 0) xs ≤ length xs → cond t 1 0 + sumBy (λ x. cond (eqb x (suc h)) 1 0) xs ≤ suc (length xs)
+    go : (t : Bool) → sumBy (λ x. cond (eqb x (suc h)) 1 0) xs ≤ length xs
+        → cond t 1 0 + sumBy (λ x. cond (eqb x (suc h)) 1 0) xs ≤ suc (length xs)
     go true k = omega arith
     go false k = omega arith
 

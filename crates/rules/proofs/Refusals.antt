@@ -15,11 +15,13 @@ use Rattle.rules.specs.Lists.{occurs}
 use Rattle.rules.specs.Order.{leastIn, minimum}
 use Rattle.rules.proofs.Minimum.{leastOf-in}
 
-pub insert-ok : (s : Forests) (h i k : ℕ) → refusal s (Insert h i k) ≡ 0 → (h < 8) × (i < length (s .heap)) × (heapOf s i ≡ 0)
+pub insert-ok : (s : Forests) (h i k : ℕ) → refusal s (Insert h i k) ≡ 0
+    → (h < 8) × (i < length (s .heap)) × (heapOf s i ≡ 0)
 unfolding refusal
 insert-ok s h i k e = go (ltb 7 h) (leb (length (s .heap)) i) (eqb (heapOf s i) 0) refl refl refl e
   where
-    go : (u v w : Bool) → ltb 7 h ≡ u → leb (length (s .heap)) i ≡ v → eqb (heapOf s i) 0 ≡ w → _≡_ {A = ℕ} (cond u 7 (cond v 8 (cond w 0 9))) 0
+    go : (u v w : Bool) → ltb 7 h ≡ u → leb (length (s .heap)) i ≡ v → eqb (heapOf s i) 0 ≡ w
+        → _≡_ {A = ℕ} (cond u 7 (cond v 8 (cond w 0 9))) 0
         → (h < 8) × (i < length (s .heap)) × (heapOf s i ≡ 0)
     go true v w p q r e = absurd (omega arith)
     go false true w p q r e = absurd (omega arith)
@@ -30,7 +32,8 @@ pub extract-ok : (s : Forests) (h : ℕ) → refusal s (ExtractMin h) ≡ 0 → 
 unfolding refusal isEmpty minimum leastIn
 extract-ok s h e = go (ltb 7 h) (rowOf s h) e
   where
-    go : (u : Bool) (l : List ℕ) → _≡_ {A = ℕ} (cond u 7 (cond (isEmpty l) 12 0)) 0 → 1 ≤ occurs (leastIn (s .key) l) l
+    go : (u : Bool) (l : List ℕ) → _≡_ {A = ℕ} (cond u 7 (cond (isEmpty l) 12 0)) 0
+        → 1 ≤ occurs (leastIn (s .key) l) l
     go true l e = absurd (omega arith)
     go false [] e = absurd (omega arith)
     go false (x ∷ xs) e = leastOf-in (s .key) x xs
@@ -39,7 +42,8 @@ pub decrease-ok : (s : Forests) (i k : ℕ) → refusal s (DecreaseKey i k) ≡ 
 unfolding refusal
 decrease-ok s i k e = go (leb (length (s .heap)) i) (eqb (heapOf s i) 0) (ltb (keyOf s i) k) refl refl e
   where
-    go : (u v w : Bool) → eqb (heapOf s i) 0 ≡ v → ltb (keyOf s i) k ≡ w → _≡_ {A = ℕ} (cond u 8 (cond v 10 (cond w 11 0))) 0 → (heapOf s i ≢ 0) × (k ≤ keyOf s i)
+    go : (u v w : Bool) → eqb (heapOf s i) 0 ≡ v → ltb (keyOf s i) k ≡ w
+        → _≡_ {A = ℕ} (cond u 8 (cond v 10 (cond w 11 0))) 0 → (heapOf s i ≢ 0) × (k ≤ keyOf s i)
     go true v w q r e = absurd (omega arith)
     go false true w q r e = absurd (omega arith)
     go false false true q r e = absurd (omega arith)
@@ -58,7 +62,8 @@ pub meld-ok : (s : Forests) (a b : ℕ) → refusal s (Meld a b) ≡ 0 → (a < 
 unfolding refusal
 meld-ok s a b e = go (ltb 7 a) (ltb 7 b) (eqb a b) refl refl refl e
   where
-    go : (u v w : Bool) → ltb 7 a ≡ u → ltb 7 b ≡ v → eqb a b ≡ w → _≡_ {A = ℕ} (cond (u || v) 7 (cond w 13 0)) 0 → (a < 8) × (b < 8) × (a ≢ b)
+    go : (u v w : Bool) → ltb 7 a ≡ u → ltb 7 b ≡ v → eqb a b ≡ w → _≡_ {A = ℕ} (cond (u || v) 7 (cond w 13 0)) 0
+        → (a < 8) × (b < 8) × (a ≢ b)
     go true v w p q r e = absurd (omega arith)
     go false true w p q r e = absurd (omega arith)
     go false false true p q r e = absurd (omega arith)

@@ -63,12 +63,16 @@ module _ (s : Forests) (S : Disjoint s) (h x : ℕ) (hx : heapOf s x ≡ suc h) 
   children-x = getD-set-same (s .children) x [] [] (omega (arith, S .childrenN, x-in))
 
   parent-x : getD (set (setAll ks none (s .parent)) x 0) x 0 ≡ 0
-  parent-x = getD-set-same (setAll ks none (s .parent)) x 0 0 (omega (arith, length-setAll ks none (s .parent), S .parentN, x-in))
+  parent-x =
+      getD-set-same (setAll ks none (s .parent)) x 0 0
+      (omega (arith, length-setAll ks none (s .parent), S .parentN, x-in))
 
-  parent-children : (y : ℕ) → y ≢ x → occurs y ks ≡ 1 → heapOf s y ≡ suc h → getD (set (setAll ks none (s .parent)) x 0) y 0 ≡ none
+  parent-children : (y : ℕ) → y ≢ x → occurs y ks ≡ 1 → heapOf s y ≡ suc h
+      → getD (set (setAll ks none (s .parent)) x 0) y 0 ≡ none
   parent-children y n k e =
       getD-set-other (setAll ks none (s .parent)) x y 0 0 n
-      ∙ setAll-in ks none y 0 (s .parent) (omega (arith, S .parentN, heap-in s y (λ z. omega (arith, e)))) (omega arith)
+      ∙ setAll-in ks none y 0 (s .parent) (omega (arith, S .parentN, heap-in s y (λ z. omega (arith, e))))
+      (omega arith)
 
   parent-o : (y : ℕ) → y ≢ x → occurs y ks ≡ 0 → getD (set (setAll ks none (s .parent)) x 0) y 0 ≡ parentOf s y
   parent-o y n k = getD-set-other (setAll ks none (s .parent)) x y 0 0 n ∙ setAll-out ks none y 0 (s .parent) k
@@ -76,7 +80,8 @@ module _ (s : Forests) (S : Disjoint s) (h x : ℕ) (hx : heapOf s x ≡ suc h) 
   mark-x : getD (set (setAll ks 0 (s .mark)) x 0) x 0 ≡ 0
   mark-x = getD-set-same (setAll ks 0 (s .mark)) x 0 0 (omega (arith, length-setAll ks 0 (s .mark), S .markN, x-in))
 
-  mark-children : (y : ℕ) → y ≢ x → occurs y ks ≡ 1 → heapOf s y ≡ suc h → getD (set (setAll ks 0 (s .mark)) x 0) y 0 ≡ 0
+  mark-children : (y : ℕ) → y ≢ x → occurs y ks ≡ 1 → heapOf s y ≡ suc h
+      → getD (set (setAll ks 0 (s .mark)) x 0) y 0 ≡ 0
   mark-children y n k e =
       getD-set-other (setAll ks 0 (s .mark)) x y 0 0 n
       ∙ setAll-in ks 0 y 0 (s .mark) (omega (arith, S .markN, heap-in s y (λ z. omega (arith, e)))) (omega arith)
@@ -115,39 +120,80 @@ module _ (s : Forests) (S : Disjoint s) (h x : ℕ) (hx : heapOf s x ≡ suc h) 
     small = simp length-set (S .small);
     heaps = byItem x (rw heap-x zero-le) (λ y n. rw (heap-o y n) (S .heaps y));
     inRow = byItem h
-        (byKid (rw (row-h, heap-x, eqb·zero-suc h) (omega (arith, occurs-append x (without x (rowOf s h)) ks, occurs-without x x (rowOf s h) (omega (arith, x-row)), delta-self x, x-row, root-child s S x x x-in rx)))
-        (λ y n k e u. rw (row-h, heap-o y n, parent-children y n k e, e, eqb-self (suc h)) (omega (arith, occurs-append y (without x (rowOf s h)) ks, occurs-without y x (rowOf s h) (omega (arith, x-row)), delta-other y x (λ z. n (sym z)), child-row h y u)))
-        (λ y n k. rw (row-h, heap-o y n, parent-o y n k) (omega (arith, occurs-append y (without x (rowOf s h)) ks, occurs-without y x (rowOf s h) (omega (arith, x-row)), delta-other y x (λ z. n (sym z)), S .inRow h y))))
+        (byKid (rw (row-h, heap-x, eqb·zero-suc h)
+        (omega (
+          arith,
+          occurs-append x (without x (rowOf s h)) ks,
+          occurs-without x x (rowOf s h)
+              (omega (arith, x-row)),
+          delta-self x,
+          x-row,
+          root-child s S x x x-in rx,
+        )))
+        (λ y n k e u. rw (row-h, heap-o y n, parent-children y n k e, e, eqb-self (suc h))
+        (omega (
+          arith,
+          occurs-append y (without x (rowOf s h)) ks,
+          occurs-without y x (rowOf s h)
+              (omega (arith, x-row)),
+          delta-other y x (λ z. n (sym z)),
+          child-row h y u,
+        )))
+        (λ y n k. rw (row-h, heap-o y n, parent-o y n k)
+        (omega (
+          arith,
+          occurs-append y (without x (rowOf s h)) ks,
+          occurs-without y x (rowOf s h)
+              (omega (arith, x-row)),
+          delta-other y x (λ z. n (sym z)),
+          S .inRow h y,
+        ))))
         (λ g m. byKid (rw (getD-set-other (s .rows) h g, heap-x, eqb·zero-suc g) (S .inRow g x ∙ rw (hx, apart g m)))
         (λ y n k e u. rw (getD-set-other (s .rows) h g, heap-o y n, e, apart g m) (child-row g y u))
         (λ y n k. rw (getD-set-other (s .rows) h g, heap-o y n, parent-o y n k) (S .inRow g y)));
     inChildren = rw (length-set (s .heap) x 0) (byItem x
-        (byKid (λ j. rw (children-x, heap-x) (absent x)) (λ y n k e u j. rw (children-x, parent-children y n k e, ne-eqb none x (not-none s S x j), and-false) (absent y))
+        (byKid (λ j. rw (children-x, heap-x) (absent x))
+        (λ y n k e u j. rw (children-x, parent-children y n k e, ne-eqb none x (not-none s S x j), and-false)
+        (absent y))
         (λ y n k j. rw (children-x, heap-o y n, parent-o y n k) (absent y ∙ sym k ∙ S .inChildren x y j)))
         (λ q m. byKid (λ j. rw (getD-set-other (s .children) x q, heap-x) (root-child s S q x j rx))
-        (λ y n k e u j. rw (getD-set-other (s .children) x q, parent-children y n k e, ne-eqb none q (not-none s S q j), and-false) (S .inChildren q y j ∙ rw (u, ne-eqb x q (λ z. m (sym z)), and-false)))
+        (λ y n k e u j.
+        rw (
+          getD-set-other (s .children) x q,
+          parent-children y n k e,
+          ne-eqb none q
+              (not-none s S q j),
+          and-false,
+        ) (S .inChildren q y j ∙ rw (u, ne-eqb x q (λ z. m (sym z)), and-false)))
         (λ y n k. rw (getD-set-other (s .children) x q, heap-o y n, parent-o y n k) (S .inChildren q y))));
     up = byKid (λ l _. absurd (l heap-x)) (λ y n k e u l m. absurd (m (parent-children y n k e)))
-        (λ y n k. rw (heap-o y n, parent-o y n k, length-set) (λ l m. (S .up y l m .0, rw (heap-o (parentOf s y) (not-x y k l)) (S .up y l m .1))));
+        (λ y n k. rw (heap-o y n, parent-o y n k, length-set)
+        (λ l m. (S .up y l m .0, rw (heap-o (parentOf s y) (not-x y k l)) (S .up y l m .1))));
     free = byKid (λ _. (key-x, parent-x, mark-x)) (λ y n k e u z. absurd (omega (arith, z, e, heap-o y n)))
         (λ y n k. rw (heap-o y n, parent-o y n k, mark-o y n k, getD-set-other (s .key) x y) (S .free y));
-    bit = byKid (rw mark-x zero-le) (λ y n k e u. rw (mark-children y n k e) zero-le) (λ y n k. rw (mark-o y n k) (S .bit y));
-    bare = byKid (λ _. mark-x) (λ y n k e u _. mark-children y n k e) (λ y n k. rw (mark-o y n k, parent-o y n k) (S .bare y));
+    bit = byKid (rw mark-x zero-le) (λ y n k e u. rw (mark-children y n k e) zero-le)
+        (λ y n k. rw (mark-o y n k) (S .bit y));
+    bare = byKid (λ _. mark-x) (λ y n k e u _. mark-children y n k e)
+        (λ y n k. rw (mark-o y n k, parent-o y n k) (S .bare y));
   }
 
   pub remove-ordered : OrderedBut none s → OrderedBut none (removeRoot h x s)
   unfolding OrderedBut removeRoot setFree release
   remove-ordered O = byKid (λ a l m. absurd (l heap-x)) (λ y n k e u a l m. absurd (m (parent-children y n k e)))
-      (λ y n k a. rw (heap-o y n, parent-o y n k) (λ l m. rw (precedes-other (s .key) x 0 (parentOf s y) y (not-x y k l) n) (O y a l m)))
+      (λ y n k a. rw (heap-o y n, parent-o y n k)
+      (λ l m. rw (precedes-other (s .key) x 0 (parentOf s y) y (not-x y k l) n) (O y a l m)))
 
   pub remove-ranked : RankedBut exact s → RankedBut exact (removeRoot h x s)
   unfolding RankedBut removeRoot setFree release
   remove-ranked K = rw (length-set (s .heap) x 0) (byItem x (λ j. rw children-x tt)
-      (λ q m j. rw (getD-set-other (s .children) x q) (ranks-mono exact exact (s .children) (set (s .children) x []) (s .mark) (set (setAll ks 0 (s .mark)) x 0) 0 (childrenOf s q)
+      (λ q m j. rw (getD-set-other (s .children) x q)
+      (ranks-mono exact exact (s .children) (set (s .children) x []) (s .mark)
+      (set (setAll ks 0 (s .mark)) x 0) 0 (childrenOf s q)
       (λ c i. like q m j c i) (K q j))))
     where
       like : (q : ℕ) → q ≢ x → q < length (s .heap) → (c : ℕ) → 1 ≤ occurs c (childrenOf s q)
-          → length (childrenOf s c) + markOf s c + 0 ≤ length (getD (set (s .children) x []) c []) + getD (set (setAll ks 0 (s .mark)) x 0) c 0 + 0
+          → length (childrenOf s c) + markOf s c + 0 ≤ length (getD (set (s .children) x []) c []) + getD
+          (set (setAll ks 0 (s .mark)) x 0) c 0 + 0
       like q m j = byKid (λ i. absurd (omega (arith, root-child s S q x j rx)))
           (λ y n k e u i. absurd (m (sym (child-parent s S q y j i .1) ∙ u)))
           (λ y n k i. rw (mark-o y n k, getD-set-other (s .children) x y) (le-refl _))

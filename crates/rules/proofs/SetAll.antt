@@ -35,7 +35,9 @@ unfolding setAll occurs sumBy
 setAll-in [] v y d l k h = absurd (omega arith)
 setAll-in (c ∷ cs) v y d l k h = go (eqb c y) refl (setAll-in cs v y d (set l c v))
   where
-    go : (t : Bool) → eqb c y ≡ t → (y < length (set l c v) → 1 ≤ occurs y cs → getD (setAll cs v (set l c v)) y d ≡ v) → getD (setAll cs v (set l c v)) y d ≡ v
+    go : (t : Bool) → eqb c y ≡ t
+        → (y < length (set l c v) → 1 ≤ occurs y cs → getD (setAll cs v (set l c v)) y d ≡ v)
+        → getD (setAll cs v (set l c v)) y d ≡ v
     go true e ih = keep-all cs v y d (set l c v) (rw (eqb-true c y e, getD-set-same l y v d k))
     go false e ih = ih (rw length-set k) (omega (arith, delta-other y c (eqb-false c y e)))
 

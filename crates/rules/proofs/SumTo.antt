@@ -46,19 +46,22 @@ sumTo-swap (suc m) n g = omega (arith, sumTo-swap m n g, sumTo-add n (λ x. sumT
 pub sumTo-miss : (n y : ℕ) (f : ℕ → ℕ) → n ≤ y → sumTo n (λ x. delta x y * f x) ≡ 0
 unfolding sumTo delta
 sumTo-miss zero y f h = refl
-sumTo-miss (suc n) y f h = let e : eqb y n ≡ false = ne-eqb y n (λ q. omega arith) in rw e (omega (arith, sumTo-miss n y f (omega arith)))
+sumTo-miss (suc n) y f h = let e : eqb y n ≡ false =
+    ne-eqb y n (λ q. omega arith) in rw e (omega (arith, sumTo-miss n y f (omega arith)))
 
 pub sumTo-pick : (n y : ℕ) (f : ℕ → ℕ) → y < n → sumTo n (λ x. delta x y * f x) ≡ f y
 unfolding sumTo delta
 sumTo-pick zero y f h = absurd (omega arith)
 sumTo-pick (suc n) y f h = go (eqb y n) refl (sumTo-pick n y f)
   where
-    go : (t : Bool) → eqb y n ≡ t → (y < n → sumTo n (λ x. delta x y * f x) ≡ f y) → sumTo n (λ x. delta x y * f x) + cond t 1 0 * f n ≡ f y
+    go : (t : Bool) → eqb y n ≡ t → (y < n → sumTo n (λ x. delta x y * f x) ≡ f y)
+        → sumTo n (λ x. delta x y * f x) + cond t 1 0 * f n ≡ f y
     go true e ih = rw (← eqb-true y n e) (omega (arith, sumTo-miss y y f (le-refl y)))
     go false e ih = let k : y ≢ n = eqb-false y n e in omega (arith, ih (omega arith))
 
 -- the sum over a list, by how often each number stands there
-pub sumBy-occurs : (n : ℕ) (f : ℕ → ℕ) (l : List ℕ) → ((x : ℕ) → n ≤ x → occurs x l ≡ 0) → sumBy f l ≡ sumTo n (λ x. occurs x l * f x)
+pub sumBy-occurs : (n : ℕ) (f : ℕ → ℕ) (l : List ℕ) → ((x : ℕ) → n ≤ x → occurs x l ≡ 0)
+    → sumBy f l ≡ sumTo n (λ x. occurs x l * f x)
 unfolding occurs sumBy
 sumBy-occurs n f [] h = sym (sumTo-zero n) ∙ sumTo-cong n (λ _. 0) (λ x. 0 * f x) (λ x _. omega arith)
 sumBy-occurs n f (y ∷ l) h =
@@ -82,7 +85,8 @@ sumTo-shift zero f = omega arith
 sumTo-shift (suc n) f = omega (arith, sumTo-shift n f)
 
 -- the sum over a list, by its places
-pub sumBy-places {ℓ} : {A : Type ℓ} (f : A → ℕ) (d : A) (l : List A) → sumBy f l ≡ sumTo (length l) (λ i. f (getD l i d))
+pub sumBy-places {ℓ} : {A : Type ℓ} (f : A → ℕ) (d : A) (l : List A)
+    → sumBy f l ≡ sumTo (length l) (λ i. f (getD l i d))
 unfolding sumBy sumTo
 sumBy-places f d [] = refl
 sumBy-places f d (x ∷ l) = omega (arith, sumTo-shift (length l) (λ i. f (getD (x ∷ l) i d)), sumBy-places f d l)

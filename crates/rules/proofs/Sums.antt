@@ -16,14 +16,16 @@ module _ {ℓ} {A : Type ℓ} (f : A → ℕ) where
   sumBy-append (x ∷ xs) ys = omega (arith, sumBy-append xs ys)
 
   -- one element changed
-  pub sumBy-set : (xs : List A) (i : ℕ) (v d : A) → i < length xs → sumBy f (set xs i v) + f (getD xs i d) ≡ sumBy f xs + f v
+  pub sumBy-set : (xs : List A) (i : ℕ) (v d : A) → i < length xs
+      → sumBy f (set xs i v) + f (getD xs i d) ≡ sumBy f xs + f v
   unfolding sumBy
   sumBy-set [] i v d h = absurd (omega arith)
   sumBy-set (x ∷ xs) zero v d h = omega arith
   sumBy-set (x ∷ xs) (suc i) v d h = omega (arith, sumBy-set xs i v d (omega arith))
 
   -- the same where the index may be outside
-  pub sumBy-set-le : (xs : List A) (i : ℕ) (v d : A) → f d ≡ 0 → sumBy f (set xs i v) + f (getD xs i d) ≤ sumBy f xs + f v
+  pub sumBy-set-le : (xs : List A) (i : ℕ) (v d : A) → f d ≡ 0
+      → sumBy f (set xs i v) + f (getD xs i d) ≤ sumBy f xs + f v
   unfolding sumBy
   sumBy-set-le [] i v d e = omega arith
   sumBy-set-le (x ∷ xs) zero v d e = omega arith
@@ -44,7 +46,8 @@ unfolding occurs delta sumBy without
 sumBy-without f x [] h = absurd (omega arith)
 sumBy-without f x (y ∷ ys) h = go (eqb y x) refl h (sumBy-without f x ys)
   where
-    go : (t : Bool) → eqb y x ≡ t → 1 ≤ cond t 1 0 + occurs x ys → (1 ≤ occurs x ys → f x + sumBy f (without x ys) ≡ sumBy f ys)
+    go : (t : Bool) → eqb y x ≡ t → 1 ≤ cond t 1 0 + occurs x ys
+        → (1 ≤ occurs x ys → f x + sumBy f (without x ys) ≡ sumBy f ys)
         → f x + sumBy f (cond t ys (y ∷ without x ys)) ≡ f y + sumBy f ys
     go true e k ih = rw (eqb-true y x e)
     go false e k ih = omega (arith, ih (omega arith))
