@@ -1,4 +1,13 @@
 pub mod Worked
+pub mod Tabulate
+pub mod Places
+pub mod Words
+pub mod Siblings
+pub mod AppendLinks
+pub mod RemoveLinks
+pub mod Follow
+pub mod SiblingLists
+pub mod DecodeEncode
 pub mod Sums
 pub mod Occurs
 pub mod SumTo
