@@ -186,7 +186,7 @@ delete-kept s S i l false e =
     (record { disjoint = S .disjoint; ordered = ordered-but s i (S .disjoint) (S .ordered); ranked = S .ranked }) hi
     (hasParent s i) (has-parent s i) (λ z n. absurd (n (has-none s i z))) in
     let same : m .forests .heap ≡ s .heap = cutIf-heap (hasParent s i) h i s in
-    let hm : heapOf (m .forests) i ≡ suc h = ap (λ l. getD l i 0) same ∙ hi in
+    let hm : heapOf (m .forests) i ≡ suc h = rw same hi in
     let r : parentOf (m .forests) i ≡ none = rooted (hasParent s i) refl in
     let w : occurs i (rowOf (m .forests) h) ≡ 1 = root-row (m .forests) (c .formed .disjoint) h i hm r in
     record {

@@ -1,4 +1,4 @@
--- The cuts that follow a cut leave the forests sound. Assumes nothing.
+-- A cascading cut leaves the forests formed: what the last parent lacked of rank, its mark excuses.
 use Prim.Native.Nat.{ℕ, zero, suc, _+_, _≤_, _<_}
 use mathlib.Core.Path.{_≡_, refl, sym, ap, _∙_}
 use mathlib.Core.Logic.{_≢_}
@@ -49,16 +49,16 @@ unmarked-child e = let z : _≡_ {A = ℕ} 0 1 = cc in absurd (omega arith)
 marked-child : marked ≢ root
 marked-child e = let z : _≡_ {A = ℕ} 0 1 = cc in absurd (omega arith)
 
--- a root is nobody's child, so what it lacks of rank is nothing to anybody
+-- a root is no child, so what it lacks of rank breaks no rule
 pub root-ranked : (s : Forests) (p : ℕ) → Disjoint s → parentOf s p ≡ none → RankedBut (delta p) s → RankedBut exact s
 unfolding RankedBut
 root-ranked s p S r K =
     λ q k. ranks-mono (delta p) exact (s .children) (s .children) (s .mark) (s .mark) 0 (childrenOf s q)
-    (λ c i. omega (arith, delta-other p c (λ e. omega (arith, absent q k, ap (λ z. occurs z (childrenOf s q)) e))))
+    (λ c i. omega (arith, delta-other p c (λ e. omega (arith, no-child q k, ap (λ z. occurs z (childrenOf s q)) e))))
     (K q k)
   where
-    absent : (q : ℕ) → q < length (s .heap) → occurs p (childrenOf s q) ≡ 0
-    absent q k = S .inChildren q p k ∙ rw (r, ne-eqb none q (not-none s S q k), and-false)
+    no-child : (q : ℕ) → q < length (s .heap) → occurs p (childrenOf s q) ≡ 0
+    no-child q k = S .inChildren q p k ∙ rw (r, ne-eqb none q (not-none s S q k), and-false)
 
 -- a child without a mark gets one
 module _ (s : Forests) (p h : ℕ) (S : Disjoint s) (hp : heapOf s p ≡ suc h) (c : parentOf s p ≢ none)

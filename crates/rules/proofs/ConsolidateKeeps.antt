@@ -1,4 +1,4 @@
--- Linking a whole row leaves the forests sound, and no tree is lost at the seventeen places. Assumes nothing.
+-- Consolidating a row leaves the forests formed, no tree is lost at the seventeen places, and the ranks rise.
 use Prim.Native.Nat.{ℕ, zero, suc, _+_, _≤_, _<_}
 use mathlib.Core.Path.{_≡_, refl, sym, ap, _∙_}
 use mathlib.Core.Logic.{_≢_}

@@ -1,4 +1,4 @@
--- A cut keeps the forests sound, but that the parent may lack one of rank. Assumes nothing.
+-- A cut keeps the forests formed, but that the parent may lack one of rank.
 use Prim.Native.Nat.{ℕ, suc, _+_, _≤_, _<_, zero-le}
 use mathlib.Core.Path.{_≡_, sym, ap, _∙_}
 use mathlib.Core.Logic.{_≢_}

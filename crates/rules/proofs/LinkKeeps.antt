@@ -1,4 +1,4 @@
--- A link leaves the forests sound. Assumes nothing.
+-- A link leaves the forests formed. While a row is linked, `ρ` is the row that the forests would have.
 use Prim.Native.Nat.{ℕ, suc, _+_, _≤_, _<_, zero-le}
 use mathlib.Core.Path.{_≡_, sym, _∙_, subst}
 use mathlib.Core.Logic.{_≢_}

@@ -11,10 +11,10 @@ use lib.Dec.{eqb}
 use borrow.Author.Tests.{ne-eqb}
 use Rattle.rules.specs.Calls.{meld, moveHeap}
 use Rattle.rules.specs.Forests.{Forests, heapOf, none, parentOf, rowOf}
-use Rattle.rules.specs.Lists.{indicator, occurs, sumBy}
+use Rattle.rules.specs.Lists.{indicator, occurs}
 use Rattle.rules.specs.WellFormed.{Disjoint}
 use Rattle.rules.proofs.Excused.{Formed, OrderedBut, RankedBut, exact}
-use Rattle.rules.proofs.Occurs.{byItem, eqb-self, occurs-append}
+use Rattle.rules.proofs.Occurs.{byItem, eqb-self, occurs-append, occurs-nil}
 
 move-b : (a b : ℕ) → moveHeap a b (suc b) ≡ suc a
 unfolding moveHeap
@@ -35,7 +35,7 @@ module _ (s : Forests) (S : Disjoint s) (a b : ℕ) (aa : a < 8) (bb : b < 8) (a
   unfolding moveHeap
   heap-t y = List·getD-map (moveHeap a b) (s .heap) y 0
 
-  -- no home is b's now; a's are those of both; the others stay
+  -- no item is b's now; a's are those of both; the others stay
   heap-b : (v : ℕ) → eqb (moveHeap a b v) (suc b) ≡ false
   heap-b = byItem (suc b) (rw move-b (ne-eqb (suc a) (suc b) (λ e. ab (omega arith))))
       (λ v n. rw (move-o a b v n) (ne-eqb v (suc b) n))
@@ -69,10 +69,6 @@ module _ (s : Forests) (S : Disjoint s) (a b : ℕ) (aa : a < 8) (bb : b < 8) (a
   row-b = getD-set-same (set (s .rows) a (rowOf s a ++ rowOf s b)) b [] []
       (omega (arith, length-set (s .rows) a (rowOf s a ++ rowOf s b), S .rows8))
 
-  absent : (y : ℕ) → occurs y [] ≡ 0
-  unfolding occurs sumBy
-  absent y = refl
-
   meld-row : (g : ℕ) → g ≢ b → (y : ℕ)
       → occurs y (getD (set (s .rows) a (rowOf s a ++ rowOf s b)) g []) ≡ indicator
       (eqb (moveHeap a b (heapOf s y)) (suc g) && eqb (parentOf s y) none)
@@ -91,7 +87,7 @@ module _ (s : Forests) (S : Disjoint s) (a b : ℕ) (aa : a < 8) (bb : b < 8) (a
     markN = simp length-map (S .markN);
     small = simp length-map (S .small);
     heaps = λ y. rw (heap-t y) (heap-le (heapOf s y) (S .heaps y));
-    inRow = byItem b (λ y. rw (heap-t y, heap-b, row-b) (absent y))
+    inRow = byItem b (λ y. rw (heap-t y, heap-b, row-b) (occurs-nil y))
         (λ g n y. rw (heap-t y, getD-set-other (set (s .rows) a (rowOf s a ++ rowOf s b)) b g) (meld-row g n y));
     inChildren = λ q y. rw (length-map (s .heap) (moveHeap a b), heap-t y, heap-0) (S .inChildren q y);
     up = λ y. rw (heap-t y, length-map (s .heap) (moveHeap a b))

@@ -1,5 +1,5 @@
 -- Who stands in a row or among children, in disjoint forests.
--- an item outside the table has no home
+-- an item outside the table is in no heap
 use Prim.Native.Nat.{ℕ, suc, _≤_, _<_}
 use mathlib.Core.Path.{_≡_, refl, sym, ap, _∙_}
 use mathlib.Core.Logic.{_≢_}
@@ -58,7 +58,7 @@ pub parent-child : (s : Forests) → Disjoint s → (q c : ℕ) → q < length (
     → occurs c (childrenOf s q) ≡ 1
 parent-child s S q c j a b = S .inChildren q c j ∙ rw (b, ne-eqb (heapOf s c) 0 a, eqb-self q)
 
--- a root is nobody's child
+-- a root is no child
 pub root-child : (s : Forests) → Disjoint s → (q x : ℕ) → q < length (s .heap) → parentOf s x ≡ none
     → occurs x (childrenOf s q) ≡ 0
 root-child s S q x j e = S .inChildren q x j ∙ rw (e, ne-eqb none q (not-none s S q j), and-false)

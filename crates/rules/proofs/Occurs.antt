@@ -33,6 +33,10 @@ pub occurs-append : (x : ℕ) (l m : List ℕ) → occurs x (l ++ m) ≡ occurs 
 unfolding occurs
 occurs-append x l m = sumBy-append (delta x) l m
 
+pub occurs-nil : (x : ℕ) → occurs x [] ≡ 0
+unfolding occurs sumBy
+occurs-nil x = refl
+
 pub occurs-one : (x y : ℕ) → occurs x (y ∷ []) ≡ delta x y
 unfolding occurs sumBy
 occurs-one x y = omega arith

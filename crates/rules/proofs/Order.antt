@@ -1,4 +1,4 @@
--- The item order: what it says of the keys, and that it is strict and total. Assumes nothing.
+-- The item order: what it says of the keys, that it is strict and total, and as an order of numbers.
 use Prim.Native.Nat.{ℕ, _+_, _*_, _≤_, _<_}
 use mathlib.Core.Path.{_≡_, refl, sym, ap}
 use mathlib.Core.Logic.{_≢_}

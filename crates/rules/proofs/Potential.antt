@@ -1,4 +1,4 @@
--- What each move does to the charge. These hold of any lists whatever. Assumes nothing.
+-- What each move does to the potential. These hold of any lists whatever, well-formed or not.
 use Prim.Native.Nat.{ℕ, zero, suc, _+_, _*_, _≤_, zero-le}
 use mathlib.Core.Path.{_≡_, refl, ap}
 use mathlib.Core.Logic.{_≢_}
@@ -64,7 +64,7 @@ pub cut-marks : (h x : ℕ) (s : Forests) → marks (cut h x s) + markOf s x ≤
 unfolding marks cut
 cut-marks h x s = clear (s .mark) x
 
--- what is told of a parent whose fate is `marked`
+-- a parent that stands as marked has a mark
 pub marked-standing : (s : Forests) (p : ℕ) → standing s p ≡ marked → 1 ≤ markOf s p
 unfolding standing
 marked-standing s p e = go (eqb (parentOf s p) none) (eqb (markOf s p) 0) refl e

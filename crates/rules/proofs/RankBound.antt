@@ -1,4 +1,4 @@
--- The rank of a root is at most R of its heap's items. Assumes nothing.
+-- The rank of a root is at most R of its heap's items: F(rank + 2) over the roots is at most the item count.
 use Prim.Native.Nat.{ℕ, suc, _+_, _*_, _≤_, _<_}
 use mathlib.Core.Path.{_≡_, refl, sym, ap, _∙_}
 use mathlib.Core.List.{List, [], _∷_}
@@ -31,21 +31,21 @@ use Rattle.rules.proofs.SumTo.{
 }
 use Rattle.rules.proofs.Sums.{sumBy-without}
 
--- what an item is worth: F of its rank + 2
-abbrev pub worth : Forests → ℕ → ℕ
-worth s i = F (suc (suc (rankOf s i)))
+-- F(rank + 2), which bounds the size of an item's tree from below
+abbrev pub weight : Forests → ℕ → ℕ
+weight s i = F (suc (suc (rankOf s i)))
 
--- the children of an item are worth all of it but 1
-pub children-worth : (s : Forests) → ((x : ℕ) → markOf s x ≤ 1) → (j : ℕ) (cs : List ℕ)
+-- the weights of an item's children sum to all of its own but 1
+pub children-weight : (s : Forests) → ((x : ℕ) → markOf s x ≤ 1) → (j : ℕ) (cs : List ℕ)
     → ChildRanksBut exact (s .children) (s .mark) j cs
-    → F (suc (suc (j + length cs))) ≤ F (suc (suc j)) + sumBy (worth s) cs
+    → F (suc (suc (j + length cs))) ≤ F (suc (suc j)) + sumBy (weight s) cs
 unfolding sumBy
-children-worth s b j [] t = let e : j + 0 ≡ j = omega arith in rw e (omega arith)
-children-worth s b j (c ∷ cs) t =
+children-weight s b j [] t = let e : j + 0 ≡ j = omega arith in rw e (omega arith)
+children-weight s b j (c ∷ cs) t =
     let e : j + suc (length cs) ≡ suc j + length cs = omega arith in
     rw e (omega (
       arith,
-      children-worth s b (suc j) cs (t .1),
+      children-weight s b (suc j) cs (t .1),
       F-rec (suc j),
       b c,
       F-mono (suc j) (suc (suc (rankOf s c)))
@@ -64,11 +64,11 @@ module _ (s : Forests) (S : Disjoint s) (K : RankedBut exact s) (h : ℕ) where
   H : ℕ → ℕ
   H i = cond (eqb (heapOf s i) (suc h)) 1 0
 
-  item-worth : (i : ℕ) → i < N → worth s i ≤ 1 + sumBy (worth s) (childrenOf s i)
+  item-weight : (i : ℕ) → i < N → weight s i ≤ 1 + sumBy (weight s) (childrenOf s i)
   unfolding RankedBut N
-  item-worth i j =
-      let k : F (suc (suc (rankOf s i))) ≤ F 2 + sumBy (worth s) (childrenOf s i) =
-      rw zero-add at (children-worth s (S .bit) 0 (childrenOf s i) (K i j)) in
+  item-weight i j =
+      let k : F (suc (suc (rankOf s i))) ≤ F 2 + sumBy (weight s) (childrenOf s i) =
+      rw zero-add at (children-weight s (S .bit) 0 (childrenOf s i) (K i j)) in
       omega (arith, F-two)
 
   out-row : (x : ℕ) → N ≤ x → occurs x (rowOf s h) ≡ 0
@@ -79,15 +79,15 @@ module _ (s : Forests) (S : Disjoint s) (K : RankedBut exact s) (h : ℕ) where
   unfolding N
   out-children i j x k = S .inChildren i x j ∙ rw (out-heap s x k)
 
-  -- what x is worth is counted at most once: as a root, or under its parent
+  -- the weight of x is counted at most once: as a root, or under its parent
   once : (x : ℕ) → x < N
-      → sumTo N (λ i. H i * (occurs x (childrenOf s i) * worth s x)) + occurs x
-      (rowOf s h) * worth s x ≤ H x * worth s x
+      → sumTo N (λ i. H i * (occurs x (childrenOf s i) * weight s x)) + occurs x
+      (rowOf s h) * weight s x ≤ H x * weight s x
   unfolding N H delta
   once x k = go (eqb (heapOf s x) 0) (eqb (parentOf s x) none) (eqb (heapOf s x) (suc h)) refl refl refl
     where
       W : ℕ
-      W = worth s x
+      W = weight s x
 
       go : (a b c : Bool) → eqb (heapOf s x) 0 ≡ a → eqb (parentOf s x) none ≡ b → eqb (heapOf s x) (suc h) ≡ c
           → sumTo N (λ i. H i * (occurs x (childrenOf s i) * W)) + occurs x (rowOf s h) * W ≤ cond c 1 0 * W
@@ -124,25 +124,25 @@ module _ (s : Forests) (S : Disjoint s) (K : RankedBut exact s) (h : ℕ) where
                 ap (λ y. y * W) q,
               ))
 
-  rows-worth : sumBy (worth s) (rowOf s h) ≤ count s h
+  rows-weight : sumBy (weight s) (rowOf s h) ≤ count s h
   unfolding N H count
-  rows-worth =
+  rows-weight =
       omega (
         arith,
-        sumBy-occurs N (worth s) (rowOf s h) out-row,
-        sumTo-le N (λ i. H i * worth s i) (λ i. H i + H i * sumBy (worth s) (childrenOf s i))
-            (λ i j. omega (arith, mul-le-mul-left (H i) (item-worth i j))),
-        sumTo-add N H (λ i. H i * sumBy (worth s) (childrenOf s i)),
-        sumTo-cong N (λ i. H i * sumBy (worth s) (childrenOf s i))
-            (λ i. sumTo N (λ x. H i * (occurs x (childrenOf s i) * worth s x)))
-            (λ i j. ap (λ y. H i * y) (sumBy-occurs N (worth s) (childrenOf s i) (out-children i j))
-            ∙ sym (sumTo-mul N (H i) (λ x. occurs x (childrenOf s i) * worth s x))),
-        sumTo-swap N N (λ i x. H i * (occurs x (childrenOf s i) * worth s x)),
+        sumBy-occurs N (weight s) (rowOf s h) out-row,
+        sumTo-le N (λ i. H i * weight s i) (λ i. H i + H i * sumBy (weight s) (childrenOf s i))
+            (λ i j. omega (arith, mul-le-mul-left (H i) (item-weight i j))),
+        sumTo-add N H (λ i. H i * sumBy (weight s) (childrenOf s i)),
+        sumTo-cong N (λ i. H i * sumBy (weight s) (childrenOf s i))
+            (λ i. sumTo N (λ x. H i * (occurs x (childrenOf s i) * weight s x)))
+            (λ i j. ap (λ y. H i * y) (sumBy-occurs N (weight s) (childrenOf s i) (out-children i j))
+            ∙ sym (sumTo-mul N (H i) (λ x. occurs x (childrenOf s i) * weight s x))),
+        sumTo-swap N N (λ i x. H i * (occurs x (childrenOf s i) * weight s x)),
         sumTo-le N
-            (λ x. sumTo N (λ i. H i * (occurs x (childrenOf s i) * worth s x)) + occurs x (rowOf s h) * worth s x)
-            (λ x. H x * worth s x) once,
-        sumTo-add N (λ x. sumTo N (λ i. H i * (occurs x (childrenOf s i) * worth s x)))
-            (λ x. occurs x (rowOf s h) * worth s x),
+            (λ x. sumTo N (λ i. H i * (occurs x (childrenOf s i) * weight s x)) + occurs x (rowOf s h) * weight s x)
+            (λ x. H x * weight s x) once,
+        sumTo-add N (λ x. sumTo N (λ i. H i * (occurs x (childrenOf s i) * weight s x)))
+            (λ x. occurs x (rowOf s h) * weight s x),
         sumBy-places (λ x. cond (eqb x (suc h)) 1 0) 0 (s .heap),
       )
 
@@ -154,4 +154,4 @@ part-le f x l k = omega (arith, sumBy-without f x l k)
 pub rank-le : (s : Forests) → Disjoint s → RankedBut exact s → (h x : ℕ) → 1 ≤ occurs x (rowOf s h)
     → rankOf s x ≤ R (count s h)
 rank-le s S K h x k =
-    R-max (count s h) (rankOf s x) (le-trans (part-le (worth s) x (rowOf s h) k) (rows-worth s S K h))
+    R-max (count s h) (rankOf s x) (le-trans (part-le (weight s) x (rowOf s h) k) (rows-weight s S K h))

@@ -1,4 +1,4 @@
--- A root that leaves its row, with its children for new roots, leaves the forests sound. Assumes nothing.
+-- A root that leaves its row, with its children as new roots, leaves the forests formed.
 use Prim.Native.Nat.{ℕ, suc, _+_, _≤_, _<_, zero-le}
 use mathlib.Core.Path.{_≡_, refl, sym, _∙_}
 use mathlib.Core.Logic.{_≢_}
@@ -12,7 +12,7 @@ use lib.Dec.{eqb, eqb·zero-suc}
 use borrow.Author.Tests.{ne-eqb}
 use Rattle.rules.specs.Calls.{release, removeRoot, setFree}
 use Rattle.rules.specs.Forests.{Forests, childrenOf, heapOf, markOf, none, parentOf, rowOf}
-use Rattle.rules.specs.Lists.{occurs, setAll, sumBy, without}
+use Rattle.rules.specs.Lists.{occurs, setAll, without}
 use Rattle.rules.specs.WellFormed.{Disjoint, isChildOf}
 use Rattle.rules.proofs.Excused.{Formed, OrderedBut, RankedBut, exact, ranks-mono}
 use Rattle.rules.proofs.Members.{child-parent, heap-in, not-none, parent-child, root-child, root-row}
@@ -23,14 +23,15 @@ use Rattle.rules.proofs.Occurs.{
   delta-self,
   eqb-self,
   occurs-append,
+  occurs-nil,
   occurs-without,
 }
 use Rattle.rules.proofs.Order.{precedes-other}
 use Rattle.rules.proofs.SetAll.{length-setAll, setAll-in, setAll-out}
 
 module _ (s : Forests) (S : Disjoint s) (h x : ℕ) (hx : heapOf s x ≡ suc h) (rx : parentOf s x ≡ none) where
-  abbrev ks : List ℕ
-  ks = childrenOf s x
+  abbrev cs : List ℕ
+  cs = childrenOf s x
 
   x-in : x < length (s .heap)
   x-in = heap-in s x (λ e. omega (arith, hx))
@@ -42,13 +43,13 @@ module _ (s : Forests) (S : Disjoint s) (h x : ℕ) (hx : heapOf s x ≡ suc h) 
   x-row = root-row s S h x hx rx
 
   -- x itself, a child of x, any other
-  byKid : {P : ℕ → Type 0} → P x → ((y : ℕ) → y ≢ x → occurs y ks ≡ 1 → heapOf s y ≡ suc h → parentOf s y ≡ x → P y)
-      → ((y : ℕ) → y ≢ x → occurs y ks ≡ 0 → P y) → (y : ℕ) → P y
-  byKid {P} a b c = byItem x a (λ y n. go y n (isChildOf s x y) refl)
+  byChild : {P : ℕ → Type 0} → P x → ((y : ℕ) → y ≢ x → occurs y cs ≡ 1 → heapOf s y ≡ suc h → parentOf s y ≡ x → P y)
+      → ((y : ℕ) → y ≢ x → occurs y cs ≡ 0 → P y) → (y : ℕ) → P y
+  byChild {P} a b c = byItem x a (λ y n. go y n (isChildOf s x y) refl)
     where
       go : (y : ℕ) → y ≢ x → (t : Bool) → isChildOf s x y ≡ t → P y
       go y n true e =
-          let k : occurs y ks ≡ 1 = S .inChildren x y x-in ∙ rw e in
+          let k : occurs y cs ≡ 1 = S .inChildren x y x-in ∙ rw e in
           let q = child-parent s S x y x-in (omega arith) in
           b y n k (sym (S .up y (q .0) (λ z. not-none s S x x-in (sym z ∙ q .1)) .1) ∙ rw (q .1) hx) (q .1)
       go y n false e = c y n (S .inChildren x y x-in ∙ rw e)
@@ -62,32 +63,32 @@ module _ (s : Forests) (S : Disjoint s) (h x : ℕ) (hx : heapOf s x ≡ suc h) 
   children-x : getD (set (s .children) x []) x [] ≡ []
   children-x = getD-set-same (s .children) x [] [] (omega (arith, S .childrenN, x-in))
 
-  parent-x : getD (set (setAll ks none (s .parent)) x 0) x 0 ≡ 0
+  parent-x : getD (set (setAll cs none (s .parent)) x 0) x 0 ≡ 0
   parent-x =
-      getD-set-same (setAll ks none (s .parent)) x 0 0
-      (omega (arith, length-setAll ks none (s .parent), S .parentN, x-in))
+      getD-set-same (setAll cs none (s .parent)) x 0 0
+      (omega (arith, length-setAll cs none (s .parent), S .parentN, x-in))
 
-  parent-children : (y : ℕ) → y ≢ x → occurs y ks ≡ 1 → heapOf s y ≡ suc h
-      → getD (set (setAll ks none (s .parent)) x 0) y 0 ≡ none
+  parent-children : (y : ℕ) → y ≢ x → occurs y cs ≡ 1 → heapOf s y ≡ suc h
+      → getD (set (setAll cs none (s .parent)) x 0) y 0 ≡ none
   parent-children y n k e =
-      getD-set-other (setAll ks none (s .parent)) x y 0 0 n
-      ∙ setAll-in ks none y 0 (s .parent) (omega (arith, S .parentN, heap-in s y (λ z. omega (arith, e))))
+      getD-set-other (setAll cs none (s .parent)) x y 0 0 n
+      ∙ setAll-in cs none y 0 (s .parent) (omega (arith, S .parentN, heap-in s y (λ z. omega (arith, e))))
       (omega arith)
 
-  parent-o : (y : ℕ) → y ≢ x → occurs y ks ≡ 0 → getD (set (setAll ks none (s .parent)) x 0) y 0 ≡ parentOf s y
-  parent-o y n k = getD-set-other (setAll ks none (s .parent)) x y 0 0 n ∙ setAll-out ks none y 0 (s .parent) k
+  parent-o : (y : ℕ) → y ≢ x → occurs y cs ≡ 0 → getD (set (setAll cs none (s .parent)) x 0) y 0 ≡ parentOf s y
+  parent-o y n k = getD-set-other (setAll cs none (s .parent)) x y 0 0 n ∙ setAll-out cs none y 0 (s .parent) k
 
-  mark-x : getD (set (setAll ks 0 (s .mark)) x 0) x 0 ≡ 0
-  mark-x = getD-set-same (setAll ks 0 (s .mark)) x 0 0 (omega (arith, length-setAll ks 0 (s .mark), S .markN, x-in))
+  mark-x : getD (set (setAll cs 0 (s .mark)) x 0) x 0 ≡ 0
+  mark-x = getD-set-same (setAll cs 0 (s .mark)) x 0 0 (omega (arith, length-setAll cs 0 (s .mark), S .markN, x-in))
 
-  mark-children : (y : ℕ) → y ≢ x → occurs y ks ≡ 1 → heapOf s y ≡ suc h
-      → getD (set (setAll ks 0 (s .mark)) x 0) y 0 ≡ 0
+  mark-children : (y : ℕ) → y ≢ x → occurs y cs ≡ 1 → heapOf s y ≡ suc h
+      → getD (set (setAll cs 0 (s .mark)) x 0) y 0 ≡ 0
   mark-children y n k e =
-      getD-set-other (setAll ks 0 (s .mark)) x y 0 0 n
-      ∙ setAll-in ks 0 y 0 (s .mark) (omega (arith, S .markN, heap-in s y (λ z. omega (arith, e)))) (omega arith)
+      getD-set-other (setAll cs 0 (s .mark)) x y 0 0 n
+      ∙ setAll-in cs 0 y 0 (s .mark) (omega (arith, S .markN, heap-in s y (λ z. omega (arith, e)))) (omega arith)
 
-  mark-o : (y : ℕ) → y ≢ x → occurs y ks ≡ 0 → getD (set (setAll ks 0 (s .mark)) x 0) y 0 ≡ markOf s y
-  mark-o y n k = getD-set-other (setAll ks 0 (s .mark)) x y 0 0 n ∙ setAll-out ks 0 y 0 (s .mark) k
+  mark-o : (y : ℕ) → y ≢ x → occurs y cs ≡ 0 → getD (set (setAll cs 0 (s .mark)) x 0) y 0 ≡ markOf s y
+  mark-o y n k = getD-set-other (setAll cs 0 (s .mark)) x y 0 0 n ∙ setAll-out cs 0 y 0 (s .mark) k
 
   key-x : getD (set (s .key) x 0) x 0 ≡ 0
   key-x = getD-set-same (s .key) x 0 0 (omega (arith, S .keyN, x-in))
@@ -96,7 +97,7 @@ module _ (s : Forests) (S : Disjoint s) (h x : ℕ) (hx : heapOf s x ≡ suc h) 
   heap-o y n = getD-set-other (s .heap) x y 0 0 n
 
   -- the parent of one that is no child of x is not x
-  not-x : (y : ℕ) → occurs y ks ≡ 0 → heapOf s y ≢ 0 → parentOf s y ≢ x
+  not-x : (y : ℕ) → occurs y cs ≡ 0 → heapOf s y ≢ 0 → parentOf s y ≢ x
   not-x y k l e = omega (arith, parent-child s S x y x-in l e)
 
   child-row : (g y : ℕ) → parentOf s y ≡ x → occurs y (rowOf s g) ≡ 0
@@ -104,10 +105,6 @@ module _ (s : Forests) (S : Disjoint s) (h x : ℕ) (hx : heapOf s x ≡ suc h) 
 
   apart : (g : ℕ) → g ≢ h → eqb (suc h) (suc g) ≡ false
   apart g m = ne-eqb (suc h) (suc g) (λ z. m (omega arith))
-
-  absent : (y : ℕ) → occurs y [] ≡ 0
-  unfolding occurs sumBy
-  absent y = refl
 
   pub remove-disjoint : Disjoint (removeRoot h x s)
   unfolding removeRoot setFree release
@@ -120,10 +117,10 @@ module _ (s : Forests) (S : Disjoint s) (h x : ℕ) (hx : heapOf s x ≡ suc h) 
     small = simp length-set (S .small);
     heaps = byItem x (rw heap-x zero-le) (λ y n. rw (heap-o y n) (S .heaps y));
     inRow = byItem h
-        (byKid (rw (row-h, heap-x, eqb·zero-suc h)
+        (byChild (rw (row-h, heap-x, eqb·zero-suc h)
         (omega (
           arith,
-          occurs-append x (without x (rowOf s h)) ks,
+          occurs-append x (without x (rowOf s h)) cs,
           occurs-without x x (rowOf s h)
               (omega (arith, x-row)),
           delta-self x,
@@ -133,7 +130,7 @@ module _ (s : Forests) (S : Disjoint s) (h x : ℕ) (hx : heapOf s x ≡ suc h) 
         (λ y n k e u. rw (row-h, heap-o y n, parent-children y n k e, e, eqb-self (suc h))
         (omega (
           arith,
-          occurs-append y (without x (rowOf s h)) ks,
+          occurs-append y (without x (rowOf s h)) cs,
           occurs-without y x (rowOf s h)
               (omega (arith, x-row)),
           delta-other y x (λ z. n (sym z)),
@@ -142,21 +139,21 @@ module _ (s : Forests) (S : Disjoint s) (h x : ℕ) (hx : heapOf s x ≡ suc h) 
         (λ y n k. rw (row-h, heap-o y n, parent-o y n k)
         (omega (
           arith,
-          occurs-append y (without x (rowOf s h)) ks,
+          occurs-append y (without x (rowOf s h)) cs,
           occurs-without y x (rowOf s h)
               (omega (arith, x-row)),
           delta-other y x (λ z. n (sym z)),
           S .inRow h y,
         ))))
-        (λ g m. byKid (rw (getD-set-other (s .rows) h g, heap-x, eqb·zero-suc g) (S .inRow g x ∙ rw (hx, apart g m)))
+        (λ g m. byChild (rw (getD-set-other (s .rows) h g, heap-x, eqb·zero-suc g) (S .inRow g x ∙ rw (hx, apart g m)))
         (λ y n k e u. rw (getD-set-other (s .rows) h g, heap-o y n, e, apart g m) (child-row g y u))
         (λ y n k. rw (getD-set-other (s .rows) h g, heap-o y n, parent-o y n k) (S .inRow g y)));
     inChildren = rw (length-set (s .heap) x 0) (byItem x
-        (byKid (λ j. rw (children-x, heap-x) (absent x))
+        (byChild (λ j. rw (children-x, heap-x) (occurs-nil x))
         (λ y n k e u j. rw (children-x, parent-children y n k e, ne-eqb none x (not-none s S x j), and-false)
-        (absent y))
-        (λ y n k j. rw (children-x, heap-o y n, parent-o y n k) (absent y ∙ sym k ∙ S .inChildren x y j)))
-        (λ q m. byKid (λ j. rw (getD-set-other (s .children) x q, heap-x) (root-child s S q x j rx))
+        (occurs-nil y))
+        (λ y n k j. rw (children-x, heap-o y n, parent-o y n k) (occurs-nil y ∙ sym k ∙ S .inChildren x y j)))
+        (λ q m. byChild (λ j. rw (getD-set-other (s .children) x q, heap-x) (root-child s S q x j rx))
         (λ y n k e u j.
         rw (
           getD-set-other (s .children) x q,
@@ -166,20 +163,20 @@ module _ (s : Forests) (S : Disjoint s) (h x : ℕ) (hx : heapOf s x ≡ suc h) 
           and-false,
         ) (S .inChildren q y j ∙ rw (u, ne-eqb x q (λ z. m (sym z)), and-false)))
         (λ y n k. rw (getD-set-other (s .children) x q, heap-o y n, parent-o y n k) (S .inChildren q y))));
-    up = byKid (λ l _. absurd (l heap-x)) (λ y n k e u l m. absurd (m (parent-children y n k e)))
+    up = byChild (λ l _. absurd (l heap-x)) (λ y n k e u l m. absurd (m (parent-children y n k e)))
         (λ y n k. rw (heap-o y n, parent-o y n k, length-set)
         (λ l m. (S .up y l m .0, rw (heap-o (parentOf s y) (not-x y k l)) (S .up y l m .1))));
-    free = byKid (λ _. (key-x, parent-x, mark-x)) (λ y n k e u z. absurd (omega (arith, z, e, heap-o y n)))
+    free = byChild (λ _. (key-x, parent-x, mark-x)) (λ y n k e u z. absurd (omega (arith, z, e, heap-o y n)))
         (λ y n k. rw (heap-o y n, parent-o y n k, mark-o y n k, getD-set-other (s .key) x y) (S .free y));
-    bit = byKid (rw mark-x zero-le) (λ y n k e u. rw (mark-children y n k e) zero-le)
+    bit = byChild (rw mark-x zero-le) (λ y n k e u. rw (mark-children y n k e) zero-le)
         (λ y n k. rw (mark-o y n k) (S .bit y));
-    bare = byKid (λ _. mark-x) (λ y n k e u _. mark-children y n k e)
+    bare = byChild (λ _. mark-x) (λ y n k e u _. mark-children y n k e)
         (λ y n k. rw (mark-o y n k, parent-o y n k) (S .bare y));
   }
 
   pub remove-ordered : OrderedBut none s → OrderedBut none (removeRoot h x s)
   unfolding OrderedBut removeRoot setFree release
-  remove-ordered O = byKid (λ a l m. absurd (l heap-x)) (λ y n k e u a l m. absurd (m (parent-children y n k e)))
+  remove-ordered O = byChild (λ a l m. absurd (l heap-x)) (λ y n k e u a l m. absurd (m (parent-children y n k e)))
       (λ y n k a. rw (heap-o y n, parent-o y n k)
       (λ l m. rw (precedes-other (s .key) x 0 (parentOf s y) y (not-x y k l) n) (O y a l m)))
 
@@ -188,13 +185,13 @@ module _ (s : Forests) (S : Disjoint s) (h x : ℕ) (hx : heapOf s x ≡ suc h) 
   remove-ranked K = rw (length-set (s .heap) x 0) (byItem x (λ j. rw children-x tt)
       (λ q m j. rw (getD-set-other (s .children) x q)
       (ranks-mono exact exact (s .children) (set (s .children) x []) (s .mark)
-      (set (setAll ks 0 (s .mark)) x 0) 0 (childrenOf s q)
+      (set (setAll cs 0 (s .mark)) x 0) 0 (childrenOf s q)
       (λ c i. like q m j c i) (K q j))))
     where
       like : (q : ℕ) → q ≢ x → q < length (s .heap) → (c : ℕ) → 1 ≤ occurs c (childrenOf s q)
           → length (childrenOf s c) + markOf s c + 0 ≤ length (getD (set (s .children) x []) c []) + getD
-          (set (setAll ks 0 (s .mark)) x 0) c 0 + 0
-      like q m j = byKid (λ i. absurd (omega (arith, root-child s S q x j rx)))
+          (set (setAll cs 0 (s .mark)) x 0) c 0 + 0
+      like q m j = byChild (λ i. absurd (omega (arith, root-child s S q x j rx)))
           (λ y n k e u i. absurd (m (sym (child-parent s S q y j i .1) ∙ u)))
           (λ y n k i. rw (mark-o y n k, getD-set-other (s .children) x y) (le-refl _))
 

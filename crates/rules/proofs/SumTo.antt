@@ -1,4 +1,4 @@
--- Sums over the numbers below n, and how a sum over a list is one. Assumes nothing.
+-- Sums over the numbers below n, and how a sum over a list is one.
 use Prim.Native.Nat.{ℕ, zero, suc, _+_, _*_, _≤_, _<_}
 use mathlib.Core.Path.{_≡_, refl, sym, _∙_}
 use mathlib.Core.Logic.{_≢_}

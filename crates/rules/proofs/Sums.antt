@@ -1,4 +1,4 @@
--- Laws of sums over lists, and of a list without an element. Assumes nothing.
+-- Laws of sums over lists, and of a list without an element.
 use Prim.Native.Nat.{ℕ, zero, suc, _+_, _≤_, _<_}
 use mathlib.Core.Path.{_≡_, refl, ap}
 use mathlib.Core.List.{List, [], _∷_, _++_}

@@ -9,5 +9,5 @@ pub mod Fibonacci
 pub mod WellFormed
 pub mod Ledger
 pub mod Words
-pub mod Worked
+pub mod ByHand
 pub mod Theorems

@@ -1,4 +1,5 @@
--- The runs worked by hand (scope paper, a to h): one table, and the claim that the rules give it.
+-- The runs worked by hand: one table, and the claim that the rules give it. Rows (a) to (h) are the scope paper's; the
+-- last two show what its runs do not reach.
 use Prim.Native.Nat.{ℕ, zero, suc}
 use mathlib.Core.Path.{_≡_}
 use mathlib.Core.List.{List, [], _∷_, _++_, map}
@@ -67,11 +68,23 @@ unfoldable pub byRules : Row → Row
 byRules (rank n k) = rank n (R n)
 byRules (run ls e) = run ls (seen ls)
 
--- the lines of b, and those of e to h, each part after the one before
+-- ---- the paper's runs
+
 unfoldable pub linesB : List Line
 linesB =
     Yields (Insert 0 0 5) ∷ Yields (Insert 0 1 3) ∷ Yields (Insert 0 2 8) ∷ Yields (Insert 0 3 1)
     ∷ Yields (ExtractMin 0) ∷ []
+
+unfoldable pub runB : Row
+runB = run linesB (sees (reply 0 3 1 1 0) (2 ∷ 1 ∷ []) ((1, 0 ∷ []) ∷ []) [] 2 1 6)
+
+unfoldable pub runC : Row
+runC =
+    run (linesB ++ Yields (DecreaseKey 0 4) ∷ [])
+    (sees (reply 0 0 4 0 0) (2 ∷ 1 ∷ []) ((1, 0 ∷ []) ∷ []) [] 2 1 10)
+
+unfoldable pub runD : Row
+runD = run (linesB ++ Yields (DecreaseKey 0 3) ∷ []) (sees (reply 0 0 3 0 1) (2 ∷ 1 ∷ 0 ∷ []) [] [] 3 2 10)
 
 unfoldable pub linesE : List Line
 linesE =
@@ -79,42 +92,67 @@ linesE =
     ∷ Yields (Insert 0 4 40) ∷ Yields (Insert 0 5 50) ∷ Yields (Insert 0 6 60) ∷ Yields (Insert 0 7 70)
     ∷ Yields (Insert 0 8 80) ∷ Yields (ExtractMin 0) ∷ []
 
+unfoldable pub runE : Row
+runE =
+    run linesE
+    (sees (reply 0 0 0 7 0) (1 ∷ []) ((1, 2 ∷ 3 ∷ 5 ∷ []) ∷ (3, 4 ∷ []) ∷ (5, 6 ∷ 7 ∷ []) ∷ (7, 8 ∷ []) ∷ [])
+    [] 1 7 13)
+
+-- (f) after its first call, its second and its third
+unfoldable pub linesF1 : List Line
+linesF1 = linesE ++ Yields (DecreaseKey 8 5) ∷ []
+
+unfoldable pub runF1 : Row
+runF1 =
+    run linesF1
+    (sees (reply 0 8 5 0 1) (1 ∷ 8 ∷ []) ((1, 2 ∷ 3 ∷ 5 ∷ []) ∷ (3, 4 ∷ []) ∷ (5, 6 ∷ 7 ∷ []) ∷ []) (7 ∷ []) 4 8 17)
+
+unfoldable pub linesF2 : List Line
+linesF2 = linesF1 ++ Yields (DecreaseKey 6 4) ∷ []
+
+unfoldable pub runF2 : Row
+runF2 =
+    run linesF2
+    (sees (reply 0 6 4 0 1) (1 ∷ 8 ∷ 6 ∷ []) ((1, 2 ∷ 3 ∷ 5 ∷ []) ∷ (3, 4 ∷ []) ∷ (5, 7 ∷ []) ∷ []) (5 ∷ 7 ∷ [])
+    7 9 21)
+
 unfoldable pub linesF : List Line
-linesF = linesE ++ Yields (DecreaseKey 8 5) ∷ Yields (DecreaseKey 6 4) ∷ Yields (DecreaseKey 7 3) ∷ []
+linesF = linesF2 ++ Yields (DecreaseKey 7 3) ∷ []
+
+unfoldable pub runF : Row
+runF =
+    run linesF
+    (sees (reply 0 7 3 0 2) (1 ∷ 8 ∷ 6 ∷ 7 ∷ 5 ∷ []) ((1, 2 ∷ 3 ∷ []) ∷ (3, 4 ∷ []) ∷ []) [] 5 11 25)
 
 unfoldable pub linesG : List Line
 linesG = linesF ++ Yields (Delete 3) ∷ []
 
-unfoldable pub linesH : List Line
-linesH = linesG ++ Yields (ExtractMin 0) ∷ []
+unfoldable pub runG : Row
+runG = run linesG (sees (reply 0 3 30 0 1) (1 ∷ 8 ∷ 6 ∷ 7 ∷ 5 ∷ 4 ∷ []) ((1, 2 ∷ []) ∷ []) [] 6 12 32)
+
+unfoldable pub runH : Row
+runH =
+    run (linesG ++ Yields (ExtractMin 0) ∷ [])
+    (sees (reply 0 7 3 3 0) (4 ∷ 6 ∷ []) ((1, 2 ∷ []) ∷ (4, 5 ∷ []) ∷ (6, 8 ∷ 1 ∷ []) ∷ []) [] 2 15 35)
+
+-- ---- two more
+
+-- Of two equal keys the lower item is taken, wherever it stands in the row.
+unfoldable pub runTie : Row
+runTie =
+    run (Yields (Insert 0 2 5) ∷ Yields (Insert 0 1 5) ∷ Yields (ExtractMin 0) ∷ [])
+    (sees (reply 0 1 5 0 0) (2 ∷ []) [] [] 1 0 3)
+
+-- The marked item 5 is released by a deletion and loses its mark; 7 below it keeps its own.
+unfoldable pub runRelease : Row
+runRelease =
+    run (linesF2 ++ Yields (Delete 1) ∷ [])
+    (sees (reply 0 1 10 0 0) (8 ∷ 6 ∷ 2 ∷ 3 ∷ 5 ∷ []) ((3, 4 ∷ []) ∷ (5, 7 ∷ []) ∷ []) (7 ∷ []) 7 9 28)
 
 unfoldable pub table : List Row
 table =
-    -- (a)
     rank 1 0 ∷ rank 2 1 ∷ rank 3 2 ∷ rank 4 2 ∷ rank 5 3 ∷ rank 8 4
-    -- (b), (c), (d)
-    ∷ run linesB (sees (reply 0 3 1 1 0) (2 ∷ 1 ∷ []) ((1, 0 ∷ []) ∷ []) [] 2 1 6)
-    ∷ run (linesB ++ Yields (DecreaseKey 0 4) ∷ [])
-    (sees (reply 0 0 4 0 0) (2 ∷ 1 ∷ []) ((1, 0 ∷ []) ∷ []) [] 2 1 10)
-    ∷ run (linesB ++ Yields (DecreaseKey 0 3) ∷ []) (sees (reply 0 0 3 0 1) (2 ∷ 1 ∷ 0 ∷ []) [] [] 3 2 10)
-    -- (e)
-    ∷ run linesE
-    (sees (reply 0 0 0 7 0) (1 ∷ [])
-    ((1, 2 ∷ 3 ∷ 5 ∷ []) ∷ (3, 4 ∷ []) ∷ (5, 6 ∷ 7 ∷ []) ∷ (7, 8 ∷ []) ∷ []) [] 1 7 13)
-    -- (f), call by call
-    ∷ run (linesE ++ Yields (DecreaseKey 8 5) ∷ [])
-    (sees (reply 0 8 5 0 1) (1 ∷ 8 ∷ [])
-    ((1, 2 ∷ 3 ∷ 5 ∷ []) ∷ (3, 4 ∷ []) ∷ (5, 6 ∷ 7 ∷ []) ∷ []) (7 ∷ []) 4 8 17)
-    ∷ run (linesE ++ Yields (DecreaseKey 8 5) ∷ Yields (DecreaseKey 6 4) ∷ [])
-    (sees (reply 0 6 4 0 1) (1 ∷ 8 ∷ 6 ∷ [])
-    ((1, 2 ∷ 3 ∷ 5 ∷ []) ∷ (3, 4 ∷ []) ∷ (5, 7 ∷ []) ∷ []) (5 ∷ 7 ∷ []) 7 9 21)
-    ∷ run linesF
-    (sees (reply 0 7 3 0 2) (1 ∷ 8 ∷ 6 ∷ 7 ∷ 5 ∷ []) ((1, 2 ∷ 3 ∷ []) ∷ (3, 4 ∷ []) ∷ []) [] 5 11 25)
-    -- (g), (h)
-    ∷ run linesG (sees (reply 0 3 30 0 1) (1 ∷ 8 ∷ 6 ∷ 7 ∷ 5 ∷ 4 ∷ []) ((1, 2 ∷ []) ∷ []) [] 6 12 32)
-    ∷ run linesH
-    (sees (reply 0 7 3 3 0) (4 ∷ 6 ∷ []) ((1, 2 ∷ []) ∷ (4, 5 ∷ []) ∷ (6, 8 ∷ 1 ∷ []) ∷ []) [] 2 15 35)
-    ∷ []
+    ∷ runB ∷ runC ∷ runD ∷ runE ∷ runF1 ∷ runF2 ∷ runF ∷ runG ∷ runH ∷ runTie ∷ runRelease ∷ []
 
 unfoldable pub WorkedRuns : Type 0
 WorkedRuns = map byRules table ≡ table

@@ -1,0 +1,61 @@
+-- The table of worked runs holds, by computation.
+use mathlib.Core.Path.{refl}
+use Rattle.rules.specs.Answers.{after, answer, answers, isEmpty, refusal, refused, unlessRefused}
+use Rattle.rules.specs.ByHand.{
+  WorkedRuns,
+  byRules,
+  familiesFrom,
+  lastOf,
+  linesB,
+  linesE,
+  linesF,
+  linesF1,
+  linesF2,
+  linesG,
+  markedFrom,
+  reply,
+  runB,
+  runC,
+  runD,
+  runE,
+  runF,
+  runF1,
+  runF2,
+  runG,
+  runH,
+  runRelease,
+  runTie,
+  seen,
+  sees,
+  table,
+}
+use Rattle.rules.specs.Calls.{
+  decreaseKey,
+  delete,
+  deleteAs,
+  extract,
+  hasParent,
+  insert,
+  meld,
+  moveHeap,
+  perform,
+  release,
+  removeRoot,
+  setFree,
+}
+use Rattle.rules.specs.Consolidate.{climb, consolidate, consolidateWithin, isFree, link, linkTrees, occupied}
+use Rattle.rules.specs.Cut.{cascadingCut, cut, cutIf, cutOut, cutWithin, standing}
+use Rattle.rules.specs.Fibonacci.{R, lastFrom}
+use Rattle.rules.specs.Forests.{count, marks, potential, trees}
+use Rattle.rules.specs.Ledger.{allowance, allowed, ifDone, moves, price}
+use Rattle.rules.specs.Lists.{setAll, sumBy, without}
+use Rattle.rules.specs.Order.{leastIn, leastOf, minimum, precedes}
+
+pub workedRuns : WorkedRuns
+unfolding WorkedRuns table runB runC runD runE runF1 runF2 runF runG runH runTie runRelease linesB linesE linesF1
+    linesF2 linesF linesG byRules seen sees reply markedFrom familiesFrom lastOf allowed moves allowance price ifDone R
+    lastFrom after answers answer unlessRefused refused refusal isEmpty perform meld moveHeap delete deleteAs
+    decreaseKey hasParent extract removeRoot setFree release insert consolidate consolidateWithin occupied linkTrees
+    climb isFree link cutIf cutOut cutWithin cascadingCut standing cut minimum leastIn leastOf precedes potential marks
+    trees count setAll without sumBy
+workedRuns = refl
