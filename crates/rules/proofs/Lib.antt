@@ -39,3 +39,4 @@ pub mod RemoveLinks
 pub mod Follow
 pub mod SiblingLists
 pub mod DecodeEncode
+pub mod ReplyBounds

@@ -1,0 +1,88 @@
+-- `put_number` meets its contract. The invariant: writing what is left gives the whole.
+use borrow.Author.Needs.{needs}
+use native.Mathlib.Omega.{arith}
+use Rattle.text.proofs.Writing.{Writing, none-written, place-positive, first-within, one-written, all-written}
+use Rattle.text.proofs.output.put_number.Statement.{statement}
+use Rattle.text.proofs.output.put_number.Tie as tie
+
+abbrev Inv-loop : tie.InvT-loop
+Inv-loop out₀ at n end i₀ m₀ out i m = Writing out₀ at n out i m
+
+abbrev μ-loop : tie.MeasureT-loop
+μ-loop out₀ at n end i₀ m₀ out i m = m
+
+digit-count-requires : tie.Need-digit-count-requires Inv-loop μ-loop
+digit-count-requires c κs = search needs
+
+add-end : tie.Need-add-end Inv-loop μ-loop
+add-end c = omega (arith, c .digit-count .ensures, c .before .before .pre)
+
+loop-holds : tie.Need-loop-holds Inv-loop μ-loop
+loop-holds c =
+    none-written
+    _
+    _
+    _
+    _
+    (omega (arith, c .digit-count .ensures))
+    (omega (arith, c .digit-count .ensures, c .before .before .pre))
+
+sub-i : tie.Need-sub-i Inv-loop μ-loop
+sub-i c = place-positive (c .before .loop .inv)
+
+cast-out : tie.Need-cast-out Inv-loop μ-loop
+cast-out c = search needs
+
+add-out : tie.Need-add-out Inv-loop μ-loop
+add-out c = search needs
+
+slice-write-out : tie.Need-slice-write-out Inv-loop μ-loop
+slice-write-out c =
+    omega (arith, c .before .loop .inv .within, c .before .loop .inv .same, place-positive (c .before .loop .inv))
+
+loop-less : tie.Need-loop-less Inv-loop μ-loop
+loop-less c = search needs
+
+loop-again : tie.Need-loop-again Inv-loop μ-loop
+loop-again c = one-written (c .before .loop .inv) (c .loop-test .taken)
+
+cast-out-2 : tie.Need-cast-out-2 Inv-loop μ-loop
+cast-out-2 c = search needs
+
+add-out-2 : tie.Need-add-out-2 Inv-loop μ-loop
+add-out-2 c = search needs
+
+slice-write-out-2 : tie.Need-slice-write-out-2 Inv-loop μ-loop
+slice-write-out-2 c = first-within (c .before .loop .inv)
+
+same-length : tie.Need-same-length Inv-loop μ-loop
+same-length c = search needs
+
+returns : tie.Need-returns Inv-loop μ-loop
+returns c =
+    all-written
+    (c .before .loop .inv)
+    _
+    (omega (arith, c .before .before .digit-count .ensures))
+    (c .loop-test .left)
+
+pub put-number-spec : {M : Type 1} → statement M
+put-number-spec =
+    tie.close
+    (tie.spec
+    Inv-loop
+    μ-loop
+    digit-count-requires
+    add-end
+    loop-holds
+    sub-i
+    cast-out
+    add-out
+    slice-write-out
+    loop-less
+    loop-again
+    cast-out-2
+    add-out-2
+    slice-write-out-2
+    same-length
+    returns)

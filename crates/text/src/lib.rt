@@ -1,0 +1,193 @@
+// Text as bytes: numbers, fields and lines are read here, numbers are written in `output`.
+ghost use mathlib.Core.Path.{_≡_};
+ghost use Prim.Native.Nat.{_+_, _≤_};
+ghost use lib.ListN.{length, drop};
+ghost use Rattle.text.specs.Numbers.{numberAt, digitRun, wellFormed, DigitsRead};
+ghost use Rattle.text.specs.Fields.{fieldAt, numbersFrom, twoFrom, threeFrom};
+ghost use Rattle.text.specs.Lines.{lines, lineEnd, lineFeeds};
+
+pub mod output;
+
+// ---- numbers
+
+// A number and the position after it.
+pub enum Number {
+    Value(u32, usize),
+    Nothing,
+}
+
+// Where a run of digits ends, and its value, which stays where it first passes 4,294,967,295.
+struct Run {
+    end: usize,
+    value: u64,
+}
+
+fn digits_at(s: &[u8], at: usize) -> Run
+    ensures { λ r. ⌜ DigitsRead (digitRun (drop at (now (s .entry)))) at (r .end) (r .value) ⌝ }
+{
+    let mut i = at;
+    let mut v: u64 = 0;
+    while i < s.len() {
+        let b = s[i];
+        if b < b'0' {
+            break;
+        }
+        if b > b'9' {
+            break;
+        }
+        if v <= 4294967295 {
+            v = v * 10 + ((b - b'0') as u64);
+        }
+        i += 1;
+    }
+    Run { end: i, value: v }
+}
+
+// The rule for a number's digits, which stand from `at` up to `end`.
+fn well_formed(s: &[u8], at: usize, end: usize) -> bool
+    requires { ⌜ end ≡ at + length (digitRun (drop at (now s))) ⌝ }
+    ensures { λ r. ⌜ r ≡ wellFormed (digitRun (drop at (now (s .entry)))) ⌝ }
+{
+    let n = end - at;
+    if n == 0 {
+        return false;
+    }
+    if n == 1 {
+        return true;
+    }
+    s[at] != b'0'
+}
+
+// The number at a position.
+pub fn number_at(s: &[u8], at: usize) -> Number
+    ensures { λ r. ⌜ r ≡ numberAt (now (s .entry)) at ⌝ }
+{
+    let d = digits_at(s, at);
+    let end = d.end;
+    let value = d.value;
+    if value <= 4294967295 {
+        if well_formed(s, at, end) {
+            return Number::Value(value as u32, end);
+        }
+    }
+    Number::Nothing
+}
+
+// ---- fields
+
+// The numbers of a line; Other where it is no line of one to three numbers.
+pub enum Numbers {
+    One(u32),
+    Two(u32, u32),
+    Three(u32, u32, u32),
+    Other,
+}
+
+// The number after the comma at a position.
+pub fn field_at(s: &[u8], at: usize) -> Number
+    ensures { λ r. ⌜ r ≡ fieldAt (now (s .entry)) at ⌝ }
+{
+    if at < s.len() {
+        if s[at] == b',' {
+            return number_at(s, at + 1);
+        }
+    }
+    Number::Nothing
+}
+
+fn three_from(s: &[u8], x: u32, y: u32, third: Number) -> Numbers
+    ensures { λ r. ⌜ r ≡ threeFrom (now (s .entry)) x y third ⌝ }
+{
+    let Number::Value(z, at) = third else {
+        return Numbers::Other;
+    };
+    if at == s.len() {
+        return Numbers::Three(x, y, z);
+    }
+    Numbers::Other
+}
+
+fn two_from(s: &[u8], x: u32, second: Number) -> Numbers
+    ensures { λ r. ⌜ r ≡ twoFrom (now (s .entry)) x second ⌝ }
+{
+    let Number::Value(y, at) = second else {
+        return Numbers::Other;
+    };
+    if at == s.len() {
+        return Numbers::Two(x, y);
+    }
+    three_from(s, x, y, field_at(s, at))
+}
+
+// One to three numbers up to the end of the line s, the first of which the caller has read.
+pub fn numbers_from(s: &[u8], first: Number) -> Numbers
+    ensures { λ r. ⌜ r ≡ numbersFrom (now (s .entry)) first ⌝ }
+{
+    let Number::Value(x, at) = first else {
+        return Numbers::Other;
+    };
+    if at == s.len() {
+        return Numbers::One(x);
+    }
+    two_from(s, x, field_at(s, at))
+}
+
+// ---- lines
+
+// Where the line at a position ends: at its LF, or at the end of the text.
+pub fn line_end(s: &[u8], at: usize) -> usize
+    ensures { λ r. ⌜ r ≡ lineEnd (now (s .entry)) at ⌝ }
+{
+    let mut i = at;
+    while i < s.len() {
+        if s[i] == b'\n' {
+            break;
+        }
+        i += 1;
+    }
+    i
+}
+
+// How many LF a short part of a text has. A byte counts them, so that many bytes are compared at a time.
+fn line_feeds_in(part: &[u8]) -> u8
+    requires { ⌜ length (now part) ≤ 255 ⌝ }
+    ensures { λ r. ⌜ r ≡ lineFeeds (now (part .entry)) ⌝ }
+{
+    let mut n: u8 = 0;
+    let mut i = 0;
+    while i < part.len() {
+        if part[i] == b'\n' {
+            n += 1;
+        }
+        i += 1;
+    }
+    n
+}
+
+fn line_feeds(s: &[u8]) -> usize
+    ensures { λ r. ⌜ r ≡ lineFeeds (now (s .entry)) ⌝ }
+{
+    let mut n = 0;
+    let mut at = 0;
+    while s.len() - at > 255 {
+        let end = at + 255;
+        n += line_feeds_in(&s[at..end]) as usize;
+        at = end;
+    }
+    n + line_feeds_in(&s[at..]) as usize
+}
+
+// How many lines there are.
+pub fn line_count(s: &[u8]) -> usize
+    ensures { λ r. ⌜ r ≡ length (lines (now (s .entry))) ⌝ }
+{
+    let n = line_feeds(s);
+    let len = s.len();
+    if len == 0 {
+        return n;
+    }
+    if s[len - 1] == b'\n' {
+        return n;
+    }
+    n + 1
+}

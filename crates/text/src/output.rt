@@ -1,0 +1,54 @@
+// Numbers written in decimal.
+ghost use mathlib.Core.Path.{_≡_};
+ghost use mathlib.Core.List.{[], _∷_};
+ghost use Prim.Native.Nat.{_+_, _<_, _≤_};
+ghost use lib.ListN.{length};
+ghost use Rattle.text.specs.Decimal.{decimal, field};
+ghost use Rattle.text.specs.Output.{Wrote};
+
+// How many digits n has in decimal.
+fn digit_count(n: u32) -> usize
+    ensures { λ r. ⌜ r ≡ length (decimal n) ⌝ }
+{
+    let mut count = 1;
+    let mut power: u64 = 10;
+    while power <= n as u64 {
+        count += 1;
+        power *= 10;
+    }
+    count
+}
+
+// Writes n in decimal from `at` on, from its last digit to its first, and returns the position after it.
+pub fn put_number(out: &mut [u8], at: usize, n: u32) -> usize
+    requires { ⌜ at + length (decimal n) ≤ length (now out) ⌝ }
+    ensures { λ r. ⌜ Wrote (now (out .entry)) at (decimal n) (now (out .exit)) r ⌝ }
+{
+    let end = at + digit_count(n);
+    let mut i = end;
+    let mut m = n;
+    while m >= 10 {
+        i -= 1;
+        out[i] = b'0' + ((m % 10) as u8);
+        m /= 10;
+    }
+    out[at] = b'0' + (m as u8);
+    end
+}
+
+pub fn put_byte(out: &mut [u8], at: usize, b: u8) -> usize
+    requires { ⌜ at < length (now out) ⌝ }
+    ensures { λ r. ⌜ Wrote (now (out .entry)) at (b ∷ []) (now (out .exit)) r ⌝ }
+{
+    out[at] = b;
+    at + 1
+}
+
+// Writes n and the byte that ends it, a comma or LF.
+pub fn put_field(out: &mut [u8], at: usize, n: u32, b: u8) -> usize
+    requires { ⌜ at + length (field n b) ≤ length (now out) ⌝ }
+    ensures { λ r. ⌜ Wrote (now (out .entry)) at (field n b) (now (out .exit)) r ⌝ }
+{
+    let next = put_number(out, at, n);
+    put_byte(out, next, b)
+}
