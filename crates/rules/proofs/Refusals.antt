@@ -83,14 +83,16 @@ pub refusal-le : (s : Forests) (c : Call) → refusal s c ≤ 13
 unfolding refusal
 refusal-le s (Insert h i k) =
     cond-le 13 _ _ (ltb 7 h) (omega arith)
-    (cond-le 13 _ _ (leb (tableSize s) i) (omega arith) (cond-le 13 _ _ (eqb (heapOf s i) 0) (omega arith) (omega arith)))
+    (cond-le 13 _ _ (leb (tableSize s) i) (omega arith)
+    (cond-le 13 _ _ (eqb (heapOf s i) 0) (omega arith) (omega arith)))
 refusal-le s (FindMin h) =
     cond-le 13 _ _ (ltb 7 h) (omega arith) (cond-le 13 _ _ (isEmpty (rowOf s h)) (omega arith) (omega arith))
 refusal-le s (ExtractMin h) =
     cond-le 13 _ _ (ltb 7 h) (omega arith) (cond-le 13 _ _ (isEmpty (rowOf s h)) (omega arith) (omega arith))
 refusal-le s (DecreaseKey i k) =
     cond-le 13 _ _ (leb (tableSize s) i) (omega arith)
-    (cond-le 13 _ _ (eqb (heapOf s i) 0) (omega arith) (cond-le 13 _ _ (ltb (keyOf s i) k) (omega arith) (omega arith)))
+    (cond-le 13 _ _ (eqb (heapOf s i) 0) (omega arith)
+    (cond-le 13 _ _ (ltb (keyOf s i) k) (omega arith) (omega arith)))
 refusal-le s (Delete i) =
     cond-le 13 _ _ (leb (tableSize s) i) (omega arith)
     (cond-le 13 _ _ (eqb (heapOf s i) 0) (omega arith) (omega arith))

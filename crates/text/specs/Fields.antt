@@ -34,8 +34,8 @@ numbersFrom s (Value x at) = cond (eqb at (length s)) (One x) (twoFrom s x (fiel
 numbersFrom s Nothing = Other
 
 -- the numbers of a line are at most the largest
-unfoldable pub AllInRange : Numbers → Type 0
-AllInRange (One x) = x ≤ largest
-AllInRange (Two x y) = (x ≤ largest) × (y ≤ largest)
-AllInRange (Three x y z) = (x ≤ largest) × (y ≤ largest) × (z ≤ largest)
-AllInRange Other = Unit {0}
+unfoldable pub NumbersFit : Numbers → Type 0
+NumbersFit (One x) = x ≤ largest
+NumbersFit (Two x y) = (x ≤ largest) × (y ≤ largest)
+NumbersFit (Three x y z) = (x ≤ largest) × (y ≤ largest) × (z ≤ largest)
+NumbersFit Other = Unit {0}

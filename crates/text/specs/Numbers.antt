@@ -43,9 +43,9 @@ unfoldable pub numberAt : List ℕ → ℕ → Number
 numberAt s at = numberOf (digitRun (drop at s)) at
 
 -- a number that was read is at most the largest
-unfoldable pub InRange : Number → Type 0
-InRange (Value v at) = v ≤ largest
-InRange Nothing = Unit {0}
+unfoldable pub NumberFits : Number → Type 0
+NumberFits (Value v at) = v ≤ largest
+NumberFits Nothing = Unit {0}
 
 -- What the reader of digits answers: where they end, and their value, exact up to the largest number.
 pub record DigitsRead (ds : List ℕ) (at end value : ℕ) : Type 0 where
