@@ -279,11 +279,10 @@ consolidate-rising h s hh S =
     (occupied-rising (rankOf (w .forests)) 0 (w .places) (λ r n. H .rank r n ∙ omega arith))
 
 pub climbBound : ClimbBound
-unfolding ClimbBound
 climbBound s S h hh d k = consolidate-bound h s hh (to-formed s S) d k
 
 pub ranksRise : RanksRise
-unfolding RanksRise answer unlessRefused perform extract
+unfolding answer unlessRefused perform extract
 ranksRise s S h e =
     let F = to-formed s S in
     let r = row-root s (F .disjoint) h (minimum s h) (extract-ok s h e) in

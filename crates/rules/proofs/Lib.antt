@@ -39,3 +39,5 @@ pub mod RemoveLinks
 pub mod Follow
 pub mod SiblingLists
 pub mod DecodeEncode
+pub mod ReplyBounds
+pub mod Answers

@@ -8,9 +8,10 @@ use native.Mathlib.Omega.{arith}
 use lib.ListN.{length}
 use lib.Dec.{eqb, ltb, leb}
 use borrow.Author.Tests.{eqb-true, eqb-false, ltb-false, leb-false}
-use Rattle.rules.specs.declared.Call.the-variants.{DecreaseKey, Delete, ExtractMin, Insert, Meld}
+use Rattle.rules.specs.declared.Call.{Call}
+use Rattle.rules.specs.declared.Call.the-variants.{DecreaseKey, Delete, ExtractMin, FindMin, Insert, Meld}
 use Rattle.rules.specs.Answers.{isEmpty, refusal}
-use Rattle.rules.specs.Forests.{Forests, heapOf, keyOf, rowOf}
+use Rattle.rules.specs.Forests.{Forests, heapOf, keyOf, rowOf, tableSize}
 use Rattle.rules.specs.Lists.{occurs}
 use Rattle.rules.specs.Order.{leastIn, minimum}
 use Rattle.rules.proofs.Minimum.{leastOf-in}
@@ -68,3 +69,30 @@ meld-ok s a b e = go (ltb 7 a) (ltb 7 b) (eqb a b) refl refl refl e
     go false true w p q r e = absurd (omega arith)
     go false false true p q r e = absurd (omega arith)
     go false false false p q r e = (omega (arith, ltb-false 7 a p), omega (arith, ltb-false 7 b q), eqb-false a b r)
+
+pub find-ok : (s : Forests) (h : ℕ) → refusal s (FindMin h) ≡ 0 → 1 ≤ occurs (minimum s h) (rowOf s h)
+unfolding refusal
+find-ok s h e = extract-ok s h e
+
+-- of two numbers up to n, the chosen one is
+cond-le : (n a b : ℕ) (t : Bool) → a ≤ n → b ≤ n → cond t a b ≤ n
+cond-le n a b true p q = p
+cond-le n a b false p q = q
+
+pub refusal-le : (s : Forests) (c : Call) → refusal s c ≤ 13
+unfolding refusal
+refusal-le s (Insert h i k) =
+    cond-le 13 _ _ (ltb 7 h) (omega arith)
+    (cond-le 13 _ _ (leb (tableSize s) i) (omega arith) (cond-le 13 _ _ (eqb (heapOf s i) 0) (omega arith) (omega arith)))
+refusal-le s (FindMin h) =
+    cond-le 13 _ _ (ltb 7 h) (omega arith) (cond-le 13 _ _ (isEmpty (rowOf s h)) (omega arith) (omega arith))
+refusal-le s (ExtractMin h) =
+    cond-le 13 _ _ (ltb 7 h) (omega arith) (cond-le 13 _ _ (isEmpty (rowOf s h)) (omega arith) (omega arith))
+refusal-le s (DecreaseKey i k) =
+    cond-le 13 _ _ (leb (tableSize s) i) (omega arith)
+    (cond-le 13 _ _ (eqb (heapOf s i) 0) (omega arith) (cond-le 13 _ _ (ltb (keyOf s i) k) (omega arith) (omega arith)))
+refusal-le s (Delete i) =
+    cond-le 13 _ _ (leb (tableSize s) i) (omega arith)
+    (cond-le 13 _ _ (eqb (heapOf s i) 0) (omega arith) (omega arith))
+refusal-le s (Meld a b) =
+    cond-le 13 _ _ (ltb 7 a || ltb 7 b) (omega arith) (cond-le 13 _ _ (eqb a b) (omega arith) (omega arith))
