@@ -52,7 +52,7 @@ use Rattle.rules.specs.Lists.{setAll, sumBy, without}
 use Rattle.rules.specs.Order.{leastIn, leastOf, minimum, precedes}
 
 pub workedRuns : WorkedRuns
-unfolding WorkedRuns table runB runC runD runE runF1 runF2 runF runG runH runTie runRelease linesB linesE linesF1
+unfolding table runB runC runD runE runF1 runF2 runF runG runH runTie runRelease linesB linesE linesF1
     linesF2 linesF linesG byRules seen sees reply markedFrom familiesFrom lastOf allowed moves allowance price ifDone R
     lastFrom after answers answer unlessRefused refused refusal isEmpty perform meld moveHeap delete deleteAs
     decreaseKey hasParent extract removeRoot setFree release insert consolidate consolidateWithin occupied linkTrees

@@ -5,7 +5,7 @@ use mathlib.Core.Logic.{_≢_}
 use mathlib.Core.List.{List, [], _∷_, _++_}
 use mathlib.Core.Bool.{Bool, true, false, cond, not, _&&_, true≢false, false≢true}
 use native.Mathlib.Omega.{arith}
-use lib.ListN.{length, getD, set, length-append}
+use lib.ListN.{length, set, length-append}
 use lib.Seq.{getD-set-other}
 use lib.Dec.{eqb}
 use borrow.Author.Tests.{eqb-true, ne-eqb}
@@ -62,6 +62,7 @@ use Rattle.rules.proofs.RankBound.{rank-le}
 use Rattle.rules.proofs.Refusals.{decrease-ok, delete-ok, extract-ok, insert-ok, meld-ok}
 use Rattle.rules.proofs.RemoveRootKeeps.{remove-formed}
 use Rattle.rules.proofs.Sums.{sumBy-set-le}
+use Rattle.rules.proofs.Words.{same}
 
 -- what a call is to keep
 pub record Kept (s : Forests) (o : Outcome) (price : ℕ) : Type 0 where

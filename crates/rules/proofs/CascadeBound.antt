@@ -34,7 +34,7 @@ cascade-bound (suc d) (suc d′) marked h p s e k k′ =
     (omega (arith, cut-marks h p s, marked-standing s p e)))
 
 pub cascadeBound : CascadeBound
-unfolding CascadeBound cutOut cutWithin
+unfolding cutOut cutWithin
 cascadeBound s m h x d k =
     let t : Forests = cut h x s in
     let p : ℕ = parentOf s x in
@@ -43,5 +43,4 @@ cascadeBound s m h x d k =
     (omega (arith, cut-marks h x s)))
 
 pub marksFit : MarksFit
-unfolding MarksFit
 marksFit s S = marks-le s (S .disjoint)

@@ -71,7 +71,8 @@ occupied-extract ps r z k n =
     let b : stand z (getD ps r none) ≡ delta z (getD ps r none) = rw (ne-eqb (getD ps r none) none n) in
     omega (arith, occurs-occupied z (set ps r none), occurs-occupied z ps, sumBy-set (stand z) ps r none none k)
 
--- Between two steps: the row of h is what stands at the places and what is still to come, and a tree at place r has rank r.
+-- Between two steps: the row of h is what stands at the places and what is still to come, and a tree at place r has
+-- rank r.
 record Held (h : ℕ) (ps rest : List ℕ) (s : Forests) : Type 0 where
   formed : Formed (setRow h (occupied ps ++ rest) s)
   long : length ps ≡ 17
@@ -279,11 +280,10 @@ consolidate-rising h s hh S =
     (occupied-rising (rankOf (w .forests)) 0 (w .places) (λ r n. H .rank r n ∙ omega arith))
 
 pub climbBound : ClimbBound
-unfolding ClimbBound
 climbBound s S h hh d k = consolidate-bound h s hh (to-formed s S) d k
 
 pub ranksRise : RanksRise
-unfolding RanksRise answer unlessRefused perform extract
+unfolding answer unlessRefused perform extract
 ranksRise s S h e =
     let F = to-formed s S in
     let r = row-root s (F .disjoint) h (minimum s h) (extract-ok s h e) in

@@ -189,5 +189,4 @@ all-items s S (l ∷ ls) =
     omega (arith, answer-items s S l, all-items ((answer s l) .next) (answer-kept s S l .formed) ls)
 
 pub itemsBalance : ItemsBalance
-unfolding ItemsBalance
 itemsBalance s S ls = all-items s (to-formed s S) ls

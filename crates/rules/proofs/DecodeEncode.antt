@@ -9,32 +9,32 @@ use lib.ListN.{length}
 use lib.Dec.{eqb}
 use borrow.Author.Tests.{ne-eqb}
 use Rattle.rules.specs.declared.Field.{Field}
-use Rattle.rules.specs.declared.Field.the-variants.{FirstTree, Key, Parent, FirstChild, Next, State}
+use Rattle.rules.specs.declared.Field.the-variants.{FirstChild, FirstTree, Key, Next, Parent, State}
+use Rattle.rules.specs.Forests.{Forests, childrenOf, heapOf, markOf, none, rowOf, tableSize}
 use Rattle.rules.specs.Lists.{occurs}
-use Rattle.rules.specs.Forests.{Forests, none, rowOf, childrenOf, markOf, heapOf, tableSize}
+use Rattle.rules.specs.Theorems.{DecodeEncode, EncodeInjective, EncodeLength}
 use Rattle.rules.specs.WellFormed.{Disjoint}
 use Rattle.rules.specs.Words.{
-  storeSize,
-  room,
-  look,
+  decode,
+  encode,
   headOr,
+  listFrom,
+  look,
+  room,
   siblings,
-  unlessFree,
-  stateOf,
   stateHeap,
   stateMark,
+  stateOf,
+  storeSize,
+  unlessFree,
   word,
-  encode,
-  listFrom,
-  decode,
 }
-use Rattle.rules.specs.Theorems.{EncodeLength, DecodeEncode, EncodeInjective}
-use Rattle.rules.proofs.Members.{heap-in, free-children}
+use Rattle.rules.proofs.Follow.{follow-list, once-short}
+use Rattle.rules.proofs.Members.{free-children, heap-in}
+use Rattle.rules.proofs.SiblingLists.{list-inside, once-children, once-row, siblings-children, siblings-row}
+use Rattle.rules.proofs.Siblings.{Once}
 use Rattle.rules.proofs.Tabulate.{tabulate-is}
 use Rattle.rules.proofs.Words.{length-wordsOf, look-wordsOf}
-use Rattle.rules.proofs.Siblings.{Once}
-use Rattle.rules.proofs.Follow.{follow-list, once-short}
-use Rattle.rules.proofs.SiblingLists.{once-row, once-children, siblings-row, siblings-children, list-inside}
 
 -- ---- the state words
 
@@ -53,7 +53,6 @@ unfolding encode
 encode-length s = length-wordsOf (tableSize s) (word s)
 
 pub encodeLength : EncodeLength
-unfolding EncodeLength
 encodeLength = encode-length
 
 module _ (s : Forests) (D : Disjoint s) where
@@ -140,11 +139,9 @@ module _ (s : Forests) (D : Disjoint s) where
       }
 
 pub decodeEncode : DecodeEncode
-unfolding DecodeEncode
 decodeEncode s W = decode-encode s (W .disjoint)
 
 pub encodeInjective : EncodeInjective
-unfolding EncodeInjective DecodeEncode
 encodeInjective s t S T e =
     let n : tableSize s ≡ tableSize t = omega (arith, encode-length s, encode-length t, ap length e) in
     sym (decodeEncode s S) ∙ ap (decode (tableSize s)) e ∙ ap (λ k. decode k (encode t)) n ∙ decodeEncode t T

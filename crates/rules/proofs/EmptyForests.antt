@@ -15,7 +15,7 @@ getD-all (suc n) zero d = refl
 getD-all (suc n) (suc i) d = getD-all n i d
 
 pub emptyWellFormed : EmptyWellFormed
-unfolding EmptyWellFormed HeapOrdered RankRule KeysFit occurs sumBy
+unfolding HeapOrdered RankRule KeysFit occurs sumBy
 emptyWellFormed n k = record {
   disjoint = record {
     rows8 = refl;

@@ -47,7 +47,7 @@ perform-keys s K (Delete i) e f =
 perform-keys s K (Meld a b) e f = K
 
 pub keepsWellFormed : KeepsWellFormed
-unfolding KeepsWellFormed answer unlessRefused refused
+unfolding answer unlessRefused refused
 keepsWellFormed s S l f = well-formed ((answer s l) .next) (answer-kept s (to-formed s S) l .formed) (keys l f)
   where
     guarded : (c : Call) → InRange (Yields c) → (r : ℕ) → refusal s c ≡ r → KeysFit ((unlessRefused r s c) .next)
@@ -70,7 +70,7 @@ perform-size s (Delete i) =
 perform-size s (Meld a b) = length-map (s .heap) (moveHeap a b)
 
 pub keepsTableSize : KeepsTableSize
-unfolding KeepsTableSize answer unlessRefused refused
+unfolding answer unlessRefused refused
 keepsTableSize s NoCall = refl
 keepsTableSize s (Yields c) = go (refusal s c)
   where

@@ -26,5 +26,4 @@ all-paid s S (l ∷ ls) =
     omega (arith, k .paid, all-paid ((answer s l) .next) (k .formed) ls)
 
 pub ledger : Ledger
-unfolding Ledger
 ledger s S ls i n = all-paid (after s (take i ls)) (after-formed s (to-formed s S) (take i ls)) (take n (drop i ls))

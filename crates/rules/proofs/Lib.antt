@@ -40,3 +40,4 @@ pub mod Follow
 pub mod SiblingLists
 pub mod DecodeEncode
 pub mod ReplyBounds
+pub mod Answers

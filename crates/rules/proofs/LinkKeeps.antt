@@ -26,6 +26,7 @@ use Rattle.rules.proofs.Occurs.{
   occurs-append,
   occurs-one,
 }
+use Rattle.rules.proofs.Order.{ord}
 
 -- ---- a row in another order
 

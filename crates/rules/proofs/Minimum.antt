@@ -175,7 +175,7 @@ minimum-inside s S h x e =
     go (y ∷ ys) k = leastOf-in (s .key) y ys
 
 pub minimumFirst : MinimumFirst
-unfolding MinimumFirst count
+unfolding count
 minimumFirst s S h k =
     let F = to-formed s S in
     let i = some-item (s .heap) h k in
@@ -185,7 +185,6 @@ minimumFirst s S h k =
     }
 
 pub minimumUnique : MinimumUnique
-unfolding MinimumUnique
 minimumUnique s S h m M = go (eqb (minimum s h) m) refl
   where
     go : (t : Bool) → eqb (minimum s h) m ≡ t → minimum s h ≡ m

@@ -108,11 +108,9 @@ any-rank s S h x hx = go (eqb (parentOf s x) none) refl
         rw (getD-set-other (s .children) p x (without x (childrenOf s p)) [] q) at c
 
 pub rankBound : RankBound
-unfolding RankBound
 rankBound s S h x e = any-rank s (to-formed s S) h x e
 
 pub rankSixteen : RankSixteen
-unfolding RankSixteen
 rankSixteen s S x = go (heapOf s x) refl
   where
     go : (v : ℕ) → heapOf s x ≡ v → rankOf s x ≤ 16

@@ -154,5 +154,5 @@ table =
     rank 1 0 ∷ rank 2 1 ∷ rank 3 2 ∷ rank 4 2 ∷ rank 5 3 ∷ rank 8 4
     ∷ runB ∷ runC ∷ runD ∷ runE ∷ runF1 ∷ runF2 ∷ runF ∷ runG ∷ runH ∷ runTie ∷ runRelease ∷ []
 
-unfoldable pub WorkedRuns : Type 0
+abbrev pub WorkedRuns : Type 0
 WorkedRuns = map byRules table ≡ table

@@ -41,7 +41,7 @@ allowed s [] = 0
 allowed s (l ∷ ls) = allowance s l + allowed ((answer s l) .next) ls
 
 -- Any well-formed forests, any list of lines, any two moments: i lines stand before the first, n between the two.
-unfoldable pub Ledger : Type 0
+abbrev pub Ledger : Type 0
 Ledger =
     (start : Forests) → WellFormed start → (ls : List Line) (i n : ℕ) →
     let s : Forests = after start (take i ls) in

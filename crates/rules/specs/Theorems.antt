@@ -32,7 +32,7 @@ use Rattle.rules.specs.Ledger.{ifDone}
 use Rattle.rules.specs.Words.{encode, decode, storeSize}
 
 -- The empty forests of a fresh run are well-formed.
-unfoldable pub EmptyWellFormed : Type 0
+abbrev pub EmptyWellFormed : Type 0
 EmptyWellFormed = (n : ℕ) → n ≤ 4096 → WellFormed (empty n)
 
 -- A line's numbers are at most 4,294,967,295. Of these only an inserted key is kept, or lowered.
@@ -46,21 +46,21 @@ InRange (Yields (Meld a b)) = Unit {0}
 InRange NoCall = Unit {0}
 
 -- Every line, done or refused, leaves well-formed forests well-formed, and the table as long as it was.
-unfoldable pub KeepsWellFormed : Type 0
+abbrev pub KeepsWellFormed : Type 0
 KeepsWellFormed = (s : Forests) → WellFormed s → (l : Line) → InRange l → WellFormed ((answer s l) .next)
 
-unfoldable pub KeepsTableSize : Type 0
+abbrev pub KeepsTableSize : Type 0
 KeepsTableSize = (s : Forests) → (l : Line) → tableSize ((answer s l) .next) ≡ tableSize s
 
 -- No bound in a definition changes a result: a larger one gives the same.
-unfoldable pub CascadeBound : Type 0
+abbrev pub CascadeBound : Type 0
 CascadeBound =
     (s : Forests) → marks s ≤ tableSize s → (h x d : ℕ) → tableSize s < d → cutWithin d h x s ≡ cutOut h x s
 
-unfoldable pub MarksFit : Type 0
+abbrev pub MarksFit : Type 0
 MarksFit = (s : Forests) → WellFormed s → marks s ≤ tableSize s
 
-unfoldable pub ClimbBound : Type 0
+abbrev pub ClimbBound : Type 0
 ClimbBound =
     (s : Forests) → WellFormed s → (h : ℕ) → h < 8 → (d : ℕ) → 18 ≤ d → consolidateWithin d h s ≡ consolidate h s
 
@@ -73,10 +73,10 @@ pub record RLargest : Type 0 where
   pub nineteen : F 19 ≡ 4181
 
 -- No item's rank is above R of its heap's item count, so none is above 16.
-unfoldable pub RankBound : Type 0
+abbrev pub RankBound : Type 0
 RankBound = (s : Forests) → WellFormed s → (h x : ℕ) → heapOf s x ≡ suc h → rankOf s x ≤ R (count s h)
 
-unfoldable pub RankSixteen : Type 0
+abbrev pub RankSixteen : Type 0
 RankSixteen = (s : Forests) → WellFormed s → (x : ℕ) → rankOf s x ≤ 16
 
 -- After a taking no two trees of the row have the same rank: the ranks rise strictly.
@@ -84,7 +84,7 @@ abbrev pub Rising : ℕ → List ℕ → Type 0
 Rising least [] = Unit {0}
 Rising least (r ∷ rs) = (least ≤ r) × Rising (suc r) rs
 
-unfoldable pub RanksRise : Type 0
+abbrev pub RanksRise : Type 0
 RanksRise =
     (s : Forests) → WellFormed s → (h : ℕ) → refusal s (ExtractMin h) ≡ 0 →
     let t : Forests = (answer s (Yields (ExtractMin h))) .next in
@@ -95,10 +95,10 @@ pub record IsMinimum (s : Forests) (h m : ℕ) : Type 0 where
   pub inside : heapOf s m ≡ suc h
   pub first : (x : ℕ) → heapOf s x ≡ suc h → x ≢ m → precedes (s .key) m x ≡ true
 
-unfoldable pub MinimumFirst : Type 0
+abbrev pub MinimumFirst : Type 0
 MinimumFirst = (s : Forests) → WellFormed s → (h : ℕ) → 1 ≤ count s h → IsMinimum s h (minimum s h)
 
-unfoldable pub MinimumUnique : Type 0
+abbrev pub MinimumUnique : Type 0
 MinimumUnique =
     (s : Forests) → WellFormed s → (h m : ℕ) → IsMinimum s h m → minimum s h ≡ m
 
@@ -123,17 +123,17 @@ unfoldable pub total : (Call → ℕ) → Forests → List Line → ℕ
 total f s [] = 0
 total f s (l ∷ ls) = ifDone f s l + total f ((answer s l) .next) ls
 
-unfoldable pub ItemsBalance : Type 0
+abbrev pub ItemsBalance : Type 0
 ItemsBalance =
     (s : Forests) → WellFormed s → (ls : List Line)
     → items (after s ls) + total removed s ls ≡ items s + total inserted s ls
 
 -- The words settle the forests.
-unfoldable pub EncodeLength : Type 0
+abbrev pub EncodeLength : Type 0
 EncodeLength = (s : Forests) → length (encode s) ≡ storeSize (tableSize s)
 
-unfoldable pub DecodeEncode : Type 0
+abbrev pub DecodeEncode : Type 0
 DecodeEncode = (s : Forests) → WellFormed s → decode (tableSize s) (encode s) ≡ s
 
-unfoldable pub EncodeInjective : Type 0
+abbrev pub EncodeInjective : Type 0
 EncodeInjective = (s t : Forests) → WellFormed s → WellFormed t → encode s ≡ encode t → s ≡ t
