@@ -41,3 +41,4 @@ pub mod SiblingLists
 pub mod DecodeEncode
 pub mod ReplyBounds
 pub mod Answers
+pub mod SoundWords

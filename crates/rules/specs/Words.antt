@@ -4,7 +4,7 @@ use Prim.Native.Nat.{ℕ, zero, suc, _+_, _-_, _*_, _/_, _%_}
 use mathlib.Core.Path.{_≡_}
 use mathlib.Core.List.{List, [], _∷_}
 use mathlib.Core.Bool.{cond}
-use lib.ListN.{getD, set, replicate}
+use lib.ListN.{length, getD, set, replicate}
 use lib.Dec.{eqb}
 use Rattle.rules.specs.declared.Field.{Field}
 use Rattle.rules.specs.declared.Field.the-variants.{
@@ -175,6 +175,13 @@ decode n w =
       mark = tabulate n (λ i. stateMark (look n w State i));
       heap = tabulate n (λ i. stateHeap (look n w State i));
     }
+
+-- N, which the length of a store sets, and the forests that its words stand for
+unfoldable pub itemsIn : List ℕ → ℕ
+itemsIn w = (length w - 32) / 8
+
+unfoldable pub forestsOf : List ℕ → Forests
+forestsOf w = decode (itemsIn w) w
 
 -- Sound: the words are exactly those of well-formed forests.
 pub record Sound (w : List ℕ) : Type 0 where
