@@ -1,0 +1,21 @@
+/* Plain C versions of two entries, as a measure and as a second opinion. */
+#ifndef PLAIN_H
+#define PLAIN_H
+
+#include <stddef.h>
+#include <stdint.h>
+
+/* Fresh run of a sheet for 256 items: the bytes written, or 100,000 and the code. */
+uint32_t plain_queue_run(const uint8_t *sheet, size_t sheet_len, uint8_t *out, size_t out_len);
+
+/* Feed call: the code; figures = links, cuts, spans examined. */
+uint32_t plain_feed_table(uint32_t places, uint32_t start,
+                          const uint32_t *from, size_t from_len,
+                          const uint32_t *to, size_t to_len,
+                          const uint32_t *loss, size_t loss_len,
+                          uint32_t *best, size_t best_len,
+                          uint32_t *last, size_t last_len,
+                          uint32_t *store, size_t store_len,
+                          uint32_t figures[3]);
+
+#endif

@@ -1,0 +1,194 @@
+//! Feed calls.
+
+use crate::check::{Checker, FeedCall, Verdict};
+use crate::maps;
+use crate::random::Random;
+use reference::{store, NONE};
+
+pub const WORKED: [[u32; 3]; 3] = [[0, 1, 7], [0, 2, 20], [1, 2, 5]];
+
+pub fn expect(found: u32, code: u32, what: &str) -> Verdict {
+    match found == code {
+        true => Ok(()),
+        false => Err(format!("{what}: the reference gives {found} where the test expects {code}")),
+    }
+}
+
+pub fn worked(checker: &mut Checker) -> Verdict {
+    for start in 0..3 {
+        expect(checker.feed(&maps::call(3, start, &WORKED))?, 0, "worked map")?;
+    }
+    // Ties: the lowest-numbered span counts, not the one met first.
+    let tie = [[0, 1, 5], [0, 2, 1], [0, 3, 2], [1, 4, 1], [2, 4, 5], [3, 4, 4]];
+    checker.feed(&maps::call(5, 0, &tie))?;
+    let late = [[0, 2, 3], [1, 3, 1], [2, 1, 4], [2, 3, 5], [2, 3, 5]];
+    checker.feed(&maps::call(4, 0, &late))?;
+    // Self and parallel spans, spans into the start, an unreached place.
+    let mixed = [[0, 0, 1], [0, 1, 4], [0, 1, 3], [0, 1, 3], [1, 0, 1], [1, 1, 1], [2, 0, 9]];
+    for start in 0..3 {
+        checker.feed(&maps::call(3, start, &mixed))?;
+    }
+    checker.feed(&maps::call(1, 0, &[]))?;
+    checker.feed(&maps::call(1, 0, &[[0, 0, 1], [0, 0, 1_000_000]]))?;
+    Ok(())
+}
+
+/// A call with one thing changed.
+fn changed(call: &FeedCall, change: impl Fn(&mut FeedCall)) -> FeedCall {
+    let mut call = call.clone();
+    change(&mut call);
+    call
+}
+
+pub fn limits(checker: &mut Checker) -> Verdict {
+    let good = maps::call(3, 0, &WORKED);
+    for (places, code) in [(0, 14), (4097, 14), (NONE, 14), (1, 18), (2, 17)] {
+        let call = changed(&good, |call| {
+            call.places = places;
+            if places == 1 {
+                (call.best, call.last, call.words) = (1, 1, store::length(1));
+            }
+        });
+        expect(checker.feed(&call)?, code, "places")?;
+    }
+    let (places, spans) = (4096, maps::chain(4096, 1_000_000));
+    expect(checker.feed(&maps::call(places, 0, &spans))?, 0, "4,096 places")?;
+    let call = changed(&maps::call(4097, 0, &[]), |call| call.words = store::length(4097));
+    expect(checker.feed(&call)?, 14, "4,097 places")?;
+    for (start, code) in [(2, 0), (3, 15), (NONE, 15)] {
+        expect(checker.feed(&changed(&good, |call| call.start = start))?, code, "start")?;
+    }
+    span_lists(checker, &good)?;
+    result_lists(checker, &good)?;
+    loss_limits(checker, &good)
+}
+
+fn span_lists(checker: &mut Checker, good: &FeedCall) -> Verdict {
+    let shorter: [fn(&mut FeedCall); 4] = [
+        |call| call.from.truncate(2),
+        |call| call.to.truncate(2),
+        |call| call.loss.truncate(2),
+        |call| {
+            call.from.truncate(2);
+            call.to.truncate(2);
+        },
+    ];
+    for shorten in shorter {
+        expect(checker.feed(&changed(good, shorten))?, 16, "unequal span lists")?;
+        // 16 comes before 17 and 18.
+        let call = changed(good, |call| {
+            shorten(call);
+            call.best = 2;
+            call.to[0] = 9;
+        });
+        expect(checker.feed(&call)?, 16, "unequal span lists with later faults")?;
+    }
+    let mut random = Random::new(10);
+    for (count, code) in [(16_384, 0), (16_385, 16)] {
+        let spans = maps::scattered(&mut random, 300, count, 50);
+        expect(checker.feed(&maps::call(300, 7, &spans))?, code, "16,384 spans")?;
+    }
+    Ok(())
+}
+
+fn result_lists(checker: &mut Checker, good: &FeedCall) -> Verdict {
+    for length in [0, 2, 4] {
+        expect(checker.feed(&changed(good, |call| call.best = length))?, 17, "losses")?;
+        expect(checker.feed(&changed(good, |call| call.last = length))?, 17, "spans")?;
+        let both = changed(good, |call| {
+            call.best = length;
+            call.last = length;
+            call.loss[0] = 0;
+        });
+        expect(checker.feed(&both)?, 17, "both lists and a faulty span")?;
+    }
+    for words in [0, 32, 48, 55, 57, 64] {
+        expect(checker.feed(&changed(good, |call| call.words = words))?, 17, "store")?;
+    }
+    Ok(())
+}
+
+fn loss_limits(checker: &mut Checker, good: &FeedCall) -> Verdict {
+    for span in 0..3 {
+        for (loss, code) in [(0, 19), (1, 0), (1_000_000, 0), (1_000_001, 19), (NONE, 19)] {
+            expect(checker.feed(&changed(good, |call| call.loss[span] = loss))?, code, "loss")?;
+        }
+        for place in [3, 4, NONE] {
+            expect(checker.feed(&changed(good, |call| call.from[span] = place))?, 18, "from")?;
+            expect(checker.feed(&changed(good, |call| call.to[span] = place))?, 18, "to")?;
+        }
+    }
+    for (from, code) in [([0, 0, 0], 0), ([1, 1, 1], 0), ([1, 0, 2], 20), ([0, 2, 1], 20), ([2, 2, 2], 0)] {
+        expect(checker.feed(&changed(good, |call| call.from = from.to_vec()))?, code, "order")?;
+    }
+    // The lowest-numbered faulty span decides; on one span the lower code.
+    let pairs: [([u32; 3], [u32; 3], u32); 5] = [
+        ([1, 0, 0], [7, 7, 7], 20),
+        ([1, 1, 0], [7, 0, 7], 19),
+        ([1, 3, 0], [7, 0, 0], 18),
+        ([2, 1, 0], [7, 0, 7], 19),
+        ([2, 1, 3], [7, 7, 0], 20),
+    ];
+    for (from, loss, code) in pairs {
+        let call = changed(good, |call| {
+            call.from = from.to_vec();
+            call.loss = loss.to_vec();
+        });
+        expect(checker.feed(&call)?, code, "two faults")?;
+    }
+    Ok(())
+}
+
+pub fn random_maps(checker: &mut Checker) -> Verdict {
+    let mut random = Random::new(11);
+    for _ in 0..12_000 {
+        checker.feed(&maps::small(&mut random))?;
+    }
+    for _ in 0..40 {
+        let noise = 1 + random.below(300);
+        let (start, spans) = maps::disturbed(&mut random, 80, noise);
+        checker.feed(&maps::call(80, start, &spans))?;
+    }
+    Ok(())
+}
+
+pub fn faulty_spans(checker: &mut Checker) -> Verdict {
+    let mut random = Random::new(12);
+    for _ in 0..6_000 {
+        let mut call = maps::small(&mut random);
+        for _ in 0..1 + random.size(2) {
+            if call.from.is_empty() {
+                break;
+            }
+            let span = random.size(call.from.len());
+            match random.below(4) {
+                0 => call.from[span] = *random.pick(&[0, call.places - 1, call.places, NONE]),
+                1 => call.to[span] = *random.pick(&[0, call.places - 1, call.places, NONE]),
+                2 => call.loss[span] = *random.pick(&[0, 1, 1_000_000, 1_000_001, NONE]),
+                _ => call.from.swap(0, span),
+            }
+        }
+        checker.feed(&call)?;
+    }
+    Ok(())
+}
+
+pub fn large_maps(checker: &mut Checker) -> Verdict {
+    let mut random = Random::new(13);
+    let all = maps::lowering(181);
+    checker.feed(&maps::call(181, 0, &all[..all.len().min(16_384)]))?;
+    for noise in [1, 50, 3_000] {
+        let (start, spans) = maps::disturbed(&mut random, 181, noise);
+        checker.feed(&maps::call(181, start, &spans[..spans.len().min(16_384)]))?;
+    }
+    for losses in [3, 1_000_000] {
+        let spans = maps::scattered(&mut random, 4096, 16_384, losses);
+        checker.feed(&maps::call(4096, 4095, &spans))?;
+    }
+    // A star: one place with every other as its neighbour, all losses equal or all different.
+    for spread in [0, 1] {
+        let spans: Vec<[u32; 3]> = (1..4096).map(|to| [0, to, 5000 - to * spread]).collect();
+        checker.feed(&maps::call(4096, 0, &spans))?;
+    }
+    Ok(())
+}

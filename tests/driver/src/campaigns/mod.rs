@@ -1,0 +1,82 @@
+//! The campaigns: each drives one part of an engine and stops at the first difference.
+
+pub mod codes;
+pub mod feeds;
+pub mod large_stores;
+pub mod map_texts;
+pub mod programs;
+pub mod runs;
+pub mod stores;
+
+use crate::check::{Checker, Verdict};
+use crate::engine::{Engine, Part};
+
+pub struct Campaign {
+    pub name: &'static str,
+    pub part: Part,
+    pub run: fn(&mut Checker) -> Verdict,
+}
+
+const fn campaign(part: Part, name: &'static str, run: fn(&mut Checker) -> Verdict) -> Campaign {
+    Campaign { name, part, run }
+}
+
+/// Quick ones first, so that a wrong engine is caught soon.
+pub const ALL: [Campaign; 26] = [
+    campaign(Part::Modem, "modem: worked runs and limits", codes::modem),
+    campaign(Part::Modem, "modem: random sheets", runs::modem_sheets),
+    campaign(Part::Runs, "runs: worked runs", codes::worked_runs),
+    campaign(Part::Runs, "runs: codes 1 to 5 at their limits", codes::run_limits),
+    campaign(Part::Runs, "runs: lines that are no call", codes::no_calls),
+    campaign(Part::Runs, "runs: codes 6 to 13", codes::line_codes),
+    campaign(Part::Runs, "stores: every single-word change", stores::single_changes),
+    campaign(Part::Runs, "stores: several changes", stores::several_changes),
+    campaign(Part::Runs, "stores: loops apart from the rows", stores::loops),
+    campaign(Part::Runs, "stores: careless forests", stores::careless_forests),
+    campaign(Part::Runs, "stores: every forest of four items", stores::every_small_forest),
+    campaign(Part::Runs, "runs: every sheet of four calls", runs::every_short_sheet),
+    campaign(Part::Runs, "runs: random fresh sheets", runs::fresh_sheets),
+    campaign(Part::Runs, "runs: demand 3, line by line", runs::ledger),
+    campaign(Part::Runs, "runs: every cut into kept runs", runs::every_cut),
+    campaign(Part::Runs, "stores: large forests, ranks to 16", large_stores::large_forests),
+    campaign(Part::Feed, "feed: worked run", feeds::worked),
+    campaign(Part::Feed, "feed: codes 14 to 20 at their limits", feeds::limits),
+    campaign(Part::Feed, "feed: random maps", feeds::random_maps),
+    campaign(Part::Feed, "feed: faulty spans", feeds::faulty_spans),
+    campaign(Part::Feed, "feed: large maps", feeds::large_maps),
+    campaign(Part::Map, "map: limits and malformed texts", map_texts::limits),
+    campaign(Part::Map, "map: random and damaged texts", map_texts::texts),
+    campaign(Part::Map, "map: lengths of the lent lists", map_texts::lists),
+    campaign(Part::QueueProgram, "queue program", programs::queue),
+    campaign(Part::FeedProgram, "feed program", programs::feed),
+];
+
+/// The result of one campaign.
+pub struct Outcome {
+    pub name: &'static str,
+    pub cases: u64,
+    pub verdict: Verdict,
+}
+
+/// The parts that the engine lacks: their campaigns do not run.
+pub fn missing(engine: &dyn Engine) -> Vec<Part> {
+    let mut parts: Vec<Part> = ALL.iter().map(|campaign| campaign.part).filter(|&part| !engine.has(part)).collect();
+    parts.dedup();
+    parts
+}
+
+/// Runs the campaigns of the parts that the engine has; stops after a failure if `first_only`.
+pub fn run(engine: &dyn Engine, first_only: bool, mut report: impl FnMut(&Outcome)) -> Vec<Outcome> {
+    let mut outcomes = Vec::new();
+    for campaign in ALL.iter().filter(|campaign| engine.has(campaign.part)) {
+        let mut checker = Checker::new(engine);
+        let verdict = (campaign.run)(&mut checker);
+        let failed = verdict.is_err();
+        outcomes.push(Outcome { name: campaign.name, cases: checker.cases, verdict });
+        report(outcomes.last().expect("just pushed"));
+        if failed && first_only {
+            break;
+        }
+    }
+    outcomes
+}

@@ -1,0 +1,78 @@
+//! The two programs on whole inputs.
+
+use super::codes;
+use super::feeds;
+use crate::check::{Checker, Verdict};
+use crate::malformed;
+use crate::maps;
+use crate::random::Random;
+use crate::sheets;
+use reference::Queues;
+
+pub fn queue(checker: &mut Checker) -> Verdict {
+    let one = |text: &str| text.as_bytes().to_vec();
+    let mut inputs = vec![codes::WORKED.to_vec(), codes::LONG_RUN.to_vec(), vec![]];
+    inputs.extend(["\n", "M,0", "X,1023\nX,1024", "I,0,1023,4294967295\nI,0,1024,1\nM,0\n", "T,07\nJ,9,9\n"].map(one));
+    inputs.extend([vec![b'M'; 60_000], vec![b'M'; 60_001], vec![b'M'; 200_000]]);
+    inputs.extend([vec![b'\n'; 2_000], vec![b'\n'; 2_001], vec![b'\n'; 60_001]]);
+    inputs.push(malformed::NO_CALLS.join("\n").into_bytes());
+    let mut random = Random::new(15);
+    for _ in 0..40 {
+        let items = *random.pick(&[5, 40, 1024]);
+        let count = 1 + random.size(600);
+        let profile = sheets::profile(&mut random, count);
+        let lines = sheets::lines(&mut random, &Queues::new(items), &profile);
+        let open = random.chance(30);
+        inputs.push(sheets::sheet(&lines, open));
+    }
+    // All items held at once.
+    let full: Vec<Vec<u8>> = (0..1024).map(|item| format!("I,0,{item},{}", item * 7919 % 64).into_bytes()).collect();
+    let takings = vec![b"T,0".to_vec(); 976];
+    inputs.push(sheets::sheet(&[full, takings].concat(), false));
+    inputs.iter().try_for_each(|input| checker.queue_program(input))
+}
+
+pub fn feed(checker: &mut Checker) -> Verdict {
+    let mut inputs = vec![maps::text(3, 0, &feeds::WORKED, false), maps::text(3, 0, &feeds::WORKED, true)];
+    let texts = [
+        "",
+        "\n",
+        "3",
+        "3,3",
+        "0,0",
+        "1024,1023",
+        "1025,0",
+        "1025,1025\n0,1,2",
+        "4294967295,0",
+        "3,0\n0,3,1",
+        "3,0\n0,1,0",
+        "3,0\n1,1,1\n0,1,1",
+        "3,0\n0,1",
+        "3,0\n0,1,1000001",
+        "3,0\n0,1,1000000\n",
+        "2,0\n0,1,1\n0,1,1\n1,1,1\n1,0,1\n",
+        "1,0",
+        "3,1\n0,1,7\n",
+        "4,0\n0,1,2\n0,2,1\n1,3,1\n2,3,2\n",
+    ];
+    inputs.extend(texts.map(|text| text.as_bytes().to_vec()));
+    // 4,096 spans fit, one more does not, whatever else is wrong with the map.
+    for (count, places) in [(4_096, 2), (4_097, 2), (4_097, 1_025), (4_096, 1_025)] {
+        inputs.push(maps::text(places, 0, &vec![[0, 1, 9]; count], false));
+    }
+    inputs.extend([[&b"2,0\n"[..], &vec![b'0'; 60_000]].concat(), [&b"2,0\n"[..], &b"0,1,1\n".repeat(9_999)].concat()]);
+    let mut random = Random::new(16);
+    for _ in 0..40 {
+        let call = maps::small(&mut random);
+        let mut text = maps::text_of(&call, false);
+        if random.chance(30) {
+            malformed::damage(&mut random, &mut text);
+        }
+        inputs.push(text);
+    }
+    for losses in [4, 1_000_000] {
+        let spans = maps::scattered(&mut random, 1024, 3_600, losses);
+        inputs.push(maps::text(1024, 9, &spans, false));
+    }
+    inputs.iter().try_for_each(|input| checker.feed_program(input))
+}

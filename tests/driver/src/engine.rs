@@ -1,0 +1,108 @@
+//! The entries that a host may call, and the reference behind the same entries.
+
+use reference::feed::{self, Lent, Spans};
+use reference::{map, program, run, store};
+
+/// What an engine may offer; campaigns run for the parts that are there.
+#[derive(Clone, Copy, Debug, PartialEq, Eq)]
+pub enum Part {
+    Modem,
+    Runs,
+    Feed,
+    Map,
+    QueueProgram,
+    FeedProgram,
+}
+
+/// The lists that a feed call is lent for writing.
+pub struct FeedLists<'a> {
+    pub best: &'a mut [u32],
+    pub last: &'a mut [u32],
+    pub store: &'a mut [u32],
+}
+
+/// Names and meanings are those of the C header. Runs answer the bytes written, or 100,000 and the code.
+/// An engine leaves out the entries of parts that it does not have; campaigns never call them.
+#[allow(unused_variables)]
+pub trait Engine {
+    fn has(&self, part: Part) -> bool;
+
+    fn queue_run(&self, sheet: &[u8], out: &mut [u8]) -> u32 {
+        unreachable!("no modem part")
+    }
+
+    fn fresh_run(&self, store: &mut [u32], sheet: &[u8], out: &mut [u8]) -> u32 {
+        unreachable!("no runs")
+    }
+
+    fn kept_run(&self, store: &mut [u32], sheet: &[u8], out: &mut [u8]) -> u32 {
+        unreachable!("no runs")
+    }
+
+    fn store_sound(&self, store: &[u32]) -> u32 {
+        unreachable!("no runs")
+    }
+
+    fn feed_table(&self, places: u32, start: u32, spans: Spans, lists: FeedLists, figures: &mut [u32; 3]) -> u32 {
+        unreachable!("no feed call")
+    }
+
+    fn read_map(&self, text: &[u8], lists: [&mut [u32]; 3], figures: &mut [u32; 3]) -> u32 {
+        unreachable!("no map reader")
+    }
+
+    fn queue_program(&self, input: &[u8]) -> Vec<u8> {
+        unreachable!("no queue program")
+    }
+
+    fn feed_program(&self, input: &[u8]) -> Vec<u8> {
+        unreachable!("no feed program")
+    }
+}
+
+/// The reference as an engine.
+pub struct Faithful;
+
+impl Engine for Faithful {
+    fn has(&self, _: Part) -> bool {
+        true
+    }
+
+    fn queue_run(&self, sheet: &[u8], out: &mut [u8]) -> u32 {
+        run::modem(sheet, out).number()
+    }
+
+    fn fresh_run(&self, store: &mut [u32], sheet: &[u8], out: &mut [u8]) -> u32 {
+        run::fresh(store, sheet, out).number()
+    }
+
+    fn kept_run(&self, store: &mut [u32], sheet: &[u8], out: &mut [u8]) -> u32 {
+        run::kept(store, sheet, out).number()
+    }
+
+    fn store_sound(&self, store: &[u32]) -> u32 {
+        u32::from(store::sound(store).is_some())
+    }
+
+    fn feed_table(&self, places: u32, start: u32, spans: Spans, lists: FeedLists, figures: &mut [u32; 3]) -> u32 {
+        let lent = Lent { best: lists.best, last: lists.last, words: lists.store };
+        let result = feed::table(places, start, spans, lent);
+        *figures = [result.links, result.cuts, result.examined];
+        result.code
+    }
+
+    fn read_map(&self, text: &[u8], lists: [&mut [u32]; 3], figures: &mut [u32; 3]) -> u32 {
+        let [from, to, loss] = lists;
+        let header = map::read(text, from, to, loss);
+        *figures = [header.places, header.start, header.spans];
+        header.code
+    }
+
+    fn queue_program(&self, input: &[u8]) -> Vec<u8> {
+        program::queue(input)
+    }
+
+    fn feed_program(&self, input: &[u8]) -> Vec<u8> {
+        program::feed(input)
+    }
+}

@@ -1,0 +1,192 @@
+//! The real engine: static libraries through their C interface, programs as child processes.
+//!
+//! Features choose the libraries; the folder of the programs is taken from the environment.
+
+#[cfg(feature = "engine-host")]
+use crate::engine::FeedLists;
+use crate::engine::{Engine, Part};
+#[cfg(feature = "engine-host")]
+use reference::feed::Spans;
+use std::io::Write;
+use std::path::PathBuf;
+use std::process::{Command, Stdio};
+
+/// Names the folder that holds the programs `queue` and `feed`.
+pub const PROGRAMS: &str = "CABLE_QUEUE_BIN";
+
+#[cfg(feature = "engine-modem")]
+extern "C" {
+    fn queue_run(sheet: *const u8, sheet_len: usize, out: *mut u8, out_len: usize) -> u32;
+}
+
+#[cfg(feature = "engine-host")]
+extern "C" {
+    fn fresh_run(
+        store: *mut u32,
+        store_len: usize,
+        sheet: *const u8,
+        sheet_len: usize,
+        out: *mut u8,
+        out_len: usize,
+    ) -> u32;
+    fn kept_run(
+        store: *mut u32,
+        store_len: usize,
+        sheet: *const u8,
+        sheet_len: usize,
+        out: *mut u8,
+        out_len: usize,
+    ) -> u32;
+    fn store_sound(store: *const u32, store_len: usize) -> u32;
+    fn feed_table(
+        places: u32,
+        start: u32,
+        from: *const u32,
+        from_len: usize,
+        to: *const u32,
+        to_len: usize,
+        loss: *const u32,
+        loss_len: usize,
+        best: *mut u32,
+        best_len: usize,
+        last: *mut u32,
+        last_len: usize,
+        store: *mut u32,
+        store_len: usize,
+        figures: *mut [u32; 3],
+    ) -> u32;
+    fn read_map(
+        text: *const u8,
+        text_len: usize,
+        from: *mut u32,
+        from_len: usize,
+        to: *mut u32,
+        to_len: usize,
+        loss: *mut u32,
+        loss_len: usize,
+        figures: *mut [u32; 3],
+    ) -> u32;
+}
+
+pub struct Linked {
+    programs: Option<PathBuf>,
+}
+
+impl Linked {
+    pub fn from_environment() -> Linked {
+        Linked { programs: std::env::var_os(PROGRAMS).map(PathBuf::from) }
+    }
+
+    /// True if nothing of the engine is there.
+    pub fn is_absent(&self) -> bool {
+        let libraries = cfg!(feature = "engine-modem") || cfg!(feature = "engine-host");
+        !libraries && self.programs.is_none()
+    }
+
+    fn program(&self, name: &str) -> Option<PathBuf> {
+        self.programs.as_ref().map(|folder| folder.join(name)).filter(|path| path.is_file())
+    }
+
+    /// Feeds the input from another thread, since a program may print before it has read all.
+    fn print(&self, name: &str, input: &[u8]) -> Vec<u8> {
+        let path = self.program(name).expect("campaigns ask for the part first");
+        let mut child =
+            Command::new(path).stdin(Stdio::piped()).stdout(Stdio::piped()).spawn().expect("the program starts");
+        let mut stdin = child.stdin.take().expect("piped");
+        let input = input.to_vec();
+        let writer = std::thread::spawn(move || {
+            // A program may stop reading once the input is too long: a closed pipe is no fault.
+            let _ = stdin.write_all(&input);
+        });
+        let output = child.wait_with_output().expect("the program ends");
+        writer.join().expect("the writer ends");
+        output.stdout
+    }
+}
+
+impl Engine for Linked {
+    fn has(&self, part: Part) -> bool {
+        match part {
+            Part::Modem => cfg!(feature = "engine-modem"),
+            Part::Runs | Part::Feed | Part::Map => cfg!(feature = "engine-host"),
+            Part::QueueProgram => self.program("queue").is_some(),
+            Part::FeedProgram => self.program("feed").is_some(),
+        }
+    }
+
+    #[cfg(feature = "engine-modem")]
+    fn queue_run(&self, sheet: &[u8], out: &mut [u8]) -> u32 {
+        // SAFETY: pointers and lengths are those of live slices that do not overlap.
+        unsafe { queue_run(sheet.as_ptr(), sheet.len(), out.as_mut_ptr(), out.len()) }
+    }
+
+    #[cfg(feature = "engine-host")]
+    fn fresh_run(&self, store: &mut [u32], sheet: &[u8], out: &mut [u8]) -> u32 {
+        // SAFETY: as in queue_run.
+        unsafe { fresh_run(store.as_mut_ptr(), store.len(), sheet.as_ptr(), sheet.len(), out.as_mut_ptr(), out.len()) }
+    }
+
+    #[cfg(feature = "engine-host")]
+    fn kept_run(&self, store: &mut [u32], sheet: &[u8], out: &mut [u8]) -> u32 {
+        // SAFETY: as in queue_run.
+        unsafe { kept_run(store.as_mut_ptr(), store.len(), sheet.as_ptr(), sheet.len(), out.as_mut_ptr(), out.len()) }
+    }
+
+    #[cfg(feature = "engine-host")]
+    fn store_sound(&self, store: &[u32]) -> u32 {
+        // SAFETY: as in queue_run.
+        unsafe { store_sound(store.as_ptr(), store.len()) }
+    }
+
+    #[cfg(feature = "engine-host")]
+    fn feed_table(&self, places: u32, start: u32, spans: Spans, lists: FeedLists, figures: &mut [u32; 3]) -> u32 {
+        // SAFETY: as in queue_run.
+        unsafe {
+            let (Spans { from, to, loss }, FeedLists { best, last, store }) = (spans, lists);
+            feed_table(
+                places,
+                start,
+                from.as_ptr(),
+                from.len(),
+                to.as_ptr(),
+                to.len(),
+                loss.as_ptr(),
+                loss.len(),
+                best.as_mut_ptr(),
+                best.len(),
+                last.as_mut_ptr(),
+                last.len(),
+                store.as_mut_ptr(),
+                store.len(),
+                figures,
+            )
+        }
+    }
+
+    #[cfg(feature = "engine-host")]
+    fn read_map(&self, text: &[u8], lists: [&mut [u32]; 3], figures: &mut [u32; 3]) -> u32 {
+        // SAFETY: as in queue_run.
+        unsafe {
+            let [from, to, loss] = lists;
+            read_map(
+                text.as_ptr(),
+                text.len(),
+                from.as_mut_ptr(),
+                from.len(),
+                to.as_mut_ptr(),
+                to.len(),
+                loss.as_mut_ptr(),
+                loss.len(),
+                figures,
+            )
+        }
+    }
+
+    fn queue_program(&self, input: &[u8]) -> Vec<u8> {
+        self.print("queue", input)
+    }
+
+    fn feed_program(&self, input: &[u8]) -> Vec<u8> {
+        self.print("feed", input)
+    }
+}

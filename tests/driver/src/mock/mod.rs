@@ -1,0 +1,121 @@
+//! Wrong engines: the reference with one deliberate fault each. The campaigns must catch them all.
+
+mod feeds;
+mod lines;
+mod runs;
+
+use crate::engine::{Engine, FeedLists, Part};
+use reference::feed::Spans;
+use reference::run::{LINE_ROOM, MAX_LINES, MODEM_ITEMS};
+use reference::{program, store};
+
+/// Declares the faults once: as an enum, and in groups with the parts that must each catch them.
+macro_rules! variants {
+    ($([$($part:ident)*] $($name:ident)*;)*) => {
+        #[derive(Clone, Copy, Debug, PartialEq, Eq)]
+        pub enum Variant { $($($name,)*)* }
+        pub const VARIANTS: &[(&[Part], &[Variant])] = &[$((&[$(Part::$part),*], &[$(Variant::$name),*])),*];
+    };
+}
+
+variants! {
+    // Queues: seen in answers.
+    [Modem Runs QueueProgram]
+        TwelveWithoutLooking RowNeverLinked LinksReportedZero LinksOnlyAtTheFirstTaking InventedCount
+        LinkingOnDeleteOfAnother EqualKeysInRowOrder RowByDescendingRank EqualKeyNeverCut
+        ReleasedChildrenCountedAsCuts NoCascade JoinedRowInFront DeleteOfTheFirstWithoutLinking
+        TallyNotReset TieLinkedByRowOrder;
+    // Queues: seen in store words only, since a mark on a root changes no later answer.
+    [Runs]
+        MarkLeftOnCutTree MarkLeftOnReleasedChild RootMarkedThatLostAChild;
+    // Lines and runs.
+    [Modem Runs QueueProgram]
+        RefusesEverySheet SixTestedAfterSeven LeadingZeroAccepted ReturnBeforeLineEndAccepted
+        OpenLastLineDropped EmptyLineSkipped EightAnsweredAsNine;
+    [Modem Runs] OneByteBeyond RoomTestedBeforeLines;
+    [Runs] StoreLeftAsFound KeptRunEmptiesTheStore FirstItemWordIsFirstTree CountOfJoinedHeapLeft;
+    [Modem] ModemHoldsOneItemMore;
+    // The check of a kept store.
+    [Runs]
+        SmallChildAccepted MarkedRootAccepted HeapOrderIgnored CountsIgnored EveryStoreSound NoStoreSound
+        MarkedSecondChildRefused;
+    // Feed calls.
+    [Feed]
+        TableOfAllNone FixedTable ZeroLossAccepted FirstSpanFound FeedStoreLeftFull FeedStoreLeftAsFound
+        FeedCountsZero FeedListsTouchedOnRefusal StartShowsASpan OrderTestedBeforeLoss;
+    // Map texts.
+    [Map] MapListsTouchedOnRefusal MapRoomTestedFirst MapEmptyLineSkipped MapFiguresLeftOnRefusal;
+    // Programs.
+    [QueueProgram FeedProgram] ProgramOmitsLastLineEnd;
+    [FeedProgram] ProgramShowsNoneAsNumber;
+}
+
+use Variant::*;
+
+/// The wrong engine. `None` runs the same code without a fault.
+pub struct Mock {
+    pub variant: Option<Variant>,
+    /// Only this part is offered, so that a fault is seen to be caught there; all parts if `None`.
+    pub only: Option<Part>,
+}
+
+impl Mock {
+    fn is(&self, variant: Variant) -> bool {
+        self.variant == Some(variant)
+    }
+}
+
+impl Engine for Mock {
+    fn has(&self, part: Part) -> bool {
+        self.only.is_none_or(|only| only == part)
+    }
+
+    fn queue_run(&self, sheet: &[u8], out: &mut [u8]) -> u32 {
+        let items = MODEM_ITEMS + usize::from(self.is(ModemHoldsOneItemMore));
+        self.run(false, &mut vec![0; store::length(items)], sheet, out)
+    }
+
+    fn fresh_run(&self, store: &mut [u32], sheet: &[u8], out: &mut [u8]) -> u32 {
+        self.run(false, store, sheet, out)
+    }
+
+    fn kept_run(&self, store: &mut [u32], sheet: &[u8], out: &mut [u8]) -> u32 {
+        self.run(true, store, sheet, out)
+    }
+
+    fn store_sound(&self, store: &[u32]) -> u32 {
+        u32::from(self.accepts(store).is_some())
+    }
+
+    fn feed_table(&self, places: u32, start: u32, spans: Spans, lists: FeedLists, figures: &mut [u32; 3]) -> u32 {
+        self.faulty_table(places, start, spans, lists, figures)
+    }
+
+    fn read_map(&self, text: &[u8], lists: [&mut [u32]; 3], figures: &mut [u32; 3]) -> u32 {
+        self.faulty_map(text, lists, figures)
+    }
+
+    fn queue_program(&self, input: &[u8]) -> Vec<u8> {
+        let mut out = vec![0; LINE_ROOM * MAX_LINES];
+        let number = self.run(false, &mut vec![0; store::length(program::ITEMS)], input, &mut out);
+        let mut printed = match number.checked_sub(100_000) {
+            Some(code) => format!("{code}\n").into_bytes(),
+            None => out[..number as usize].to_vec(),
+        };
+        if self.is(ProgramOmitsLastLineEnd) {
+            printed.pop();
+        }
+        printed
+    }
+
+    fn feed_program(&self, input: &[u8]) -> Vec<u8> {
+        let mut printed = program::feed(input);
+        if self.is(ProgramOmitsLastLineEnd) {
+            printed.pop();
+        }
+        if self.is(ProgramShowsNoneAsNumber) {
+            printed = String::from_utf8_lossy(&printed).replace('-', "4294967295").into_bytes();
+        }
+        printed
+    }
+}

@@ -1,0 +1,18 @@
+//! Reference for the queue and feed engine, written from the scope paper alone.
+//!
+//! Plain and slow on purpose: a heap is a `Vec` of trees, a tree owns its children, an item is found
+//! by searching. Store words appear only in `store`, where whole forests are turned into words.
+
+pub mod call;
+pub mod feed;
+pub mod ledger;
+pub mod map;
+pub mod program;
+pub mod queue;
+pub mod run;
+pub mod store;
+pub mod text;
+
+pub use call::{Answer, Call};
+pub use queue::{Position, Queues, Tree, HEAPS};
+pub use store::NONE;

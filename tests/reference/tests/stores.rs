@@ -1,0 +1,59 @@
+//! Words of small stores, sound and unsound, written out by hand.
+
+use reference::store::{self, empty, encode, index, sound, Field};
+use reference::{Call, Queues, Tree, NONE};
+
+fn after(capacity: u32, lines: &[&str]) -> Queues {
+    let mut queues = Queues::new(capacity);
+    for line in lines {
+        assert_eq!(queues.answer(Call::parse(line.as_bytes())).code, 0, "{line}");
+    }
+    queues
+}
+
+#[test]
+fn words_of_a_linked_heap() {
+    // Item 3 taken from keys 5, 3, 8, 1: the row is 2, 1 with 0 under 1.
+    let words = encode(&after(4, &["I,0,0,5", "I,0,1,3", "I,0,2,8", "I,0,3,1", "T,0"]));
+    assert_eq!(words[..8], [2, 1, 1, 3, NONE, NONE, NONE, 0]);
+    let block = |field: Field| words[index(4, field, 0)..index(4, field, 0) + 4].to_vec();
+    assert_eq!(block(Field::Key), [5, 3, 8, 0]);
+    assert_eq!(block(Field::Parent), [1, NONE, NONE, 0]);
+    assert_eq!(block(Field::FirstChild), [NONE, 0, NONE, 0]);
+    assert_eq!(block(Field::LastChild), [NONE, 0, NONE, 0]);
+    assert_eq!(block(Field::Next), [NONE, NONE, 1, 0]);
+    assert_eq!(block(Field::Previous), [NONE, 2, NONE, 0]);
+    assert_eq!(block(Field::Rank), [0, 1, 0, 0]);
+    assert_eq!(block(Field::State), [1, 1, 1, 0]);
+}
+
+#[test]
+fn sound_and_unsound() {
+    assert!(sound(&empty(0)).is_some());
+    assert!(sound(&empty(5)).is_some());
+    assert!(sound(&[0; 32]).is_none());
+    assert!(sound(&empty(5)[1..]).is_none());
+
+    let marked_leaf = Tree { item: 1, key: 1, marked: true, children: vec![] };
+    let root = |children| Tree { item: 0, key: 0, marked: false, children };
+    let with = |tree| {
+        let mut queues = Queues::new(4);
+        queues.rows[7].push(tree);
+        store::encode(&queues)
+    };
+    assert!(sound(&with(root(vec![marked_leaf.clone()]))).is_some());
+    assert!(sound(&with(marked_leaf.clone())).is_none(), "a marked root");
+    let pair = |second: Tree| root(vec![Tree::single(2, 2), second]);
+    assert!(sound(&with(pair(marked_leaf))).is_some(), "a marked second child of rank 0");
+    assert!(sound(&with(pair(Tree::single(1, 1)))).is_none(), "a second child that is too small");
+}
+
+#[test]
+fn own_parent_is_unsound() {
+    let mut words = encode(&after(2, &["I,0,0,5"]));
+    for field in [Field::Parent, Field::FirstChild, Field::LastChild] {
+        words[index(2, field, 1)] = 1;
+    }
+    words[index(2, Field::State, 1)] = 1;
+    assert!(sound(&words).is_none());
+}
