@@ -45,11 +45,12 @@ use Rattle.rules.specs.Forests.{
 use Rattle.rules.specs.Ledger.{allowance, ifDone, price}
 use Rattle.rules.specs.Lists.{occurs, sumBy}
 use Rattle.rules.specs.Order.{leastIn, minimum, precedes}
+use Rattle.rules.specs.WellFormed.{KeysFit, WellFormed}
 use Rattle.rules.specs.Words.{at}
 use Rattle.rules.proofs.CascadeKeeps.{cutOut-formed, ordered-but}
-use Rattle.rules.proofs.ConsolidateKeeps.{consolidate-formed}
-use Rattle.rules.proofs.Cutting.{cutIf-heap, cutOut-root}
-use Rattle.rules.proofs.Excused.{Formed, FormedBut, OrderedBut, exact}
+use Rattle.rules.proofs.ConsolidateKeeps.{consolidate-formed, low}
+use Rattle.rules.proofs.Cutting.{cutIf-heap, cutIf-key, cutOut-root}
+use Rattle.rules.proofs.Excused.{Formed, FormedBut, OrderedBut, exact, to-formed, well-formed}
 use Rattle.rules.proofs.InsertKeeps.{insert-formed}
 use Rattle.rules.proofs.KeyKeeps.{key-formed}
 use Rattle.rules.proofs.MeldKeeps.{meld-formed}
@@ -160,6 +161,19 @@ decrease-kept s S i k l low =
     right : (a b : Bool) → a ≢ false → (a && b) ≡ false → b ≡ false
     right true b n e = e
     right false b n e = absurd (n refl)
+
+-- an item that is cut if it has a parent leaves well-formed forests well-formed
+pub cut-child-formed : (s : Forests) → WellFormed s → (i : ℕ) → heapOf s i ≢ 0
+    → WellFormed ((cutIf (hasParent s i) (heapNumber s i) i s) .forests)
+unfolding KeysFit
+cut-child-formed s W i l =
+    let S = to-formed s W in
+    let h : ℕ = heapNumber s i in
+    let c = cutIf-kept s h i
+    (record { disjoint = S .disjoint; ordered = ordered-but s i (S .disjoint) (S .ordered); ranked = S .ranked })
+    (omega arith) (hasParent s i) (has-parent s i) (λ z n. absurd (n (has-none s i z))) in
+    well-formed ((cutIf (hasParent s i) h i s) .forests) (c .formed)
+    (λ x. rw (cutIf-key (hasParent s i) h i s) (W .keys x))
 
 -- a minimum that is an item stands in its row
 minimum-stands : (s : Forests) (h : ℕ) → minimum s h ≢ none → 1 ≤ occurs (minimum s h) (rowOf s h)

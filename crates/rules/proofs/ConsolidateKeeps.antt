@@ -73,23 +73,23 @@ occupied-extract ps r z k n =
 
 -- Between two steps: the row of h is what stands at the places and what is still to come, and a tree at place r has
 -- rank r.
-record Held (h : ℕ) (ps rest : List ℕ) (s : Forests) : Type 0 where
-  formed : Formed (setRow h (occupied ps ++ rest) s)
-  long : length ps ≡ 17
-  rank : (r : ℕ) → getD ps r none ≢ none → rankOf s (getD ps r none) ≡ r
+pub record Held (h : ℕ) (ps rest : List ℕ) (s : Forests) : Type 0 where
+  pub formed : Formed (setRow h (occupied ps ++ rest) s)
+  pub long : length ps ≡ 17
+  pub rank : (r : ℕ) → getD ps r none ≢ none → rankOf s (getD ps r none) ≡ r
 
 module _ (h : ℕ) (hh : h < 8) (ps rest : List ℕ) (x : ℕ) (s : Forests) (H : Held h ps (x ∷ rest) s) where
   abbrev ρ : List ℕ
   ρ = occupied ps ++ (x ∷ rest)
 
-  occurs-ρ : (z : ℕ) → occurs z ρ ≡ occurs z (occupied ps) + delta z x + occurs z rest
+  pub occurs-ρ : (z : ℕ) → occurs z ρ ≡ occurs z (occupied ps) + delta z x + occurs z rest
   unfolding occurs sumBy
   occurs-ρ z = omega (arith, occurs-append z (occupied ps) (x ∷ rest))
 
-  x-in : 1 ≤ occurs x ρ
+  pub x-in : 1 ≤ occurs x ρ
   x-in = omega (arith, occurs-ρ x, delta-self x)
 
-  x-heap : x < length (s .heap)
+  pub x-heap : x < length (s .heap)
   x-heap = heap-in s x (λ e. omega (arith, in-row s h ρ (H .formed) hh x x-in .0))
 
   x-some : x ≢ none
@@ -98,11 +98,11 @@ module _ (h : ℕ) (hh : h < 8) (ps rest : List ℕ) (x : ℕ) (s : Forests) (H 
   x-apart : occurs x (occupied ps) ≡ 0
   x-apart = omega (arith, occurs-ρ x, delta-self x, once s h ρ (H .formed) hh x x-in)
 
-  low : rankOf s x ≤ 16
+  pub low : rankOf s x ≤ 16
   low = root-rank-16 (setRow h ρ s) (H .formed) h x (rw (row-h s h ρ (H .formed) hh ρ) x-in)
 
   -- the tree comes to rest
-  put : (r : ℕ) → rankOf s x ≡ r → getD ps r none ≡ none → Held h (set ps r x) rest s
+  pub put : (r : ℕ) → rankOf s x ≡ r → getD ps r none ≡ none → Held h (set ps r x) rest s
   put r q e = record {
     formed = anew s h ρ (H .formed) hh (occupied (set ps r x) ++ rest)
         (λ z. omega
@@ -123,10 +123,10 @@ module _ (h : ℕ) (hh : h < 8) (ps rest : List ℕ) (x : ℕ) (s : Forests) (H 
     r-in : r < length ps
     r-in = omega (arith, H .long, low, q)
 
-    y-in : 1 ≤ occurs y ρ
+    pub y-in : 1 ≤ occurs y ρ
     y-in = omega (arith, occurs-ρ y, occupied-extract ps r y r-in n, delta-self y)
 
-    y-apart : y ≢ x
+    pub y-apart : y ≢ x
     y-apart e = omega (arith, x-apart, occupied-extract ps r x r-in n, delta-self x, ap (delta x) e)
 
     linked : (a l : ℕ) → 1 ≤ occurs a ρ → 1 ≤ occurs l ρ → a ≢ l → rankOf s a ≡ r → rankOf s l ≡ r
@@ -162,7 +162,7 @@ module _ (h : ℕ) (hh : h < 8) (ps rest : List ℕ) (x : ℕ) (s : Forests) (H 
           (omega (arith, length-append (childrenOf s a) (l ∷ []), ra)),
     )
 
-    met : (b : Bool) → precedes (s .key) y x ≡ b
+    pub met : (b : Bool) → precedes (s .key) y x ≡ b
         → Held h (set ps r none) (cond b y x ∷ rest) (link (cond b y x) (cond b x y) s) ×
         (rankOf (link (cond b y x) (cond b x y) s) (cond b y x) ≡ suc r)
     met true e = linked y x y-in x-in y-apart (H .rank r n) q e (λ z. omega arith)
@@ -223,7 +223,7 @@ no-place zero r = refl
 no-place (suc n) zero = refl
 no-place (suc n) (suc r) = no-place n r
 
-start : (h : ℕ) (s : Forests) → h < 8 → Formed s → Held h (replicate 17 none) (rowOf s h) s
+pub start : (h : ℕ) (s : Forests) → h < 8 → Formed s → Held h (replicate 17 none) (rowOf s h) s
 unfolding occupied
 start h s hh S =
     record { formed = re-row s h (rowOf s h) S hh (λ z. refl); long = refl; rank = λ r n. absurd (n (no-place 17 r)) }

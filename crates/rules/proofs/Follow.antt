@@ -28,12 +28,12 @@ follow-list (suc d) next (z ∷ zs) k o n f =
 
 -- ---- a list of items without repetition is no longer than the table
 
-sum-ones : (l : List ℕ) → sumBy (λ _. 1) l ≡ length l
+pub sum-ones : (l : List ℕ) → sumBy (λ _. 1) l ≡ length l
 unfolding sumBy
 sum-ones [] = refl
 sum-ones (x ∷ l) = omega (arith, sum-ones l)
 
-to-ones : (n : ℕ) → sumTo n (λ _. 1) ≡ n
+pub to-ones : (n : ℕ) → sumTo n (λ _. 1) ≡ n
 unfolding sumTo
 to-ones zero = refl
 to-ones (suc n) = omega (arith, to-ones n)

@@ -34,11 +34,13 @@ pub mod EmptyForests
 pub mod Places
 pub mod Words
 pub mod Siblings
-pub mod AppendLinks
+pub mod ConcatLinks
 pub mod RemoveLinks
+pub mod Relinks
 pub mod Follow
 pub mod SiblingLists
 pub mod DecodeEncode
 pub mod ReplyBounds
 pub mod Answers
 pub mod SoundWords
+pub mod MinimumAfter

@@ -26,23 +26,9 @@ use Rattle.rules.specs.declared.Field.the-variants.{
   State,
 }
 use Rattle.rules.specs.Lists.{tabulateFrom, tabulate}
+use Rattle.rules.specs.SetWord.{fieldNumber}
 use Rattle.rules.specs.Words.{storeSize, room, at, fields}
 use Rattle.rules.proofs.Tabulate.{getD-tabulate}
-
--- the kinds by number: those of a heap from 0, those of an item from 4
-abbrev pub fieldNumber : Field → ℕ
-fieldNumber FirstTree = 0
-fieldNumber LastTree = 1
-fieldNumber Minimum = 2
-fieldNumber Count = 3
-fieldNumber Key = 4
-fieldNumber Parent = 5
-fieldNumber FirstChild = 6
-fieldNumber LastChild = 7
-fieldNumber Next = 8
-fieldNumber Prev = 9
-fieldNumber Rank = 10
-fieldNumber State = 11
 
 pub field-number : (f : Field) → getD fields (fieldNumber f) State ≡ f
 field-number FirstTree = refl
@@ -90,6 +76,13 @@ pub number-bound : (f : Field) → fieldNumber f < length fields
 number-bound f = go (lies 0 f)
   where
     go : Lies 0 f → fieldNumber f < length fields
+    go (ofHeaps a r e) = omega arith
+    go (ofItems c a b r e) = omega arith
+
+pub room-small : (n : ℕ) (f : Field) → n ≤ 4096 → room n f ≤ 4096
+room-small n f h = go (lies n f)
+  where
+    go : Lies n f → room n f ≤ 4096
     go (ofHeaps a r e) = omega arith
     go (ofItems c a b r e) = omega arith
 

@@ -43,7 +43,7 @@ module _ (s : Forests) (S : Disjoint s) (h x : ℕ) (hx : heapOf s x ≡ suc h) 
   x-row = root-row s S h x hx rx
 
   -- x itself, a child of x, any other
-  byChild : {P : ℕ → Type 0} → P x → ((y : ℕ) → y ≢ x → occurs y cs ≡ 1 → heapOf s y ≡ suc h → parentOf s y ≡ x → P y)
+  pub byChild : {P : ℕ → Type 0} → P x → ((y : ℕ) → y ≢ x → occurs y cs ≡ 1 → heapOf s y ≡ suc h → parentOf s y ≡ x → P y)
       → ((y : ℕ) → y ≢ x → occurs y cs ≡ 0 → P y) → (y : ℕ) → P y
   byChild {P} a b c = byItem x a (λ y n. go y n (isChildOf s x y) refl)
     where
@@ -54,46 +54,46 @@ module _ (s : Forests) (S : Disjoint s) (h x : ℕ) (hx : heapOf s x ≡ suc h) 
           b y n k (sym (S .up y (q .0) (λ z. not-none s S x x-in (sym z ∙ q .1)) .1) ∙ rw (q .1) hx) (q .1)
       go y n false e = c y n (S .inChildren x y x-in ∙ rw e)
 
-  row-h : (r : List ℕ) → getD (set (s .rows) h r) h [] ≡ r
+  pub row-h : (r : List ℕ) → getD (set (s .rows) h r) h [] ≡ r
   row-h r = getD-set-same (s .rows) h r [] h-in
 
-  heap-x : getD (set (s .heap) x 0) x 0 ≡ 0
+  pub heap-x : getD (set (s .heap) x 0) x 0 ≡ 0
   heap-x = getD-set-same (s .heap) x 0 0 x-in
 
-  children-x : getD (set (s .children) x []) x [] ≡ []
+  pub children-x : getD (set (s .children) x []) x [] ≡ []
   children-x = getD-set-same (s .children) x [] [] (omega (arith, S .childrenN, x-in))
 
-  parent-x : getD (set (setAll cs none (s .parent)) x 0) x 0 ≡ 0
+  pub parent-x : getD (set (setAll cs none (s .parent)) x 0) x 0 ≡ 0
   parent-x =
       getD-set-same (setAll cs none (s .parent)) x 0 0
       (omega (arith, length-setAll cs none (s .parent), S .parentN, x-in))
 
-  parent-children : (y : ℕ) → y ≢ x → occurs y cs ≡ 1 → heapOf s y ≡ suc h
+  pub parent-children : (y : ℕ) → y ≢ x → occurs y cs ≡ 1 → heapOf s y ≡ suc h
       → getD (set (setAll cs none (s .parent)) x 0) y 0 ≡ none
   parent-children y n k e =
       getD-set-other (setAll cs none (s .parent)) x y 0 0 n
       ∙ setAll-in cs none y 0 (s .parent) (omega (arith, S .parentN, heap-in s y (λ z. omega (arith, e))))
       (omega arith)
 
-  parent-o : (y : ℕ) → y ≢ x → occurs y cs ≡ 0 → getD (set (setAll cs none (s .parent)) x 0) y 0 ≡ parentOf s y
+  pub parent-o : (y : ℕ) → y ≢ x → occurs y cs ≡ 0 → getD (set (setAll cs none (s .parent)) x 0) y 0 ≡ parentOf s y
   parent-o y n k = getD-set-other (setAll cs none (s .parent)) x y 0 0 n ∙ setAll-out cs none y 0 (s .parent) k
 
-  mark-x : getD (set (setAll cs 0 (s .mark)) x 0) x 0 ≡ 0
+  pub mark-x : getD (set (setAll cs 0 (s .mark)) x 0) x 0 ≡ 0
   mark-x = getD-set-same (setAll cs 0 (s .mark)) x 0 0 (omega (arith, length-setAll cs 0 (s .mark), S .markN, x-in))
 
-  mark-children : (y : ℕ) → y ≢ x → occurs y cs ≡ 1 → heapOf s y ≡ suc h
+  pub mark-children : (y : ℕ) → y ≢ x → occurs y cs ≡ 1 → heapOf s y ≡ suc h
       → getD (set (setAll cs 0 (s .mark)) x 0) y 0 ≡ 0
   mark-children y n k e =
       getD-set-other (setAll cs 0 (s .mark)) x y 0 0 n
       ∙ setAll-in cs 0 y 0 (s .mark) (omega (arith, S .markN, heap-in s y (λ z. omega (arith, e)))) (omega arith)
 
-  mark-o : (y : ℕ) → y ≢ x → occurs y cs ≡ 0 → getD (set (setAll cs 0 (s .mark)) x 0) y 0 ≡ markOf s y
+  pub mark-o : (y : ℕ) → y ≢ x → occurs y cs ≡ 0 → getD (set (setAll cs 0 (s .mark)) x 0) y 0 ≡ markOf s y
   mark-o y n k = getD-set-other (setAll cs 0 (s .mark)) x y 0 0 n ∙ setAll-out cs 0 y 0 (s .mark) k
 
-  key-x : getD (set (s .key) x 0) x 0 ≡ 0
+  pub key-x : getD (set (s .key) x 0) x 0 ≡ 0
   key-x = getD-set-same (s .key) x 0 0 (omega (arith, S .keyN, x-in))
 
-  heap-o : (y : ℕ) → y ≢ x → getD (set (s .heap) x 0) y 0 ≡ heapOf s y
+  pub heap-o : (y : ℕ) → y ≢ x → getD (set (s .heap) x 0) y 0 ≡ heapOf s y
   heap-o y n = getD-set-other (s .heap) x y 0 0 n
 
   -- the parent of one that is no child of x is not x

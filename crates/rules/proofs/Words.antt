@@ -11,9 +11,9 @@ use lib.Dec.{eqb}
 use borrow.Author.Tests.{eqb-true, eqb-false, eq-eqb}
 use Rattle.rules.specs.declared.Field.{Field}
 use Rattle.rules.specs.declared.Field.the-variants.{State}
+use Rattle.rules.specs.SetWord.{fieldNumber, setWord}
 use Rattle.rules.specs.Words.{storeSize, room, at, look, fields, storeField, storeFields, wordsOf}
 use Rattle.rules.proofs.Places.{
-  fieldNumber,
   field-number,
   number-bound,
   number-injective,
@@ -23,15 +23,11 @@ use Rattle.rules.proofs.Places.{
   at-onto,
 }
 
--- v with the value x for word i of kind f
-abbrev pub setWord : (Field → ℕ → ℕ) → Field → ℕ → ℕ → Field → ℕ → ℕ
-setWord v f i x g j = cond (eqb (fieldNumber f) (fieldNumber g)) (cond (eqb i j) x (v g j)) (v g j)
-
-pub setWord-same : (v : Field → ℕ → ℕ) (f : Field) (i x : ℕ) → setWord v f i x f i ≡ x
+pub setWord-same : (v : Field → ℕ → ℕ) (f : Field) (i x : ℕ) → setWord f i x v f i ≡ x
 setWord-same v f i x = rw (eq-eqb (fieldNumber f) (fieldNumber f) refl, eq-eqb i i refl)
 
 pub setWord-other : (v : Field → ℕ → ℕ) (f : Field) (i x : ℕ) (g : Field) (j : ℕ) → (f ≡ g → i ≡ j → ⊥)
-    → setWord v f i x g j ≡ v g j
+    → setWord f i x v g j ≡ v g j
 setWord-other v f i x g j h = go (eqb (fieldNumber f) (fieldNumber g)) (eqb i j) refl refl
   where
     go : (s t : Bool) → eqb (fieldNumber f) (fieldNumber g) ≡ s → eqb i j ≡ t
@@ -54,12 +50,20 @@ same-word f g i j = go (eqb (fieldNumber f) (fieldNumber g)) (eqb i j) refl refl
     go true false d e = other (λ _ h. eqb-false i j e h)
     go false t d e = other (λ h _. eqb-false (fieldNumber f) (fieldNumber g) d (ap fieldNumber h))
 
+-- a word stored with its own value
+pub setWord-own : (v : Field → ℕ → ℕ) (f : Field) (i : ℕ) (g : Field) (j : ℕ) → setWord f i (v f i) v g j ≡ v g j
+setWord-own v f i g j = go (same-word f g i j)
+  where
+    go : Same f g i j → setWord f i (v f i) v g j ≡ v g j
+    go (same d e) = rw (← d, ← e) (setWord-same v f i (v f i))
+    go (other h) = setWord-other v f i (v f i) g j h
+
 -- The law of one store: that word has the new value, all others are as before.
 pub look-set : (n : ℕ) (w : List ℕ) (f : Field) (i x : ℕ) (g : Field) (j : ℕ) → length w ≡ storeSize n → i < room n f
-    → j < room n g → look n (set w (at n f i) x) g j ≡ setWord (look n w) f i x g j
+    → j < room n g → look n (set w (at n f i) x) g j ≡ setWord f i x (look n w) g j
 look-set n w f i x g j l hi hj = go (same-word f g i j)
   where
-    go : Same f g i j → look n (set w (at n f i) x) g j ≡ setWord (look n w) f i x g j
+    go : Same f g i j → look n (set w (at n f i) x) g j ≡ setWord f i x (look n w) g j
     go (same d e) =
         rw (← d, ← e, setWord-same (look n w) f i x)
         (getD-set-same w (at n f i) x 0 (omega (arith, at-bound n f i hi)))
@@ -97,7 +101,7 @@ set-keeps : (n : ℕ) (v : Field → ℕ → ℕ) (w : List ℕ) (f : Field) (i 
     → i < room n f → j < room n g → Agrees n v w g j → Agrees n v (set w (at n f i) (v f i)) g j
 set-keeps n v w f i g j l hi hj a = look-set n w f i (v f i) g j l hi hj ∙ go (same-word f g i j)
   where
-    go : Same f g i j → setWord (look n w) f i (v f i) g j ≡ v g j
+    go : Same f g i j → setWord f i (v f i) (look n w) g j ≡ v g j
     go (same d e) = rw (← d, ← e) (setWord-same (look n w) f i (v f i))
     go (other h) = setWord-other (look n w) f i (v f i) g j h ∙ a
 

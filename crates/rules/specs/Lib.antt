@@ -10,4 +10,5 @@ pub mod WellFormed
 pub mod Ledger
 pub mod Words
 pub mod ByHand
+pub mod SetWord
 pub mod Theorems

@@ -1,4 +1,6 @@
 // The types that the rules, the code and the theorems share. The rules themselves are in specs/.
+ghost use mathlib.Core.Path.{_≡_};
+ghost use Prim.Native.Nat.{_+_, _<_, _≤_};
 
 // A call on the queues: one of six kinds, each with its own numbers.
 pub enum Call {
@@ -39,4 +41,41 @@ pub enum Field {
     Prev,
     Rank,
     State,
+}
+
+// The links and cuts that calls made, passed from call to call.
+pub struct Tally {
+    pub links: u32,
+    pub cuts: u32,
+}
+
+impl Tally {
+    // No link and no cut.
+    pub fn new() -> Tally
+        ensures { λ r. ⌜ (r .links ≡ 0) × (r .cuts ≡ 0) ⌝ }
+    {
+        Tally { links: 0, cuts: 0 }
+    }
+
+    // One link more.
+    pub fn link(self) -> Tally
+        requires { ⌜ self .links < 4294967295 ⌝ }
+        ensures { λ r. ⌜ (r .links ≡ self .links + 1) × (r .cuts ≡ self .cuts) ⌝ }
+    {
+        Tally {
+            links: self.links + 1,
+            cuts: self.cuts,
+        }
+    }
+
+    // So many cuts more.
+    pub fn cut(self, cuts: u32) -> Tally
+        requires { ⌜ self .cuts + cuts ≤ 4294967295 ⌝ }
+        ensures { λ r. ⌜ (r .links ≡ self .links) × (r .cuts ≡ self .cuts + cuts) ⌝ }
+    {
+        Tally {
+            links: self.links,
+            cuts: self.cuts + cuts,
+        }
+    }
 }

@@ -1,0 +1,64 @@
+-- The table of examples holds, by computation.
+use mathlib.Core.Path.{refl}
+use Rattle.rules.specs.Forests.{count}
+use Rattle.rules.specs.Lists.{sumBy, sumTo}
+use Rattle.rules.specs.Order.{precedes, leastOf, leastIn, minimum}
+use Rattle.rules.specs.Words.{
+  headOr,
+  lastOr,
+  nextIn,
+  prevIn,
+  siblings,
+  unlessFree,
+  stateOf,
+  stateHeap,
+  stateMark,
+  word,
+  storeField,
+  storeFields,
+  wordsOf,
+  encode,
+}
+use Rattle.audit.specs.Check.{
+  allTo,
+  heapAt,
+  markAt,
+  precedesAt,
+  linkOk,
+  lengthFrom,
+  listLength,
+  rootOk,
+  childOk,
+  parentOk,
+  memberOk,
+  freeOk,
+  itemOk,
+  leastOk,
+  minimumOk,
+  countAt,
+  heapOk,
+  treesAt,
+  ranksAt,
+  membersAt,
+  allOk,
+  sizeOf,
+  soundWords,
+}
+use Rattle.audit.specs.Examples.{
+  byCheck,
+  but,
+  sample,
+  full,
+  small,
+  ownParent,
+  threeTrees,
+  examples,
+  ExamplesHold,
+}
+
+pub examplesHold : ExamplesHold
+unfolding ExamplesHold examples byCheck but sample full small ownParent threeTrees soundWords sizeOf allOk membersAt
+    ranksAt treesAt heapOk countAt minimumOk leastOk itemOk freeOk memberOk parentOk childOk rootOk listLength
+    lengthFrom linkOk precedesAt markAt heapAt allTo encode wordsOf storeFields storeField word stateMark stateHeap
+    stateOf unlessFree siblings prevIn nextIn lastOr headOr minimum leastIn leastOf precedes sumTo sumBy count
+examplesHold = refl

@@ -1,0 +1,158 @@
+-- The rows and the children of a store that passes: each item of a heap stands in its own list once, and nowhere else.
+use Prim.Native.Nat.{ℕ, suc, _+_, _-_, _≤_, _<_, zero-le}
+use mathlib.Core.Path.{_≡_}
+use mathlib.Core.Logic.{_≢_}
+use mathlib.Core.List.{List, []}
+use mathlib.Core.Bool.{not}
+use native.Mathlib.Omega.{arith}
+use lib.ListN.{length}
+use lib.Dec.{eqb, eqb·zero-suc}
+use borrow.Author.Tests.{eq-eqb, ne-eqb}
+use Rattle.rules.specs.declared.Field.the-variants.{FirstTree, Parent, FirstChild, Prev, Rank, State}
+use Rattle.rules.specs.Lists.{indicator, sumBy, sumTo, occurs}
+use Rattle.rules.specs.Forests.{Forests, none, rowOf, childrenOf, rankOf}
+use Rattle.rules.specs.WellFormed.{isRootOf, isChildOf}
+use Rattle.rules.specs.Words.{look, listFrom, decode}
+use Rattle.rules.proofs.Occurs.{eqb-self}
+use Rattle.rules.proofs.Siblings.{Once}
+use Rattle.rules.proofs.SumTo.{sumTo-cong}
+use Rattle.audit.specs.declared.Siblings.{Siblings}
+use Rattle.audit.specs.Check.{heapAt, rowAt, childrenAt, listLength, treesAt, ranksAt, membersAt}
+use Rattle.audit.proofs.Passed.{Passed, byPlace, byZero}
+use Rattle.audit.proofs.Decoded.{parent-at, heap-at, row-at, children-at, out-row, out-heap}
+use Rattle.audit.proofs.Links.{prevs-once, occurs-bound}
+use Rattle.audit.proofs.Lists.{Listed, length-listed}
+use Rattle.audit.proofs.States.{heap-zero, zero-heap, heap-low}
+use Rattle.audit.proofs.Tight.{tight-rows, tight-children, one-place}
+
+module _ (n : ℕ) (w : List ℕ) (A : Passed n w) where
+  abbrev s : Forests
+  s = decode n w
+
+  -- the whole of a list that ends at place m
+  abbrev pub Whole : Siblings → ℕ → List ℕ → Type 0
+  Whole l m xs = Listed n w (A .small) l none 0 (l .first) m xs
+
+  pub row-list : (h : ℕ) → h < 8 → Whole (rowAt n w h) (listLength n w (rowAt n w h) - 1) (rowOf s h)
+  unfolding listLength listFrom
+  row-list h k =
+      let m : listLength n w (rowAt n w h) ≢ 0 = A .heap h k .row in
+      rw (row-at n w h k)
+      (length-listed n w (A .small) (rowAt n w h) n none 0 (look n w FirstTree h) (listLength n w (rowAt n w h) - 1)
+      (omega arith))
+
+  pub children-list : (i : ℕ) → i < n → heapAt n w i ≢ 0 → Whole (childrenAt n w i) (look n w Rank i) (childrenOf s i)
+  unfolding listLength listFrom heapAt
+  children-list i k m =
+      let z : look n w State i ≢ 0 = λ e. m (zero-heap (look n w State i) e) in
+      rw (children-at n w i k, ne-eqb (look n w State i) 0 z)
+      (length-listed n w (A .small) (childrenAt n w i) n none 0 (look n w FirstChild i) (look n w Rank i)
+      (A .member i k m .children))
+
+  pub no-children : (i : ℕ) → i < n → heapAt n w i ≡ 0 → childrenOf s i ≡ []
+  unfolding heapAt
+  no-children i k e = rw (children-at n w i k, eq-eqb (look n w State i) 0 (heap-zero (look n w State i) e))
+
+  pub rank-is : (i : ℕ) → i < n → look n w Rank i ≡ rankOf s i
+  rank-is i k =
+      byZero (heapAt n w i) (λ e. rw (no-children i k e) (A .free i k e .rank))
+      (λ m. omega (arith, children-list i k m .size))
+
+  -- ---- no list holds an item outside the table, or twice, or one that is not its own
+
+  none-out : (l : Siblings) (m : ℕ) (xs : List ℕ) → Whole l m xs → (x : ℕ) → n ≤ x → occurs x xs ≡ 0
+  none-out l m xs r x h =
+      byZero (occurs x xs) (λ e. e) (λ f. absurd (omega (arith, r .own x (omega arith) .inside)))
+
+  once : (l : Siblings) (m : ℕ) (xs : List ℕ) → Whole l m xs → Once xs
+  once l m xs r =
+      prevs-once (look n w Prev) none xs (none-out l m xs r none (omega (arith, A .small))) (r .prevs)
+
+  row-bound : (h : ℕ) → h < 8 → (x : ℕ) → occurs x (rowOf s h) ≤ indicator (isRootOf s h x)
+  row-bound h k x =
+      let r = row-list h k in
+      occurs-bound x (rowOf s h) (isRootOf s h x) (once (rowAt n w h) _ (rowOf s h) r) (λ i.
+      let o = r .own x i in
+      rw (heap-at n w x (o .inside), parent-at n w x (o .inside), o .heap, o .parent, eqb-self (suc h)))
+
+  children-bound : (p : ℕ) → p < n → (x : ℕ) → occurs x (childrenOf s p) ≤ indicator (isChildOf s p x)
+  unfolding occurs sumBy
+  children-bound p k x =
+      byZero (heapAt n w p) (λ e. rw (no-children p k e) zero-le) (λ m.
+      let r = children-list p k m in
+      occurs-bound x (childrenOf s p) (isChildOf s p x) (once (childrenAt n w p) _ (childrenOf s p) r) (λ i.
+      let o = r .own x i in
+      rw (
+        heap-at n w x (o .inside),
+        parent-at n w x (o .inside),
+        o .heap,
+        o .parent,
+        eqb-self p,
+        ne-eqb (heapAt n w p) 0 m,
+      )))
+
+  row-out : (h : ℕ) → h < 8 → (x : ℕ) → n ≤ x → occurs x (rowOf s h) ≡ 0
+  row-out h k = none-out (rowAt n w h) _ (rowOf s h) (row-list h k)
+
+  children-out : (p : ℕ) → p < n → (x : ℕ) → n ≤ x → occurs x (childrenOf s p) ≡ 0
+  unfolding occurs sumBy
+  children-out p k x j =
+      byZero (heapAt n w p) (λ e. rw (no-children p k e))
+      (λ m. none-out (childrenAt n w p) _ (childrenOf s p) (children-list p k m) x j)
+
+  -- ---- so, by the count, each list holds all that are its own
+
+  pub heap-bound : (x : ℕ) → x < n → heapAt n w x ≤ 8
+  unfolding heapAt
+  heap-bound x k =
+      byZero (heapAt n w x) (λ e. omega arith) (λ m. heap-low (look n w State x) (A .member x k m .state))
+
+  due : (x : ℕ) → x < n
+      → sumTo 8 (λ h. indicator (isRootOf s h x)) + sumTo n (λ p. indicator (isChildOf s p x))
+      ≡ indicator (not (eqb (heapAt n w x) 0))
+  due x k =
+      rw (heap-at n w x k, parent-at n w x k)
+      (one-place (heapAt n w x) (look n w Parent x) n (heap-bound x k) (λ a b. A .member x k a .child b .inside)
+      (A .small))
+
+  all : sumTo 8 (λ h. length (rowOf s h)) + sumTo n (λ p. length (childrenOf s p))
+      ≡ sumTo n (λ x. sumTo 8 (λ h. indicator (isRootOf s h x)) + sumTo n (λ p. indicator (isChildOf s p x)))
+  unfolding treesAt ranksAt membersAt
+  all =
+      omega (
+        arith,
+        A .total,
+        sumTo-cong 8 (λ h. listLength n w (rowAt n w h) - 1) (λ h. length (rowOf s h))
+            (λ h k. omega (arith, row-list h k .size)),
+        sumTo-cong n (λ i. look n w Rank i) (λ p. length (childrenOf s p)) rank-is,
+        sumTo-cong n
+            (λ x. sumTo 8 (λ h. indicator (isRootOf s h x)) + sumTo n (λ p. indicator (isChildOf s p x)))
+            (λ x. indicator (not (eqb (heapAt n w x) 0))) due,
+      )
+
+  pub in-row : (h x : ℕ) → occurs x (rowOf s h) ≡ indicator (isRootOf s h x)
+  unfolding occurs sumBy
+  in-row h x =
+      byPlace n x
+      (λ i.
+      byPlace 8 h
+      (λ k.
+      tight-rows 8 n (rowOf s) (childrenOf s) (λ h x. indicator (isRootOf s h x))
+      (λ p x. indicator (isChildOf s p x)) row-out children-out row-bound children-bound all x h i k)
+      (λ k.
+      rw (
+        out-row n w h k,
+        heap-at n w x i,
+        ne-eqb (heapAt n w x) (suc h) (λ z. omega (arith, heap-bound x i)),
+      )))
+      (λ o.
+      byPlace 8 h (λ k. rw (row-out h k x o, out-heap n w x o, eqb·zero-suc h))
+      (λ k. rw (out-row n w h k, out-heap n w x o, eqb·zero-suc h)))
+
+  pub in-children : (p x : ℕ) → p < n → occurs x (childrenOf s p) ≡ indicator (isChildOf s p x)
+  in-children p x k =
+      byPlace n x
+      (λ i.
+      tight-children 8 n (rowOf s) (childrenOf s) (λ h x. indicator (isRootOf s h x))
+      (λ p x. indicator (isChildOf s p x)) row-out children-out row-bound children-bound all x p i k)
+      (λ o. rw (children-out p k x o, out-heap n w x o))

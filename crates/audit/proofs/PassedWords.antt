@@ -1,0 +1,166 @@
+-- The words of a store that passes are those of the forests that are read from it.
+use Prim.Native.Nat.{ℕ, suc, _-_, _≤_, _<_}
+use mathlib.Core.Path.{_≡_, refl, sym, _∙_, subst}
+use mathlib.Core.Logic.{_≢_}
+use mathlib.Core.List.{List, [], _∷_}
+use mathlib.Core.Bool.{Bool, true, false, cond}
+use native.Mathlib.Omega.{arith}
+use lib.ListN.{length}
+use lib.Dec.{eqb}
+use borrow.Author.Tests.{eqb-true, eqb-false, ne-eqb}
+use Rattle.rules.specs.declared.Field.{Field}
+use Rattle.rules.specs.declared.Field.the-variants.{
+  FirstTree,
+  LastTree,
+  Minimum,
+  Count,
+  Key,
+  Parent,
+  FirstChild,
+  LastChild,
+  Next,
+  Prev,
+  Rank,
+  State,
+}
+use Rattle.rules.specs.Lists.{sumBy, occurs}
+use Rattle.rules.specs.Forests.{Forests, none, rowOf, childrenOf, parentOf, heapOf, heapNumber}
+use Rattle.rules.specs.Order.{leastIn, minimum}
+use Rattle.rules.specs.Words.{
+  storeSize,
+  room,
+  look,
+  headOr,
+  lastOr,
+  nextIn,
+  prevIn,
+  siblings,
+  unlessFree,
+  word,
+  encode,
+  decode,
+}
+use Rattle.rules.proofs.Members.{root-row, parent-child}
+use Rattle.rules.proofs.Minimum.{minimum-unique}
+use Rattle.rules.proofs.Occurs.{delta-self}
+use Rattle.rules.proofs.Words.{words-equal}
+use Rattle.audit.specs.Check.{heapAt, markAt, precedesAt, rowAt, listLength}
+use Rattle.audit.proofs.Passed.{Passed, byZero}
+use Rattle.audit.proofs.PassedForests.{disjoint}
+use Rattle.audit.proofs.PassedLists.{Whole, row-list, children-list, rank-is}
+use Rattle.audit.proofs.Decoded.{
+  key-at,
+  parent-at,
+  heap-at,
+  mark-at,
+  length-heap,
+  precedes-at,
+  count-at,
+}
+use Rattle.audit.proofs.Links.{prevs-in}
+use Rattle.audit.proofs.States.{state-again}
+
+module _ (n : ℕ) (w : List ℕ) (A : Passed n w) where
+  abbrev s : Forests
+  s = decode n w
+
+  -- a free item's word is 0, another's is what its list says
+  item-word : (f : Field) (v i : ℕ) → i < n → (heapAt n w i ≡ 0 → look n w f i ≡ 0)
+      → (heapAt n w i ≢ 0 → v ≡ look n w f i) → look n w f i ≡ unlessFree s i v
+  unfolding unlessFree
+  item-word f v i k a b =
+      rw (heap-at n w i k)
+      (byZero (heapAt n w i) (λ e. rw e (a e)) (λ m. rw (ne-eqb (heapAt n w i) 0 m) (sym (b m))))
+
+  -- where an item stands, its two links are those of its list
+  links : (i : ℕ) → i < n → heapAt n w i ≢ 0
+      → (nextIn i (siblings s i) ≡ look n w Next i) × (prevIn none i (siblings s i) ≡ look n w Prev i)
+  unfolding siblings
+  links i k m = go (eqb (parentOf s i) none) refl
+    where
+      member : heapOf s i ≢ 0
+      member e = m (sym (heap-at n w i k) ∙ e)
+
+      go : (t : Bool) → eqb (parentOf s i) none ≡ t
+          → let l = cond t (rowOf s (heapNumber s i)) (childrenOf s (parentOf s i)) in
+          (nextIn i l ≡ look n w Next i) × (prevIn none i l ≡ look n w Prev i)
+      go true e =
+          let hh : heapOf s i ≡ suc (heapNumber s i) = omega (arith, member) in
+          let g : heapNumber s i < 8 = omega (arith, disjoint n w A .heaps i) in
+          let j : 1 ≤ occurs i (rowOf s (heapNumber s i)) =
+          omega (arith, root-row s (disjoint n w A) (heapNumber s i) i hh (eqb-true (parentOf s i) none e)) in
+          let r = row-list n w A (heapNumber s i) g in
+          (r .next i j, prevs-in (look n w Prev) none i (rowOf s (heapNumber s i)) (r .prevs) j)
+      go false e =
+          let u = disjoint n w A .up i member (eqb-false (parentOf s i) none e) in
+          let g : parentOf s i < n = rw (length-heap n w) at (u .0) in
+          let j : 1 ≤ occurs i (childrenOf s (parentOf s i)) =
+          omega (arith, parent-child s (disjoint n w A) (parentOf s i) i (u .0) member refl) in
+          let hp : heapAt n w (parentOf s i) ≢ 0 =
+          λ z. member (sym (u .1) ∙ heap-at n w (parentOf s i) g ∙ z) in
+          let r = children-list n w A (parentOf s i) g hp in
+          (r .next i j, prevs-in (look n w Prev) none i (childrenOf s (parentOf s i)) (r .prevs) j)
+
+  -- ---- the heaps' words
+
+  row-nil : (h : ℕ) → h < 8 → look n w FirstTree h ≡ none → rowOf s h ≡ []
+  unfolding occurs sumBy headOr
+  row-nil h k e = go (rowOf s h) (row-list n w A h k)
+    where
+      go : (l : List ℕ) → Whole n w A (rowAt n w h) (listLength n w (rowAt n w h) - 1) l → l ≡ []
+      go [] r = refl
+      go (x ∷ l) r = absurd (omega (arith, r .own x (omega (arith, delta-self x)) .inside, r .head, e, A .small))
+
+  minimum-some : (h : ℕ) → h < 8 → look n w FirstTree h ≢ none → minimum s h ≡ look n w Minimum h
+  minimum-some h k m =
+      let least = look n w Minimum h in
+      let c = A .heap h k .least m in
+      minimum-unique s (disjoint n w A) h least
+      (omega (
+        arith,
+        root-row s (disjoint n w A) h least (heap-at n w least (c .inside) ∙ c .heap)
+            (parent-at n w least (c .inside) ∙ c .root),
+      ))
+      (λ z j.
+      let o = row-list n w A h k .own z j in
+      let d : heapAt n w z ≢ 0 = λ e. omega (arith, o .heap) in
+      let r = A .member z (o .inside) d .root (o .parent) in
+      precedes-at n w z least (o .inside) (c .inside)
+      ∙ subst (λ g. precedesAt n w z (look n w Minimum g) ≡ false) (omega (arith, o .heap)) (r .order))
+
+  minimum-at : (h : ℕ) → h < 8 → minimum s h ≡ look n w Minimum h
+  unfolding minimum leastIn
+  minimum-at h k = go (eqb (look n w FirstTree h) none) refl
+    where
+      go : (t : Bool) → eqb (look n w FirstTree h) none ≡ t → minimum s h ≡ look n w Minimum h
+      go true e =
+          let q = eqb-true (look n w FirstTree h) none e in
+          rw (row-nil h k q) (sym (A .heap h k .noTree q))
+      go false e = minimum-some h k (eqb-false (look n w FirstTree h) none e)
+
+  -- ---- every word
+
+  says : (f : Field) (i : ℕ) → i < room n f → look n w f i ≡ word s f i
+  unfolding word heapAt markAt
+  says FirstTree h k = sym (row-list n w A h k .head)
+  says LastTree h k = sym (row-list n w A h k .last)
+  says Minimum h k = sym (minimum-at h k)
+  says Count h k = A .heap h k .count ∙ sym (count-at n w h)
+  says Key i k = sym (key-at n w i k)
+  says Parent i k = sym (parent-at n w i k)
+  says FirstChild i k =
+      item-word FirstChild (headOr none (childrenOf s i)) i k (λ e. A .free i k e .first)
+      (λ m. children-list n w A i k m .head)
+  says LastChild i k =
+      item-word LastChild (lastOr none (childrenOf s i)) i k (λ e. A .free i k e .last)
+      (λ m. children-list n w A i k m .last)
+  says Next i k =
+      item-word Next (nextIn i (siblings s i)) i k (λ e. A .free i k e .next) (λ m. links i k m .0)
+  says Prev i k =
+      item-word Prev (prevIn none i (siblings s i)) i k (λ e. A .free i k e .prev) (λ m. links i k m .1)
+  says Rank i k = rank-is n w A i k
+  says State i k = rw (heap-at n w i k, mark-at n w i k) (sym (state-again (look n w State i)))
+
+  pub words : length w ≡ storeSize n → w ≡ encode s
+  unfolding encode
+  words size = rw (length-heap n w) (words-equal n (word s) w size says)

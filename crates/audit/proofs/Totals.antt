@@ -1,0 +1,113 @@
+-- Sums and tests over all items or heaps, one step at a time, as the code takes them.
+use Prim.Native.Nat.{ℕ, zero, suc, _+_, _≤_, _<_}
+use mathlib.Core.Path.{_≡_, refl, sym, ap, _∙_, subst}
+use mathlib.Core.Logic.{_≢_}
+use mathlib.Core.List.{List}
+use mathlib.Core.Bool.{Bool, true, false, not, true≢false}
+use native.Mathlib.Nat.{le-refl}
+use native.Mathlib.Numerals.{add-one}
+use native.Mathlib.Omega.{arith}
+use lib.ListN.{length, getD, set, replicate, length-set, length-replicate}
+use lib.Seq.{getD-set-same, getD-set-other}
+use lib.Dec.{eqb}
+use borrow.Author.Tests.{eqb-true, eqb-false}
+use Rattle.rules.specs.declared.Field.the-variants.{State}
+use Rattle.rules.specs.Lists.{indicator, sumTo}
+use Rattle.rules.specs.Words.{look, stateHeap}
+use Rattle.rules.proofs.Follow.{to-ones}
+use Rattle.rules.proofs.SumTo.{sumTo-add, sumTo-cong}
+use Rattle.audit.specs.Check.{allTo, heapAt, countAt, membersAt}
+use Rattle.audit.specs.Promises.{StatesLow}
+use Rattle.audit.proofs.Booleans.{allTo-at}
+use Rattle.audit.proofs.States.{heap-low}
+
+pub sumTo-more : (i : ℕ) (f : ℕ → ℕ) → sumTo (i + 1) f ≡ sumTo i f + f i
+unfolding sumTo
+sumTo-more i f = rw add-one
+
+pub allTo-more : (i : ℕ) (f : ℕ → Bool) → allTo i f ≡ true → f i ≡ true → allTo (i + 1) f ≡ true
+unfolding allTo
+allTo-more i f a b = rw (add-one, a, b)
+
+pub allTo-not : (n : ℕ) (f : ℕ → Bool) (i : ℕ) → i < n → f i ≡ false → allTo n f ≡ false
+allTo-not n f i k e = go (allTo n f) refl
+  where
+    go : (t : Bool) → allTo n f ≡ t → t ≡ false
+    go true q = absurd (true≢false (sym (allTo-at n f q i k) ∙ e))
+    go false q = refl
+
+-- at most one for each number
+pub indicators-bound : (n : ℕ) (f : ℕ → Bool) → sumTo n (λ i. indicator (f i)) ≤ n
+unfolding sumTo
+indicators-bound zero f = le-refl 0
+indicators-bound (suc n) f = omega (arith, indicators-bound n f, one (f n))
+  where
+    one : (t : Bool) → indicator t ≤ 1
+    one true = le-refl 1
+    one false = omega arith
+
+-- the items of which a test holds, and the others
+both : (t : Bool) → indicator t + indicator (not t) ≡ 1
+both true = refl
+both false = refl
+
+zeros : (k v : ℕ) → getD {A = ℕ} (replicate k 0) v 0 ≡ 0
+zeros zero v = refl
+zeros (suc k) zero = refl
+zeros (suc k) (suc v) = zeros k v
+
+module _ (n : ℕ) (w : List ℕ) where
+  pub members-free : membersAt n w + countAt n w 0 ≡ n
+  unfolding membersAt countAt
+  members-free =
+      omega (
+        arith,
+        to-ones n,
+        sumTo-add n (λ i. indicator (eqb (heapAt n w i) 0)) (λ i. indicator (not (eqb (heapAt n w i) 0))),
+        sumTo-cong n (λ i. indicator (eqb (heapAt n w i) 0) + indicator (not (eqb (heapAt n w i) 0))) (λ _. 1)
+            (λ i _. both (eqb (heapAt n w i) 0)),
+      )
+
+  -- ---- the counts of the heaps
+
+  -- among the first i items
+  abbrev pub countTo : ℕ → ℕ → ℕ
+  countTo i v = sumTo i (λ j. indicator (eqb (heapAt n w j) v))
+
+  pub record CountsTo (i : ℕ) (counts : List ℕ) : Type 0 where
+    pub size : length counts ≡ 9
+    pub each : (v : ℕ) → v < 9 → getD counts v 0 ≡ countTo i v
+
+  pub counts-start : CountsTo 0 (replicate {A = ℕ} 9 0)
+  unfolding sumTo
+  counts-start = record { size = length-replicate {A = ℕ} 9 0; each = λ v _. zeros 9 v }
+
+  pub counts-more : (i heap : ℕ) (counts : List ℕ) → heap ≡ heapAt n w i → heap < 9 → CountsTo i counts
+      → CountsTo (i + 1) (set counts heap (getD counts heap 0 + 1))
+  counts-more i heap counts e k C =
+      record { size = rw length-set (C .size); each = λ v h. go v h (eqb heap v) refl }
+    where
+      next : (v : ℕ) → countTo (i + 1) v ≡ countTo i v + indicator (eqb heap v)
+      next v = rw e (sumTo-more i (λ j. indicator (eqb (heapAt n w j) v)))
+
+      go : (v : ℕ) → v < 9 → (t : Bool) → eqb heap v ≡ t
+          → getD (set counts heap (getD counts heap 0 + 1)) v 0 ≡ countTo (i + 1) v
+      go v h true q =
+          let p : heap ≡ v = eqb-true heap v q in
+          let one : indicator (eqb heap v) ≡ 1 = rw q in
+          subst (λ u. getD (set counts heap (getD counts heap 0 + 1)) u 0 ≡ countTo i v + 1) p
+          (getD-set-same counts heap (getD counts heap 0 + 1) 0 (omega (arith, C .size))
+          ∙ omega (arith, C .each heap k, ap (countTo i) p))
+          ∙ omega (arith, next v)
+      go v h false q =
+          let m : heap ≢ v = eqb-false heap v q in
+          let one : indicator (eqb heap v) ≡ 0 = rw q in
+          getD-set-other counts heap v (getD counts heap 0 + 1) 0 (λ p. m (sym p))
+          ∙ omega (arith, next v, C .each v h)
+
+  -- the heap that a state word names is a place among the counts
+  pub heap-index : StatesLow n w → (i state heap : ℕ) → i < n → state ≡ look n w State i → heap ≡ stateHeap state
+      → heap < 9
+  heap-index L i state heap k e f =
+      let a : state ≤ 16 = omega (arith, L .low i k) in
+      omega (arith, heap-low state a)

@@ -1,0 +1,43 @@
+-- `audit::free_ok` meets its contract.
+use Rattle.audit.specs.Check.{freeOk}
+use borrow.Author.Needs.{needs}
+use Rattle.audit.proofs.free_ok.Statement.{statement}
+use Rattle.audit.proofs.free_ok.Tie as tie
+
+word-at-requires : tie.Need-word-at-requires
+word-at-requires c κs = search needs
+
+word-at-requires-2 : tie.Need-word-at-requires-2
+word-at-requires-2 c κs = search needs
+
+word-at-requires-3 : tie.Need-word-at-requires-3
+word-at-requires-3 c κs = search needs
+
+word-at-requires-4 : tie.Need-word-at-requires-4
+word-at-requires-4 c κs = search needs
+
+word-at-requires-5 : tie.Need-word-at-requires-5
+word-at-requires-5 c κs = search needs
+
+word-at-requires-6 : tie.Need-word-at-requires-6
+word-at-requires-6 c κs = search needs
+
+word-at-requires-7 : tie.Need-word-at-requires-7
+word-at-requires-7 c κs = search needs
+
+returns : tie.Need-returns
+unfolding freeOk
+returns c = cc
+
+pub free-ok-spec : {M : Type 1} → statement M
+free-ok-spec =
+    tie.close
+    (tie.spec
+    word-at-requires
+    word-at-requires-2
+    word-at-requires-3
+    word-at-requires-4
+    word-at-requires-5
+    word-at-requires-6
+    word-at-requires-7
+    returns)

@@ -1,0 +1,112 @@
+-- `audit::list_length` meets its contract.
+use Prim.Native.Nat.{_-_, _≤_}
+use borrow.Author.Needs.{needs}
+use mathlib.Core.Logic.{⊎-elim, inl, inr}
+use mathlib.Core.Path.{_≡_, _∙_}
+use native.Mathlib.Nat.{sub-zero}
+use native.Mathlib.Omega.{arith}
+use Rattle.audit.proofs.Booleans.{told-true, told-false}
+use Rattle.audit.proofs.Walks.{link-inside, walk-refused, walk-done, walk-fails, walk-more}
+use Rattle.audit.specs.Check.{linkOk, lengthFrom, listLength}
+use Rattle.audit.proofs.list_length.Statement.{statement}
+use Rattle.audit.proofs.list_length.Tie as tie
+
+abbrev Inv-loop : tie.InvT-loop
+Inv-loop store n l prev₀ x₀ j₀ prev x j =
+    (j ≤ n) × (lengthFrom n store l (n - j) prev j x ≡ listLength n store l)
+
+abbrev μ-loop : tie.MeasureT-loop
+μ-loop store n l prev₀ x₀ j₀ prev x j = n - j
+
+loop-holds : tie.Need-loop-holds Inv-loop μ-loop
+unfolding listLength
+loop-holds c = (omega arith, rw sub-zero)
+
+link-ok-requires : tie.Need-link-ok-requires Inv-loop μ-loop
+link-ok-requires c κs = search needs
+
+returns : tie.Need-returns Inv-loop μ-loop
+returns c =
+    let a = c .before .before .before .before .before .before .args in
+    let l = c .before .before .before .before .loop in
+    record {
+      is =
+          walk-refused (a .n) (a .store .now) (a .l) (l .j) (l .prev) (l .x) _
+          (c .before .before .before .loop-test .taken)
+          (c .before .before .if1 .left)
+          (told-false (c .before .link-ok .result) (linkOk (a .n) (a .store .now) (a .l) (l .prev) (l .j) (l .x))
+          (c .before .link-ok .ensures) (c .if2 .taken)) (l .inv .1);
+      most = omega arith;
+    }
+
+word-at-requires : tie.Need-word-at-requires Inv-loop μ-loop
+word-at-requires c κs =
+    let a = c .before .before .before .before .before .before .args in
+    let l = c .before .before .before .before .loop in
+    record {
+      sized = c .before .before .before .before .before .before .pre;
+      inside =
+          link-inside (a .n) (a .store .now) (a .l) (l .prev) (l .j) (l .x)
+          (told-true (c .before .link-ok .result) (linkOk (a .n) (a .store .now) (a .l) (l .prev) (l .j) (l .x))
+          (c .before .link-ok .ensures) (c .if2 .left));
+    }
+
+add-j : tie.Need-add-j Inv-loop μ-loop
+add-j c = omega arith
+
+loop-less : tie.Need-loop-less Inv-loop μ-loop
+loop-less c = omega arith
+
+loop-again : tie.Need-loop-again Inv-loop μ-loop
+loop-again c =
+    let a = c .before .before .before .before .before .before .before .args in
+    let l = c .before .before .before .before .before .loop in (
+      omega arith,
+      rw (c .word-at .ensures .is)
+          (walk-more (a .n) (a .store .now) (a .l) (l .j) (l .prev) (l .x)
+          (c .before .before .before .before .loop-test .taken)
+          (c .before .before .before .if1 .left)
+          (told-true (c .before .before .link-ok .result) (linkOk (a .n) (a .store .now) (a .l) (l .prev) (l .j) (l .x))
+          (c .before .before .link-ok .ensures) (c .before .if2 .left))
+          ∙ l .inv .1),
+    )
+
+add-result : tie.Need-add-result Inv-loop μ-loop
+add-result c = omega arith
+
+returns-2 : tie.Need-returns-2 Inv-loop μ-loop
+returns-2 c =
+    let a = c .before .before .before .before .before .args in
+    let l = c .before .before .before .loop in
+    record {
+      is = walk-done (a .n) (a .store .now) (a .l) (l .j) (l .prev) (l .x) _ (c .if3 .taken) (l .inv .1);
+      most = omega arith;
+    }
+
+returns-3 : tie.Need-returns-3 Inv-loop μ-loop
+returns-3 c =
+    let a = c .before .before .before .before .before .args in
+    let l = c .before .before .before .loop in
+    record {
+      is =
+          walk-fails (a .n) (a .store .now) (a .l) (l .j) (l .prev) (l .x) _ (c .if3 .left)
+          (⊎-elim (λ u. inl (u .left)) (λ u. inr (u .1 .taken)) (c .before .before .loop-test .came)) (l .inv .1);
+      most = omega arith;
+    }
+
+pub list-length-spec : {M : Type 1} → statement M
+list-length-spec =
+    tie.close
+    (tie.spec
+    Inv-loop
+    μ-loop
+    loop-holds
+    link-ok-requires
+    returns
+    word-at-requires
+    add-j
+    loop-less
+    loop-again
+    add-result
+    returns-2
+    returns-3)

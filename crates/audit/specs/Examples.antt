@@ -1,0 +1,124 @@
+-- Stores for which the check's answer is computed: one table, and the claim that the check gives it. A store is that of
+-- some forests, or such a store with words changed.
+use Prim.Native.Nat.{ℕ}
+use mathlib.Core.Path.{_≡_}
+use mathlib.Core.List.{List, [], _∷_, map}
+use mathlib.Core.Bool.{cond}
+use lib.ListN.{set, replicate}
+use Rattle.rules.specs.declared.Field.{Field}
+use Rattle.rules.specs.declared.Field.the-variants.{
+  LastTree,
+  Minimum,
+  Count,
+  Key,
+  Next,
+  Prev,
+  Rank,
+  State,
+}
+use Rattle.rules.specs.Forests.{Forests, none, empty}
+use Rattle.rules.specs.Words.{at, encode}
+use Rattle.audit.specs.Check.{soundWords}
+
+pub data Example : Type 0 where
+  accepted : List ℕ → Example
+  refused : List ℕ → Example
+
+-- an example as the check has it
+unfoldable pub byCheck : Example → Example
+byCheck (accepted w) = cond (soundWords w) (accepted w) (refused w)
+byCheck (refused w) = cond (soundWords w) (accepted w) (refused w)
+
+-- a store for six items with another value for word i of a kind
+unfoldable pub but : Field → ℕ → ℕ → List ℕ → List ℕ
+but f i v w = set w (at 6 f i) v
+
+-- six items, of which 5 is free; in heap 0 the trees 4 and 0, with 1 (marked) and 2 under 0; the children of 2, and the
+-- parent, key and heap of 3, are given
+unfoldable pub sample : List ℕ → ℕ → ℕ → ℕ → Forests
+sample under2 parent3 key3 heap3 =
+    record {
+      rows = (4 ∷ 0 ∷ []) ∷ replicate 7 [];
+      children = (1 ∷ 2 ∷ []) ∷ [] ∷ under2 ∷ [] ∷ [] ∷ [] ∷ [];
+      parent = none ∷ 0 ∷ 0 ∷ parent3 ∷ none ∷ 0 ∷ [];
+      key = 10 ∷ 20 ∷ 30 ∷ key3 ∷ 50 ∷ 0 ∷ [];
+      mark = 0 ∷ 1 ∷ 0 ∷ 0 ∷ 0 ∷ 0 ∷ [];
+      heap = 1 ∷ 1 ∷ 1 ∷ heap3 ∷ 1 ∷ 0 ∷ [];
+    }
+
+-- 3 under 2
+unfoldable pub full : List ℕ
+full = encode (sample (3 ∷ []) 2 40 1)
+
+-- 3 free, so that the second child of 0 has no child
+unfoldable pub small : List ℕ
+small = encode (sample [] 0 0 0)
+
+-- an item that is its own parent and its own only child
+unfoldable pub ownParent : Forests
+ownParent =
+    record {
+      rows = replicate 8 [];
+      children = (0 ∷ []) ∷ [];
+      parent = 0 ∷ [];
+      key = 0 ∷ [];
+      mark = 0 ∷ [];
+      heap = 1 ∷ [];
+    }
+
+-- three trees without children
+unfoldable pub threeTrees : Forests
+threeTrees =
+    record {
+      rows = (0 ∷ 1 ∷ 2 ∷ []) ∷ replicate 7 [];
+      children = [] ∷ [] ∷ [] ∷ [] ∷ [] ∷ [] ∷ [];
+      parent = none ∷ none ∷ none ∷ 0 ∷ 0 ∷ 0 ∷ [];
+      key = 0 ∷ 0 ∷ 0 ∷ 0 ∷ 0 ∷ 0 ∷ [];
+      mark = 0 ∷ 0 ∷ 0 ∷ 0 ∷ 0 ∷ 0 ∷ [];
+      heap = 1 ∷ 1 ∷ 1 ∷ 0 ∷ 0 ∷ 0 ∷ [];
+    }
+
+unfoldable pub examples : List Example
+examples =
+    -- lengths: none, 33 words, no items
+    refused []
+    ∷ refused (replicate 33 0)
+    ∷ accepted (encode (empty 0))
+    -- all free; an item count of 1 then; a free item with a stray word
+    ∷ accepted (encode (empty 6))
+    ∷ refused (but Count 0 1 (encode (empty 6)))
+    ∷ refused (but Rank 3 1 (encode (empty 6)))
+    ∷ refused (but Key 3 7 (encode (empty 6)))
+    -- the sample; keys that are equal or at the limit; a child that comes before its parent; a key of 33 bits
+    ∷ accepted full
+    ∷ accepted (but Key 1 10 full)
+    ∷ accepted (but Key 4 4294967295 full)
+    ∷ refused (but Key 1 9 full)
+    ∷ refused (but Key 4 4294967296 full)
+    -- the heap's words: a count off by one, a minimum that is not the least root, none, or no root, another last tree
+    ∷ refused (but Count 0 4 full)
+    ∷ refused (but Count 0 6 full)
+    ∷ refused (but Minimum 0 4 full)
+    ∷ refused (but Minimum 0 none full)
+    ∷ refused (but Minimum 0 1 full)
+    ∷ refused (but LastTree 0 4 full)
+    -- states: a marked root, heap 8, a child in another heap than its parent
+    ∷ refused (but State 4 2 full)
+    ∷ refused (but State 4 17 full)
+    ∷ refused (but State 3 3 full)
+    -- links: a wrong previous, a wrong rank, a row that runs in a circle
+    ∷ refused (but Prev 2 none full)
+    ∷ refused (but Rank 2 0 full)
+    ∷ refused (but Next 0 4 full)
+    -- a second child of rank 0, its rank word right: too small, unless it is marked
+    ∷ refused small
+    ∷ accepted (but State 2 2 small)
+    -- an item that is its own parent
+    ∷ refused (encode ownParent)
+    -- trees 1 and 2 in a circle that the row does not reach
+    ∷ accepted (encode threeTrees)
+    ∷ refused (but LastTree 0 0 (but Next 0 none (but Prev 1 2 (but Next 2 1 (encode threeTrees)))))
+    ∷ []
+
+unfoldable pub ExamplesHold : Type 0
+ExamplesHold = map byCheck examples ≡ examples

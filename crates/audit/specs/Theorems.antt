@@ -1,0 +1,32 @@
+-- What is proved of the check. Each statement is a type; its proof is in proofs/SoundExact.antt, under the same name in
+-- lower case.
+use Prim.Native.Nat.{ℕ}
+use mathlib.Core.Path.{_≡_}
+use mathlib.Core.Logic.{_↔_, _≢_}
+use mathlib.Core.List.{List}
+use mathlib.Core.Bool.{true, false}
+use lib.ListN.{length}
+use Rattle.rules.specs.Forests.{Forests}
+use Rattle.rules.specs.WellFormed.{WellFormed}
+use Rattle.rules.specs.Words.{Sound, encode, decode}
+use Rattle.audit.specs.Check.{sizeOf, soundWords}
+
+-- The check says yes of the words of well-formed forests, and of no others.
+unfoldable pub SoundExact : Type 0
+SoundExact = (w : List ℕ) → (soundWords w ≡ true) ↔ Sound w
+
+-- What passes is the words of the forests that are read from it.
+pub record Decoded (w : List ℕ) : Type 0 where
+  pub wellFormed : WellFormed (decode (sizeOf (length w)) w)
+  pub words : w ≡ encode (decode (sizeOf (length w)) w)
+
+unfoldable pub SoundDecoded : Type 0
+SoundDecoded = (w : List ℕ) → soundWords w ≡ true → Decoded w
+
+-- What is refused is the words of no well-formed forests.
+unfoldable pub RefusedUnsound : Type 0
+RefusedUnsound = (w : List ℕ) → soundWords w ≡ false → (s : Forests) → WellFormed s → w ≢ encode s
+
+-- The words of well-formed forests pass.
+unfoldable pub EncodedAccepted : Type 0
+EncodedAccepted = (s : Forests) → WellFormed s → soundWords (encode s) ≡ true

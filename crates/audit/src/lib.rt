@@ -1,0 +1,320 @@
+//! The check of a kept store: are its words those of well-formed forests? It reads words alone and keeps no list.
+//! Its time grows with the number of items: an item passes in one list only, the one that its own words name.
+ghost use mathlib.Core.Path.{_≡_};
+ghost use Prim.Native.Nat.{suc, _<_, _≤_};
+ghost use Rattle.rules.specs.Words.{at, look, stateHeap, stateMark};
+ghost use Rattle.audit.specs.Check.{precedesAt, linkOk, listLength, parentOk, freeOk, itemOk, minimumOk};
+ghost use Rattle.audit.specs.Check.{countAt, allOk, soundWords};
+ghost use Rattle.audit.specs.Promises.{Sized, Within, Item, InHeap, StatesLow, AtMost, Counts};
+ghost use Rattle.audit.specs.Promises.{ranksIfOk, heapIfOk, treesIfOk};
+use rules::Field;
+
+const NONE: usize = 4294967295;
+
+// A list of siblings as its owner has it: the heap (1 + its number) and the parent that each item in it must name, and
+// the words that name its ends.
+pub struct Siblings {
+    pub heap: usize,
+    pub parent: usize,
+    pub first: usize,
+    pub last: usize,
+}
+
+// Where word i of a kind lies in a store for n items.
+fn place(n: usize, field: Field, i: usize) -> usize
+    requires { ⌜ n ≤ 4096 ⌝ }
+    requires { ⌜ i ≤ 4096 ⌝ }
+    ensures { λ r. ⌜ r ≡ at n field i ⌝ }
+{
+    match field {
+        Field::FirstTree => 4 * i,
+        Field::LastTree => 4 * i + 1,
+        Field::Minimum => 4 * i + 2,
+        Field::Count => 4 * i + 3,
+        Field::Key => 32 + i,
+        Field::Parent => 32 + n + i,
+        Field::FirstChild => 32 + 2 * n + i,
+        Field::LastChild => 32 + 3 * n + i,
+        Field::Next => 32 + 4 * n + i,
+        Field::Prev => 32 + 5 * n + i,
+        Field::Rank => 32 + 6 * n + i,
+        Field::State => 32 + 7 * n + i,
+    }
+}
+
+// Word i of a kind: all words are read here.
+fn word_at(store: &[u32], n: usize, field: Field, i: usize) -> usize
+    requires { ⌜ Within n (now store) field i ⌝ }
+    ensures { λ r. ⌜ AtMost (look n (now (store .entry)) field i) 4294967295 r ⌝ }
+{
+    let at = place(n, field, i);
+    store[at] as usize
+}
+
+// The heap that a state word names: 0 for a free item, else 1 + its number.
+fn heap_of(state: usize) -> usize
+    ensures { λ r. ⌜ AtMost (stateHeap state) state r ⌝ }
+{
+    state / 2 + state % 2
+}
+
+fn mark_of(state: usize) -> usize
+    ensures { λ r. ⌜ AtMost (stateMark state) 1 r ⌝ }
+{
+    if state == 0 { 0 } else { (state - 1) % 2 }
+}
+
+// Item a comes before item b.
+fn precedes(store: &[u32], n: usize, a: usize, b: usize) -> bool
+    requires { ⌜ Item n (now store) a ⌝ }
+    requires { ⌜ Item n (now store) b ⌝ }
+    ensures { λ r. ⌜ r ≡ precedesAt n (now (store .entry)) a b ⌝ }
+{
+    let x = word_at(store, n, Field::Key, a);
+    let y = word_at(store, n, Field::Key, b);
+    (x < y) | ((x == y) & (a < b))
+}
+
+// Item x may stand at place j of a list, after item prev.
+fn link_ok(store: &[u32], n: usize, l: Siblings, prev: usize, j: usize, x: usize) -> bool
+    requires { ⌜ Sized n (now store) ⌝ }
+    ensures { λ r. ⌜ r ≡ linkOk n (now (store .entry)) l prev j x ⌝ }
+{
+    if x >= n {
+        return false;
+    }
+    let state = word_at(store, n, Field::State, x);
+    let parent = word_at(store, n, Field::Parent, x);
+    let before = word_at(store, n, Field::Prev, x);
+    let rank = word_at(store, n, Field::Rank, x);
+    let heap = heap_of(state);
+    let mark = mark_of(state);
+    (heap == l.heap)
+        & ((parent == l.parent) & ((before == prev) & ((l.parent == NONE) | (j <= rank + mark))))
+}
+
+// One more than the length of a list of siblings, 0 if it is not right.
+fn list_length(store: &[u32], n: usize, l: Siblings) -> usize
+    requires { ⌜ Sized n (now store) ⌝ }
+    ensures { λ r. ⌜ AtMost (listLength n (now (store .entry)) l) 4097 r ⌝ }
+{
+    let mut prev = NONE;
+    let mut x = l.first;
+    let mut j: usize = 0;
+    while j < n {
+        if x == NONE {
+            break;
+        }
+        let ok = link_ok(store, n, l, prev, j, x);
+        if !ok {
+            return 0;
+        }
+        prev = x;
+        x = word_at(store, n, Field::Next, x);
+        j += 1;
+    }
+    if (x == NONE) & (prev == l.last) {
+        j + 1
+    } else {
+        0
+    }
+}
+
+// A root is unmarked and does not come before the minimum of its heap; any other item has a parent in its heap that
+// comes before it.
+fn parent_ok(store: &[u32], n: usize, i: usize, state: usize) -> bool
+    requires { ⌜ InHeap n (now store) i state ⌝ }
+    ensures { λ r. ⌜ r ≡ parentOk n (now (store .entry)) i ⌝ }
+{
+    let heap = heap_of(state);
+    let parent = word_at(store, n, Field::Parent, i);
+    if parent == NONE {
+        let mark = mark_of(state);
+        let least = word_at(store, n, Field::Minimum, heap - 1);
+        if least >= n {
+            return false;
+        }
+        let before = precedes(store, n, i, least);
+        return (mark == 0) & !before;
+    }
+    if parent >= n {
+        return false;
+    }
+    let above = heap_of(word_at(store, n, Field::State, parent));
+    let before = precedes(store, n, parent, i);
+    (above == heap) & before
+}
+
+// A free item.
+fn free_ok(store: &[u32], n: usize, i: usize) -> bool
+    requires { ⌜ Item n (now store) i ⌝ }
+    ensures { λ r. ⌜ r ≡ freeOk n (now (store .entry)) i ⌝ }
+{
+    let key = word_at(store, n, Field::Key, i);
+    let parent = word_at(store, n, Field::Parent, i);
+    let first = word_at(store, n, Field::FirstChild, i);
+    let last = word_at(store, n, Field::LastChild, i);
+    let next = word_at(store, n, Field::Next, i);
+    let prev = word_at(store, n, Field::Prev, i);
+    let rank = word_at(store, n, Field::Rank, i);
+    (key == 0)
+        & ((parent == 0)
+            & ((first == 0) & ((last == 0) & ((next == 0) & ((prev == 0) & (rank == 0))))))
+}
+
+// An item of a heap has as many children as its rank says.
+fn item_ok(store: &[u32], n: usize, i: usize) -> bool
+    requires { ⌜ Item n (now store) i ⌝ }
+    ensures { λ r. ⌜ r ≡ itemOk n (now (store .entry)) i ⌝ }
+{
+    let state = word_at(store, n, Field::State, i);
+    if state == 0 {
+        return free_ok(store, n, i);
+    }
+    if state > 16 {
+        return false;
+    }
+    let placed = parent_ok(store, n, i, state);
+    let heap = heap_of(state);
+    let first = word_at(store, n, Field::FirstChild, i);
+    let last = word_at(store, n, Field::LastChild, i);
+    let length = list_length(
+        store,
+        n,
+        Siblings {
+            heap: heap,
+            parent: i,
+            first: first,
+            last: last,
+        },
+    );
+    let rank = word_at(store, n, Field::Rank, i);
+    placed & (length == rank + 1)
+}
+
+// One more than the sum of all ranks, 0 if some item is not right.
+fn ranks(store: &[u32], n: usize) -> usize
+    requires { ⌜ Sized n (now store) ⌝ }
+    ensures { λ r. ⌜ AtMost (ranksIfOk n (now (store .entry))) 17592186040321 r ⌝ }
+{
+    let mut sum: usize = 0;
+    let mut i: usize = 0;
+    while i < n {
+        let ok = item_ok(store, n, i);
+        if !ok {
+            return 0;
+        }
+        sum += word_at(store, n, Field::Rank, i);
+        i += 1;
+    }
+    sum + 1
+}
+
+// How many items are free, and how many are in each heap.
+fn counts(store: &[u32], n: usize) -> [usize; 9]
+    requires { ⌜ StatesLow n (now store) ⌝ }
+    ensures { λ r. ⌜ Counts n (now (store .entry)) r ⌝ }
+{
+    let mut counts: [usize; 9] = [0; 9];
+    let mut i: usize = 0;
+    while i < n {
+        let heap = heap_of(word_at(store, n, Field::State, i));
+        counts[heap] += 1;
+        i += 1;
+    }
+    counts
+}
+
+// The minimum is none where there is no tree, else a root of the heap.
+fn minimum_ok(store: &[u32], n: usize, h: usize) -> bool
+    requires { ⌜ Sized n (now store) ⌝ }
+    requires { ⌜ h < 8 ⌝ }
+    ensures { λ r. ⌜ r ≡ minimumOk n (now (store .entry)) h ⌝ }
+{
+    let first = word_at(store, n, Field::FirstTree, h);
+    let least = word_at(store, n, Field::Minimum, h);
+    if first == NONE {
+        return least == NONE;
+    }
+    if least >= n {
+        return false;
+    }
+    let heap = heap_of(word_at(store, n, Field::State, least));
+    let parent = word_at(store, n, Field::Parent, least);
+    (heap == h + 1) & (parent == NONE)
+}
+
+// One more than the number of trees of a heap that has so many items, 0 if the heap is not right.
+fn heap_length(store: &[u32], n: usize, h: usize, count: usize) -> usize
+    requires { ⌜ Sized n (now store) ⌝ }
+    requires { ⌜ h < 8 ⌝ }
+    requires { ⌜ count ≡ countAt n (now store) (suc h) ⌝ }
+    ensures { λ r. ⌜ AtMost (heapIfOk n (now (store .entry)) h) 4097 r ⌝ }
+{
+    let first = word_at(store, n, Field::FirstTree, h);
+    let last = word_at(store, n, Field::LastTree, h);
+    let length = list_length(
+        store,
+        n,
+        Siblings {
+            heap: h + 1,
+            parent: NONE,
+            first: first,
+            last: last,
+        },
+    );
+    let least = minimum_ok(store, n, h);
+    let said = word_at(store, n, Field::Count, h);
+    if least & (said == count) { length } else { 0 }
+}
+
+// One more than the number of all trees, 0 if some heap is not right.
+fn trees(store: &[u32], n: usize, counts: [usize; 9]) -> usize
+    requires { ⌜ Sized n (now store) ⌝ }
+    requires { ⌜ Counts n (now store) counts ⌝ }
+    ensures { λ r. ⌜ AtMost (treesIfOk n (now (store .entry))) 32769 r ⌝ }
+{
+    let mut sum: usize = 0;
+    let mut h: usize = 0;
+    while h < 8 {
+        let length = heap_length(store, n, h, counts[h + 1]);
+        if length == 0 {
+            return 0;
+        }
+        sum += length - 1;
+        h += 1;
+    }
+    sum + 1
+}
+
+// Every item and every heap is right, and the items in lists are as many as those in heaps.
+fn all_ok(store: &[u32], n: usize) -> bool
+    requires { ⌜ Sized n (now store) ⌝ }
+    ensures { λ r. ⌜ r ≡ allOk n (now (store .entry)) ⌝ }
+{
+    let ranks = ranks(store, n);
+    if ranks == 0 {
+        return false;
+    }
+    let counts = counts(store, n);
+    let trees = trees(store, n, counts);
+    if trees == 0 {
+        return false;
+    }
+    trees - 1 + (ranks - 1) == n - counts[0]
+}
+
+// Whether any words are those of a sound store.
+pub fn sound(store: &[u32]) -> bool
+    ensures { λ r. ⌜ r ≡ soundWords (now (store .entry)) ⌝ }
+{
+    let words = store.len();
+    if words < 32 {
+        return false;
+    }
+    let n = (words - 32) / 8;
+    if (n > 4096) | (words != 32 + 8 * n) {
+        return false;
+    }
+    all_ok(store, n)
+}

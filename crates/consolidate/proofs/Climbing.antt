@@ -1,0 +1,127 @@
+-- A tree on its way through the places: what holds between two links, on the words.
+use Prim.Native.Nat.{ℕ, zero, suc, _+_, _≤_, _<_}
+use mathlib.Core.Path.{_≡_, refl, sym, ap, subst, _∙_}
+use mathlib.Core.List.{List, [], _∷_, _++_}
+use native.Mathlib.Omega.{arith}
+use lib.ListN.{length, getD, set}
+use borrow.Author.Tests.{eq-eqb}
+use Rattle.rules.specs.declared.Field.the-variants.{Key, Rank}
+use Rattle.rules.specs.Consolidate.{Linking, climb, isFree, occupied}
+use Rattle.rules.specs.Forests.{Forests, none, rankOf, setRow}
+use Rattle.rules.specs.Order.{precedes}
+use Rattle.rules.specs.WellFormed.{KeysFit}
+use Rattle.rules.specs.Words.{look}
+use Rattle.rules.proofs.ConsolidateKeeps.{Held, low, put, x-heap}
+use Rattle.rules.proofs.Excused.{to-formed, well-formed}
+use Rattle.store.specs.Says.{Says, Values}
+use Rattle.consolidate.specs.Before.{comesBefore}
+use Rattle.consolidate.specs.Consolidating.{Consolidating, Settled, settle}
+use Rattle.consolidate.specs.Stored.{Beside}
+
+-- a read past no default
+pub getD-any : (l : List ℕ) (i a b : ℕ) → i < length l → getD l i a ≡ getD l i b
+getD-any [] i a b k = absurd (omega arith)
+getD-any (x ∷ l) zero a b k = refl
+getD-any (x ∷ l) (suc i) a b k = getD-any l i a b (omega arith)
+
+-- the order by the words is that of the forests
+pub before-says : {n h : ℕ} {w : List ℕ} {v : Values} {t : Forests} → Says n w v → Beside n h v t → (a b : ℕ) → a < n
+    → b < n → comesBefore (look n w Key) a b ≡ precedes (t .key) a b
+unfolding comesBefore precedes
+before-says {n} {h} {w} {v} {t} s B a b i j =
+    rw (s .says Key a i ∙ B .keys a i, s .says Key b j ∙ B .keys b j)
+
+module _ {n h : ℕ} {w ps trees rest : List ℕ} {t : Forests} (C : Consolidating n h w ps trees rest t) where
+  pub held : Held h ps trees t
+  held = record
+      { formed = to-formed (setRow h (occupied ps ++ trees) t) (C .formed); long = C .long; rank = C .placed }
+
+  pub keys-fit : KeysFit t
+  unfolding KeysFit
+  keys-fit = C .formed .keys
+
+pub record Climbing (n h base : ℕ) (rest : List ℕ) (goal : Linking) (w ps : List ℕ) (x r links : ℕ) : Type 0 where
+  pub here : Forests
+  pub made : ℕ
+  pub fuel : ℕ
+  pub state : Consolidating n h w ps (x ∷ rest) rest here
+  pub rank : rankOf here x ≡ r
+  pub count : links ≡ base + made
+  pub fits : links + length (occupied ps) ≤ 4294967295
+  pub enough : 18 ≤ fuel + r
+  pub whole : climb fuel (isFree ps r) r x (record { places = ps; links = made; forests = here }) ≡ goal
+
+pub climb-starts : (n h base k : ℕ) (rest w ps : List ℕ) (t : Forests) (x links r : ℕ)
+    → Consolidating n h w ps (x ∷ rest) rest t → links ≡ base + k → links + length (occupied ps) ≤ 4294967295
+    → r ≡ look n w Rank x → Climbing n h base rest (settle ps k t x) w ps x r links
+unfolding settle
+climb-starts n h base k rest w ps t x links r C e f q =
+    let i : x < n = omega (arith, C .beside .size, x-heap h (C .heap) ps rest x t (held C)) in
+    let z : r ≡ rankOf t x = q ∙ C .says .says Rank x i ∙ C .beside .ranks x i in
+    rw z (record {
+      here = t;
+      made = k;
+      fuel = 18;
+      state = C;
+      rank = refl;
+      count = e;
+      fits = f;
+      enough = omega arith;
+      whole = refl;
+    })
+
+module _ {n h base : ℕ} {rest : List ℕ} {goal : Linking} {w ps : List ℕ} {x r links : ℕ}
+    (G : Climbing n h base rest goal w ps x r links) where
+  abbrev t : Forests
+  t = G .here
+
+  abbrev ρ : List ℕ
+  ρ = occupied ps ++ (x ∷ rest)
+
+  abbrev y : ℕ
+  y = getD ps r none
+
+  H : Held h ps (x ∷ rest) t
+  H = held (G .state)
+
+  hh : h < 8
+  hh = G .state .heap
+
+  pub rank-inside : r < 17
+  rank-inside = omega (arith, low h hh ps rest x t H, G .rank)
+
+  pub tree-inside : x < n
+  tree-inside = omega (arith, G .state .beside .size, x-heap h hh ps rest x t H)
+
+  pub place-at : {a : ℕ} → a ≡ getD ps r 0 → a ≡ getD ps r none
+  place-at e = e ∙ getD-any ps r 0 none (omega (arith, G .state .long, rank-inside))
+
+  -- ---- the place is free
+
+  pub climb-ends : {a : ℕ} → a ≡ getD ps r 0 → a ≡ none → Settled n h base rest w (set ps r x) links goal
+  unfolding climb isFree KeysFit
+  climb-ends e z =
+      let f : getD ps r none ≡ none = sym (place-at e) ∙ z in
+      let p = put h hh ps rest x t H r (G .rank) f in
+      let g = last-step (G .fuel) (G .enough) f (G .whole) in
+      record {
+        places = ap (λ l. l .places) g;
+        count = G .count ∙ ap (λ l. base + l .links) g;
+        state = subst (λ l. Consolidating n h w (set ps r x) rest rest (l .forests)) g
+            (record {
+              heap = hh;
+              values = G .state .values;
+              says = G .state .says;
+              beside = G .state .beside;
+              formed = well-formed (setRow h (occupied (set ps r x) ++ rest) t) (p .formed) (keys-fit (G .state));
+              long = p .long;
+              placed = p .rank;
+              ahead = G .state .ahead;
+            });
+      }
+    where
+      last-step : (d : ℕ) → 18 ≤ d + r → getD ps r none ≡ none
+          → climb d (isFree ps r) r x (record { places = ps; links = G .made; forests = t }) ≡ goal
+          → _≡_ {A = Linking} (record { places = set ps r x; links = G .made; forests = t }) goal
+      last-step zero k f q = absurd (omega (arith, rank-inside))
+      last-step (suc d) k f q = rw (eq-eqb (getD ps r none) none f) at q

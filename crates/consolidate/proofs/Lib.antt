@@ -1,0 +1,15 @@
+pub mod Chains
+pub mod MoveWords
+pub mod Beside
+pub mod LinkWords
+pub mod RemoveRootLinks
+pub mod RemoveRootWords
+pub mod RowWords
+pub mod Climbing
+pub mod ClimbLink
+pub mod Releasing
+pub mod Walking
+pub mod RemoveRootSteps
+pub mod WritingRow
+pub mod RowWritten
+pub mod Extracting

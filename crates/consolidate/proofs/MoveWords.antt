@@ -1,0 +1,198 @@
+-- What each move on a list of siblings does to the single words.
+use Prim.Native.Nat.{ℕ, _+_, _*_, _≤_}
+use mathlib.Core.Path.{_≡_, refl, ap, _∙_}
+use mathlib.Core.Logic.{_≢_}
+use mathlib.Core.List.{List, [], _∷_}
+use mathlib.Core.Bool.{Bool, true, false, cond}
+use native.Mathlib.Omega.{arith}
+use lib.Dec.{eqb}
+use borrow.Author.Tests.{eqb-true, eqb-false, ne-eqb}
+use Rattle.rules.specs.declared.Field.{Field}
+use Rattle.rules.specs.declared.Field.the-variants.{FirstTree, LastTree, Parent, FirstChild, LastChild, Next, Prev, Rank, State}
+use Rattle.rules.specs.Forests.{none}
+use Rattle.rules.specs.Lists.{delta, occurs, sumBy}
+use Rattle.rules.specs.SetWord.{fieldNumber, setWord}
+use Rattle.rules.proofs.Occurs.{delta-self, delta-other, eqb-self}
+use Rattle.store.specs.declared.Owner.the-variants.{Row, Children}
+use Rattle.store.specs.Says.{Values}
+use Rattle.store.specs.Siblings.{parentIn, firstOf, lastOf, setFirst, setLast, setNext, setPrev, addRank, dropRank, joined, concatenated, appended, removed}
+use Rattle.consolidate.specs.Released.{released}
+
+pub cond-same : (t : Bool) (x : ℕ) → cond t x x ≡ x
+cond-same true x = refl
+cond-same false x = refl
+
+-- a kind of word that is no link of a row
+abbrev pub Plain : Field → Type 0
+Plain f =
+    (eqb 0 (fieldNumber f) ≡ false) × (eqb 1 (fieldNumber f) ≡ false) × (eqb 8 (fieldNumber f) ≡ false) ×
+    (eqb 9 (fieldNumber f) ≡ false)
+
+-- ---- an item at the end of the children of a
+
+module _ (a x : ℕ) (v : Values) where
+  pub child-next : (y : ℕ) → appended (Children a) x v Next y
+      ≡ cond (eqb (v LastChild a) y) x (cond (eqb x y) none (v Next y))
+  unfolding appended joined setNext setFirst setLast firstOf lastOf addRank parentIn
+  child-next y = refl
+
+  pub child-prev : (y : ℕ) → appended (Children a) x v Prev y ≡ cond (eqb x y) (v LastChild a) (v Prev y)
+  unfolding appended joined setNext setFirst setLast firstOf lastOf addRank parentIn
+  child-prev y = refl
+
+  pub child-first : (p : ℕ) → appended (Children a) x v FirstChild p
+      ≡ cond (eqb a p) (cond (eqb (v LastChild a) none) x (v FirstChild a)) (v FirstChild p)
+  unfolding appended joined setNext setFirst setLast firstOf lastOf addRank parentIn
+  child-first p = refl
+
+  pub child-last : (p : ℕ) → appended (Children a) x v LastChild p ≡ cond (eqb a p) x (v LastChild p)
+  unfolding appended joined setNext setFirst setLast firstOf lastOf addRank parentIn
+  child-last p = refl
+
+  pub child-parent : (i : ℕ) → appended (Children a) x v Parent i ≡ cond (eqb x i) a (v Parent i)
+  unfolding appended joined setNext setFirst setLast firstOf lastOf addRank parentIn
+  child-parent i = refl
+
+  pub child-rank : (i : ℕ) → appended (Children a) x v Rank i ≡ cond (eqb a i) (v Rank a + 1) (v Rank i)
+  unfolding appended joined setNext setFirst setLast firstOf lastOf addRank parentIn
+  child-rank i = refl
+
+  -- all kinds but those six: 5 to 10 by number
+  pub child-other : (f : Field) (i : ℕ) → eqb 5 (fieldNumber f) ≡ false → eqb 6 (fieldNumber f) ≡ false
+      → eqb 7 (fieldNumber f) ≡ false → eqb 8 (fieldNumber f) ≡ false → eqb 9 (fieldNumber f) ≡ false
+      → eqb 10 (fieldNumber f) ≡ false → appended (Children a) x v f i ≡ v f i
+  unfolding appended joined setNext setFirst setLast firstOf lastOf addRank parentIn
+  child-other f i e5 e6 e7 e8 e9 e10 = simp (e5, e6, e7, e8, e9, e10)
+
+-- ---- an item at the end of the row of heap h
+
+module _ (h x : ℕ) (v : Values) where
+  pub row-next : (y : ℕ) → appended (Row h) x v Next y
+      ≡ cond (eqb (v LastTree h) y) x (cond (eqb x y) none (v Next y))
+  unfolding appended joined setNext setFirst setLast firstOf lastOf addRank parentIn
+  row-next y = refl
+
+  pub row-prev : (y : ℕ) → appended (Row h) x v Prev y ≡ cond (eqb x y) (v LastTree h) (v Prev y)
+  unfolding appended joined setNext setFirst setLast firstOf lastOf addRank parentIn
+  row-prev y = refl
+
+  pub row-first : (g : ℕ) → appended (Row h) x v FirstTree g
+      ≡ cond (eqb h g) (cond (eqb (v LastTree h) none) x (v FirstTree h)) (v FirstTree g)
+  unfolding appended joined setNext setFirst setLast firstOf lastOf addRank parentIn
+  row-first g = refl
+
+  pub row-last : (g : ℕ) → appended (Row h) x v LastTree g ≡ cond (eqb h g) x (v LastTree g)
+  unfolding appended joined setNext setFirst setLast firstOf lastOf addRank parentIn
+  row-last g = refl
+
+  pub row-parent : (i : ℕ) → appended (Row h) x v Parent i ≡ cond (eqb x i) none (v Parent i)
+  unfolding appended joined setNext setFirst setLast firstOf lastOf addRank parentIn
+  row-parent i = refl
+
+  pub row-other : (f : Field) (i : ℕ) → Plain f → eqb 5 (fieldNumber f) ≡ false → appended (Row h) x v f i ≡ v f i
+  unfolding appended joined setNext setFirst setLast firstOf lastOf addRank parentIn
+  row-other f i e d = simp (e .0, e .1, e .2, e .3, d)
+
+-- ---- an item taken out of the row of heap h
+
+module _ (h x : ℕ) (v : Values) where
+  pub out-next : (y : ℕ) → removed (Row h) x v Next y ≡ cond (eqb (v Prev x) y) (v Next x) (v Next y)
+  unfolding removed setNext setPrev setFirst setLast firstOf lastOf dropRank
+  out-next y = refl
+
+  pub out-prev : (y : ℕ) → removed (Row h) x v Prev y ≡ cond (eqb (v Next x) y) (v Prev x) (v Prev y)
+  unfolding removed setNext setPrev setFirst setLast firstOf lastOf dropRank
+  out-prev y = refl
+
+  pub out-first : (g : ℕ) → removed (Row h) x v FirstTree g
+      ≡ cond (eqb h g) (cond (eqb (v Prev x) none) (v Next x) (v FirstTree h)) (v FirstTree g)
+  unfolding removed setNext setPrev setFirst setLast firstOf lastOf dropRank
+  out-first g = refl
+
+  pub out-last : (g : ℕ) → removed (Row h) x v LastTree g
+      ≡ cond (eqb h g) (cond (eqb (v Next x) none) (v Prev x) (v LastTree h)) (v LastTree g)
+  unfolding removed setNext setPrev setFirst setLast firstOf lastOf dropRank
+  out-last g = refl
+
+  pub out-other : (f : Field) (i : ℕ) → Plain f → removed (Row h) x v f i ≡ v f i
+  unfolding removed setNext setPrev setFirst setLast firstOf lastOf dropRank
+  out-other f i e = simp (e .0, e .1, e .2, e .3)
+
+-- ---- a chain from a to b joined to the row of heap h
+
+module _ (h a b : ℕ) (v : Values) where
+  module _ (s : a ≢ none) where
+    pub join-next : (y : ℕ) → concatenated h a b v Next y ≡ cond (eqb (v LastTree h) y) a (v Next y)
+    unfolding concatenated joined setNext setFirst setLast firstOf lastOf
+    join-next y = rw (ne-eqb a none s)
+
+    pub join-prev : (y : ℕ) → concatenated h a b v Prev y ≡ cond (eqb a y) (v LastTree h) (v Prev y)
+    unfolding concatenated joined setNext setFirst setLast firstOf lastOf
+    join-prev y = rw (ne-eqb a none s)
+
+    pub join-first : (g : ℕ) → concatenated h a b v FirstTree g
+        ≡ cond (eqb h g) (cond (eqb (v LastTree h) none) a (v FirstTree h)) (v FirstTree g)
+    unfolding concatenated joined setNext setFirst setLast firstOf lastOf
+    join-first g = rw (ne-eqb a none s)
+
+    pub join-last : (g : ℕ) → concatenated h a b v LastTree g ≡ cond (eqb h g) b (v LastTree g)
+    unfolding concatenated joined setNext setFirst setLast firstOf lastOf
+    join-last g = rw (ne-eqb a none s)
+
+  pub join-none : a ≡ none → (f : Field) (i : ℕ) → concatenated h a b v f i ≡ v f i
+  unfolding concatenated
+  join-none e f i = rw e
+
+  pub join-other : (f : Field) (i : ℕ) → Plain f → concatenated h a b v f i ≡ v f i
+  unfolding concatenated joined setNext setFirst setLast firstOf lastOf
+  join-other f i e = go (eqb a none)
+    where
+      go : (t : Bool) → cond t v (joined (Row h) (v LastTree h) a b v) f i ≡ v f i
+      go true = refl
+      go false = simp (e .0, e .1, e .2, e .3)
+
+-- ---- released children
+
+pub released-other : (h : ℕ) (cs : List ℕ) (v : Values) (f : Field) (i : ℕ) → eqb 5 (fieldNumber f) ≡ false
+    → eqb 11 (fieldNumber f) ≡ false → released h cs v f i ≡ v f i
+unfolding released
+released-other h [] v f i e d = refl
+released-other h (c ∷ cs) v f i e d =
+    released-other h cs (setWord State c (1 + 2 * h) (setWord Parent c none v)) f i e d ∙ rw (d, e)
+
+pub released-out : (h : ℕ) (cs : List ℕ) (v : Values) (f : Field) (i : ℕ) → occurs i cs ≡ 0
+    → released h cs v f i ≡ v f i
+unfolding released occurs sumBy
+released-out h [] v f i n = refl
+released-out h (c ∷ cs) v f i n =
+    released-out h cs (setWord State c (1 + 2 * h) (setWord Parent c none v)) f i (omega arith)
+    ∙ rw (ne-eqb c i (λ e. omega (arith, delta-self i, ap (delta i) e)))
+    (simp cond-same)
+
+-- what was stored stays
+released-stays : (h : ℕ) (cs : List ℕ) (v : Values) (i : ℕ) → (v Parent i ≡ none) × (v State i ≡ 1 + 2 * h)
+    → (released h cs v Parent i ≡ none) × (released h cs v State i ≡ 1 + 2 * h)
+unfolding released
+released-stays h [] v i e = e
+released-stays h (c ∷ cs) v i e =
+    released-stays h cs (setWord State c (1 + 2 * h) (setWord Parent c none v)) i (go (eqb c i))
+  where
+    go : (t : Bool) → (cond t none (v Parent i) ≡ none) × (cond t (1 + 2 * h) (v State i) ≡ 1 + 2 * h)
+    go true = (refl, refl)
+    go false = e
+
+pub released-in : (h : ℕ) (cs : List ℕ) (v : Values) (i : ℕ) → 1 ≤ occurs i cs
+    → (released h cs v Parent i ≡ none) × (released h cs v State i ≡ 1 + 2 * h)
+unfolding released occurs sumBy
+released-in h [] v i n = absurd (omega arith)
+released-in h (c ∷ cs) v i n =
+    go (eqb c i) refl (released-in h cs (setWord State c (1 + 2 * h) (setWord Parent c none v)) i)
+  where
+    next : Values
+    next = setWord State c (1 + 2 * h) (setWord Parent c none v)
+
+    go : (t : Bool) → eqb c i ≡ t
+        → (1 ≤ occurs i cs → (released h cs next Parent i ≡ none) × (released h cs next State i ≡ 1 + 2 * h))
+        → (released h cs next Parent i ≡ none) × (released h cs next State i ≡ 1 + 2 * h)
+    go true e ih = released-stays h cs next i (rw (eqb-true c i e, eqb-self i) (refl, refl))
+    go false e ih = ih (omega (arith, delta-other i c (eqb-false c i e)))

@@ -1,0 +1,196 @@
+-- A root leaves its heap: what the words say after the stores that take it out.
+use Prim.Native.Nat.{ℕ, suc, _+_, _≤_, _<_}
+use mathlib.Core.Path.{_≡_, refl, sym, ap, _∙_}
+use mathlib.Core.Logic.{_≢_}
+use mathlib.Core.List.{List, [], _∷_, _++_}
+use mathlib.Core.Bool.{Bool, true, false, cond}
+use native.Mathlib.Omega.{arith}
+use lib.Dec.{eqb}
+use lib.ListN.{length-set, set}
+use lib.Seq.{getD-set-other}
+use borrow.Author.Tests.{eqb-true, ne-eqb}
+use Rattle.rules.specs.declared.Field.the-variants.{FirstTree, LastTree, Minimum, Count, Key, Parent, FirstChild, LastChild, Next, Prev, Rank, State}
+use Rattle.rules.specs.Calls.{removeRoot, setFree, release}
+use Rattle.rules.specs.Forests.{Forests, none, rowOf, childrenOf, parentOf, heapOf, tableSize, count}
+use Rattle.rules.specs.Lists.{delta, occurs, sumBy, without}
+use Rattle.rules.specs.Order.{leastIn, leastOf, minimum, precedes}
+use Rattle.rules.specs.WellFormed.{Disjoint}
+use Rattle.rules.specs.Words.{stateOf}
+use Rattle.rules.proofs.Counts.{count-left}
+use Rattle.rules.proofs.Members.{heap-in, not-none, row-root, root-child, child-parent}
+use Rattle.rules.proofs.Occurs.{byItem, delta-self, eqb-self}
+use Rattle.rules.proofs.Order.{precedes-other}
+use Rattle.rules.proofs.RemoveRootKeeps.{byChild, children-x, heap-o, heap-x, key-x, mark-children, mark-o, parent-children, parent-o, parent-x}
+use Rattle.store.specs.declared.Owner.the-variants.{Row}
+use Rattle.store.specs.Empty.{freeItem}
+use Rattle.store.specs.Says.{Values}
+use Rattle.store.specs.Siblings.{concatenated, removed}
+use Rattle.consolidate.specs.Chain.{Chain}
+use Rattle.consolidate.specs.Released.{released}
+use Rattle.consolidate.specs.Stored.{Beside}
+use Rattle.consolidate.proofs.Beside.{free-child, not-child, not-row, other-row}
+use Rattle.consolidate.proofs.Chains.{chain-frame}
+use Rattle.consolidate.proofs.MoveWords.{Plain, join-other, out-other, released-in, released-out}
+use Rattle.consolidate.proofs.RemoveRootLinks.{ends, keeps, plain, rootRemoved, x-in}
+
+-- a key that stands nowhere in a row changes nothing of its least item
+leastOf-other : (key : List ℕ) (x k y : ℕ) (l : List ℕ) → y ≢ x → occurs x l ≡ 0
+    → leastOf (set key x k) y l ≡ leastOf key y l
+unfolding leastOf occurs sumBy
+leastOf-other key x k y [] m n = refl
+leastOf-other key x k y (z ∷ zs) m n =
+    let d : z ≢ x = λ e. omega (arith, delta-self x, ap (delta x) e) in
+    rw (precedes-other key x k z y d m)
+    (leastOf-other key x k (cond (precedes key z y) z y) zs (go (precedes key z y) d) (omega arith))
+  where
+    go : (b : Bool) → z ≢ x → cond b z y ≢ x
+    go true d = d
+    go false d = m
+
+leastIn-other : (key : List ℕ) (x k : ℕ) (l : List ℕ) → occurs x l ≡ 0 → leastIn (set key x k) l ≡ leastIn key l
+unfolding leastIn occurs sumBy
+leastIn-other key x k [] n = refl
+leastIn-other key x k (z ∷ zs) n =
+    leastOf-other key x k z zs (λ e. omega (arith, delta-self x, ap (delta x) e)) (omega arith)
+
+module _ (n h : ℕ) (v : Values) (t : Forests) (D : Disjoint t) (B : Beside n h v t)
+    (R : Chain (v FirstTree h) (v LastTree h) (v Next) (v Prev) (rowOf t h)) (x : ℕ) (hx : heapOf t x ≡ suc h)
+    (rx : parentOf t x ≡ none) (c : ℕ) (ec : c + 1 ≡ v Count h) where
+  abbrev cs : List ℕ
+  cs = childrenOf t x
+
+  abbrev v5 : Values
+  v5 = rootRemoved h x cs (v FirstChild x) (v LastChild x) c v
+
+  some : (y : ℕ) → y < tableSize t → y ≢ none
+  some y k e = not-none t D y k (sym e)
+
+  inside : x < tableSize t
+  inside = x-in n h v t D B R x hx rx
+
+  -- the members of the other lists
+  other-chain : {f e : ℕ} (m : List ℕ) → Chain f e (v Next) (v Prev) m
+      → ((y : ℕ) → 1 ≤ occurs y m → (y < tableSize t) × (y ≢ x) × (occurs y (rowOf t h) ≡ 0) × (occurs y cs ≡ 0))
+      → Chain f e (v5 Next) (v5 Prev) m
+  other-chain m g k =
+      chain-frame (v5 Next) (v5 Prev) g
+      (λ y i. keeps n h v t D B R x hx rx c y (some y (k y i .0)) (k y i .1) (k y i .2) (k y i .3))
+
+  row-member : (g y : ℕ) → g ≢ h → 1 ≤ occurs y (rowOf t g)
+      → (y < tableSize t) × (y ≢ x) × (occurs y (rowOf t h) ≡ 0) × (occurs y cs ≡ 0)
+  row-member g y m i =
+      let r = row-root t D g y i in
+      let d : heapOf t y ≢ suc h = λ e. m (omega (arith, e, r .0)) in (
+        heap-in t y (λ e. omega (arith, r .0)),
+        λ e. d (ap (heapOf t) e ∙ hx),
+        other-row t D h y d,
+        root-child t D x y inside (r .1),
+      )
+
+  child-member : (p y : ℕ) → p < tableSize t → p ≢ x → 1 ≤ occurs y (childrenOf t p)
+      → (y < tableSize t) × (y ≢ x) × (occurs y (rowOf t h) ≡ 0) × (occurs y cs ≡ 0)
+  child-member p y k m i =
+      let r = child-parent t D p y k i in
+      let d : parentOf t y ≢ none = λ e. some p k (sym (r .1) ∙ e) in (
+        heap-in t y (r .0),
+        λ e. d (ap (parentOf t) e ∙ rx),
+        not-row t D h y d,
+        not-child t D x y inside (λ e. m (sym (r .1) ∙ e)),
+      )
+
+  free-member : (y : ℕ) → y < tableSize t → y ≢ x → heapOf t y ≡ 0 → (v5 Next y ≡ v Next y) × (v5 Prev y ≡ v Prev y)
+  free-member y k m e =
+      keeps n h v t D B R x hx rx c y (some y k) m (other-row t D h y (λ z. omega (arith, z, e)))
+      (free-child t D x y inside e)
+
+  plainly : Plain Parent
+  plainly = (refl, refl, refl, refl)
+
+  -- parents and states of those that are neither x nor its children
+  at-parent : (i : ℕ) → occurs i cs ≡ 0
+      → concatenated h (v FirstChild x) (v LastChild x) (released h cs (removed (Row h) x v)) Parent i ≡ v Parent i
+  at-parent i k =
+      join-other h (v FirstChild x) (v LastChild x) (released h cs (removed (Row h) x v)) Parent i plainly
+      ∙ released-out h cs (removed (Row h) x v) Parent i k
+      ∙ out-other h x v Parent i plainly
+
+  at-state : (i : ℕ) → occurs i cs ≡ 0
+      → concatenated h (v FirstChild x) (v LastChild x) (released h cs (removed (Row h) x v)) State i ≡ v State i
+  at-state i k =
+      join-other h (v FirstChild x) (v LastChild x) (released h cs (removed (Row h) x v)) State i plainly
+      ∙ released-out h cs (removed (Row h) x v) State i k
+      ∙ out-other h x v State i plainly
+
+  same-least : (g : ℕ) → g ≢ h → minimum t g ≡ minimum (removeRoot h x t) g
+  unfolding minimum removeRoot setFree release
+  same-least g m =
+      rw (getD-set-other (t .rows) h g (without x (rowOf t h) ++ cs) [] m)
+      (sym (leastIn-other (t .key) x 0 (rowOf t g) (other-row t D g x (λ e. m (omega (arith, e, hx))))))
+
+  left : (g : ℕ) → g < 8 → (b : Bool) → eqb h g ≡ b → cond b c (v Count g) ≡ count (removeRoot h x t) g
+  unfolding removeRoot setFree release delta
+  left g k b e = go b e (count-left t (removeRoot h x t) h x g hx refl)
+    where
+      go : (b : Bool) → eqb h g ≡ b → count (removeRoot h x t) g + delta g h ≡ count t g
+          → cond b c (v Count g) ≡ count (removeRoot h x t) g
+      go true e q =
+          let z : h ≡ g = eqb-true h g e in
+          let w : delta g h ≡ 1 = rw e in
+          omega (arith, ap (v Count) z, B .counts g k)
+      go false e q =
+          let w : delta g h ≡ 0 = rw e in
+          omega (arith, B .counts g k)
+
+  pub remove-beside : Beside n h (rootRemoved h x (childrenOf t x) (v FirstChild x) (v LastChild x) c v)
+      (removeRoot h x t)
+  unfolding removeRoot setFree release rootRemoved freeItem stateOf
+  remove-beside =
+      record {
+        size = length-set (t .heap) x 0 ∙ B .size;
+        keys = byItem x (λ k. rw (eqb-self x, key-x t D h x hx rx))
+            (λ i m k. rw (ne-eqb x i (λ e. m (sym e)), getD-set-other (t .key) x i 0 0 m)
+            (plain n h v t D B R x hx rx Key i plainly refl refl ∙ B .keys i k));
+        parents = byChild t D h x hx rx (λ k. rw (eqb-self x, parent-x t D h x hx rx))
+            (λ i m k e u j. rw (ne-eqb x i (λ e. m (sym e)), parent-children t D h x hx rx i m k e)
+            (join-other h (v FirstChild x) (v LastChild x) (released h cs (removed (Row h) x v)) Parent i plainly
+            ∙ released-in h cs (removed (Row h) x v) i (omega arith) .0))
+            (λ i m k j. rw (ne-eqb x i (λ e. m (sym e)), parent-o t D h x hx rx i m k)
+            (at-parent i k ∙ B .parents i j));
+        ranks = byItem x (λ k. rw (eqb-self x, children-x t D h x hx rx))
+            (λ i m k. rw (ne-eqb x i (λ e. m (sym e)), getD-set-other (t .children) x i [] [] m)
+            (plain n h v t D B R x hx rx Rank i plainly refl refl ∙ B .ranks i k));
+        states = byChild t D h x hx rx (λ k. rw (eqb-self x, heap-x t D h x hx rx))
+            (λ i m k e u j.
+            rw (ne-eqb x i (λ e. m (sym e)), heap-o t D h x hx rx i m, mark-children t D h x hx rx i m k e, e)
+            (join-other h (v FirstChild x) (v LastChild x) (released h cs (removed (Row h) x v)) State i plainly
+            ∙ released-in h cs (removed (Row h) x v) i (omega arith) .1 ∙ omega arith))
+            (λ i m k j.
+            rw (ne-eqb x i (λ e. m (sym e)), heap-o t D h x hx rx i m, mark-o t D h x hx rx i m k)
+            (at-state i k ∙ B .states i j));
+        frees = byItem x (λ k e. rw (eqb-self x) (refl, refl, refl, refl))
+            (λ i m k. rw (heap-o t D h x hx rx i m) (λ e.
+            let f = B .frees i k e in
+            let g = free-member i (omega (arith, B .size)) m e in (
+              rw (ne-eqb x i (λ e. m (sym e))) (plain n h v t D B R x hx rx FirstChild i plainly refl refl ∙ f .0),
+              rw (ne-eqb x i (λ e. m (sym e))) (plain n h v t D B R x hx rx LastChild i plainly refl refl ∙ f .1),
+              g .0 ∙ f .2,
+              g .1 ∙ f .3,
+            )));
+        families = byItem x (λ k f. absurd (f (heap-x t D h x hx rx)))
+            (λ p m k. rw (heap-o t D h x hx rx p m) (λ f.
+            rw (
+              getD-set-other (t .children) x p [] [] m,
+              ne-eqb x p (λ e. m (sym e)),
+              plain n h v t D B R x hx rx FirstChild p plainly refl refl,
+              plain n h v t D B R x hx rx LastChild p plainly refl refl,
+            )
+            (other-chain (childrenOf t p) (B .families p k f)
+            (λ y i. child-member p y (omega (arith, B .size)) m i))));
+        otherRows = λ g k m.
+            let e = ends n h v t D B R x hx rx c g m in
+            rw (e .0, e .1, getD-set-other (t .rows) h g (without x (rowOf t h) ++ cs) [] m)
+            (other-chain (rowOf t g) (B .otherRows g k m) (λ y i. row-member g y m i));
+        minima = λ g k m. plain n h v t D B R x hx rx Minimum g plainly refl refl ∙ B .minima g k m ∙ same-least g m;
+        counts = λ g k. ap (λ z. cond (eqb h g) c z) (plain n h v t D B R x hx rx Count g plainly refl refl)
+            ∙ left g k (eqb h g) refl;
+      }

@@ -1,0 +1,164 @@
+-- The row of heap h written anew: what the words say beside it, tree by tree.
+use Prim.Native.Nat.{ℕ, suc, _+_, _≤_, _<_}
+use mathlib.Core.Path.{_≡_, refl, sym, ap, _∙_}
+use mathlib.Core.Logic.{_≢_}
+use mathlib.Core.List.{List, [], _∷_, _++_}
+use native.Mathlib.Omega.{arith}
+use lib.Seq.{getD-set-other}
+use borrow.Author.Tests.{ne-eqb}
+use Rattle.rules.specs.declared.Field.the-variants.{FirstTree, LastTree, Minimum, Count, Key, FirstChild, LastChild, Next, Prev, Rank, State}
+use Rattle.rules.specs.Forests.{Forests, none, rowOf, childrenOf, parentOf, heapOf, setRow, tableSize, count}
+use Rattle.rules.specs.Lists.{delta, occurs, sumBy}
+use Rattle.rules.specs.Order.{minimum}
+use Rattle.rules.specs.SetWord.{setWord}
+use Rattle.rules.specs.WellFormed.{Disjoint}
+use Rattle.rules.proofs.Members.{heap-in, out-heap, not-none, row-root, child-parent}
+use Rattle.rules.proofs.Occurs.{byItem, eqb-self, delta-self, occurs-append}
+use Rattle.rules.proofs.SiblingLists.{once-row}
+use Rattle.store.specs.declared.Owner.the-variants.{Row}
+use Rattle.store.specs.Says.{Values}
+use Rattle.store.specs.Siblings.{appended}
+use Rattle.consolidate.specs.Chain.{Chain}
+use Rattle.consolidate.specs.Stored.{Beside}
+use Rattle.consolidate.proofs.Beside.{not-row, other-row}
+use Rattle.consolidate.proofs.Chains.{chain-append, chain-frame, last-apart}
+use Rattle.consolidate.proofs.MoveWords.{row-first, row-last, row-next, row-other, row-parent, row-prev}
+
+module _ {n h : ℕ} {v : Values} {t : Forests} (B : Beside n h v t) where
+  -- the row itself is not looked at
+  pub beside-row : (r : List ℕ) → Beside n h v (setRow h r t)
+  unfolding minimum count
+  beside-row r =
+      record {
+        size = B .size;
+        keys = B .keys;
+        parents = B .parents;
+        ranks = B .ranks;
+        states = B .states;
+        frees = B .frees;
+        families = B .families;
+        otherRows = λ g k m. rw (getD-set-other (t .rows) h g r [] m) (B .otherRows g k m);
+        minima = λ g k m. rw (getD-set-other (t .rows) h g r [] m) (B .minima g k m);
+        counts = B .counts;
+      }
+
+  -- nor are its ends
+  pub beside-ends : (a b : ℕ) → Beside n h (setWord LastTree h b (setWord FirstTree h a v)) t
+  beside-ends a b =
+      record {
+        size = B .size;
+        keys = B .keys;
+        parents = B .parents;
+        ranks = B .ranks;
+        states = B .states;
+        frees = B .frees;
+        families = B .families;
+        otherRows = λ g k d. rw (ne-eqb h g (λ z. d (sym z))) (B .otherRows g k d);
+        minima = B .minima;
+        counts = B .counts;
+      }
+
+  -- nor its minimum
+  pub beside-minimum : (m : ℕ) → Beside n h (setWord Minimum h m v) t
+  beside-minimum m =
+      record {
+        size = B .size;
+        keys = B .keys;
+        parents = B .parents;
+        ranks = B .ranks;
+        states = B .states;
+        frees = B .frees;
+        families = B .families;
+        otherRows = B .otherRows;
+        minima = λ g k d. rw (ne-eqb h g (λ z. d (sym z))) (B .minima g k d);
+        counts = B .counts;
+      }
+
+-- ---- a tree at the end of the row, of which m is written and k is to come
+
+module _ (n h : ℕ) (v : Values) (t : Forests) (D : Disjoint t) (hh : h < 8) (B : Beside n h v t) (m k : List ℕ)
+    (C : Chain (v FirstTree h) (v LastTree h) (v Next) (v Prev) m) (x : ℕ) (e : rowOf t h ≡ m ++ (x ∷ k)) where
+  abbrev v′ : Values
+  v′ = appended (Row h) x v
+
+  in-row : (y : ℕ) → occurs y (rowOf t h) ≡ occurs y m + delta y x + occurs y k
+  unfolding occurs sumBy
+  in-row y = rw e (omega (arith, occurs-append y m (x ∷ k)))
+
+  x-root : (heapOf t x ≡ suc h) × (parentOf t x ≡ none)
+  x-root = row-root t D h x (omega (arith, in-row x, delta-self x))
+
+  pub x-in : x < tableSize t
+  x-in = heap-in t x (λ z. omega (arith, x-root .0))
+
+  some : (y : ℕ) → y < tableSize t → y ≢ none
+  some y i z = not-none t D y i (sym z)
+
+  none-row : occurs none m ≡ 0
+  none-row =
+      omega (
+        arith,
+        in-row none,
+        other-row t D h none (λ z. omega (arith, z, out-heap t none (omega (arith, D .small)))),
+      )
+
+  x-out : occurs x m ≡ 0
+  x-out = omega (arith, in-row x, delta-self x, once-row t D h x)
+
+  pub longer : Chain (v′ FirstTree h) (v′ LastTree h) (v′ Next) (v′ Prev) (m ++ (x ∷ []))
+  longer =
+      rw (row-last h x v h, eqb-self h)
+      (chain-append m C x (λ y. omega (arith, in-row y, once-row t D h y)) none-row x-out (some x x-in)
+      (v′ FirstTree h) (v′ Next) (v′ Prev)
+      (row-first h x v h ∙ rw (eqb-self h)) (row-next h x v) (row-prev h x v))
+
+  -- whoever is in another list keeps its links
+  keeps : (y : ℕ) → y < tableSize t → occurs y (rowOf t h) ≡ 0 → (v′ Next y ≡ v Next y) × (v′ Prev y ≡ v Prev y)
+  keeps y i z =
+      let a : x ≢ y = λ q. omega (arith, in-row y, ap (delta y) q, delta-self y) in
+      let l : v LastTree h ≢ y = λ q. last-apart y m (some y i) (omega (arith, in-row y)) (sym (C .back) ∙ q) in (
+        row-next h x v y ∙ rw (ne-eqb (v LastTree h) y l, ne-eqb x y a),
+        row-prev h x v y ∙ rw (ne-eqb x y a),
+      )
+
+  other-chain : {f b : ℕ} (l : List ℕ) → Chain f b (v Next) (v Prev) l
+      → ((y : ℕ) → 1 ≤ occurs y l → (y < tableSize t) × (occurs y (rowOf t h) ≡ 0)) → Chain f b (v′ Next) (v′ Prev) l
+  other-chain l c f = chain-frame (v′ Next) (v′ Prev) c (λ y i. keeps y (f y i .0) (f y i .1))
+
+  row-member : (g y : ℕ) → g ≢ h → 1 ≤ occurs y (rowOf t g) → (y < tableSize t) × (occurs y (rowOf t h) ≡ 0)
+  row-member g y d i =
+      let r = row-root t D g y i in
+      (heap-in t y (λ z. omega (arith, r .0)), other-row t D h y (λ z. d (omega (arith, z, r .0))))
+
+  child-member : (p y : ℕ) → p < tableSize t → 1 ≤ occurs y (childrenOf t p)
+      → (y < tableSize t) × (occurs y (rowOf t h) ≡ 0)
+  child-member p y j i =
+      let r = child-parent t D p y j i in
+      (heap-in t y (r .0), not-row t D h y (λ z. some p j (sym (r .1) ∙ z)))
+
+  pub longer-beside : Beside n h (appended (Row h) x v) t
+  longer-beside =
+      record {
+        size = B .size;
+        keys = λ i j. row-other h x v Key i (refl, refl, refl, refl) refl ∙ B .keys i j;
+        parents = byItem x (λ j. row-parent h x v x ∙ rw (eqb-self x) (sym (x-root .1)))
+            (λ i d j. row-parent h x v i ∙ rw (ne-eqb x i (λ z. d (sym z))) (B .parents i j));
+        ranks = λ i j. row-other h x v Rank i (refl, refl, refl, refl) refl ∙ B .ranks i j;
+        states = λ i j. row-other h x v State i (refl, refl, refl, refl) refl ∙ B .states i j;
+        frees = λ i j z.
+            let f = B .frees i j z in
+            let g = keeps i (omega (arith, B .size)) (other-row t D h i (λ q. omega (arith, q, z))) in (
+              row-other h x v FirstChild i (refl, refl, refl, refl) refl ∙ f .0,
+              row-other h x v LastChild i (refl, refl, refl, refl) refl ∙ f .1,
+              g .0 ∙ f .2,
+              g .1 ∙ f .3,
+            );
+        families = λ p j f. rw (
+          row-other h x v FirstChild p (refl, refl, refl, refl) refl,
+          row-other h x v LastChild p (refl, refl, refl, refl) refl,
+        ) (other-chain (childrenOf t p) (B .families p j f) (λ y i. child-member p y (omega (arith, B .size)) i));
+        otherRows = λ g j d. rw (row-first h x v g, row-last h x v g, ne-eqb h g (λ z. d (sym z)))
+            (other-chain (rowOf t g) (B .otherRows g j d) (λ y i. row-member g y d i));
+        minima = λ g j d. row-other h x v Minimum g (refl, refl, refl, refl) refl ∙ B .minima g j d;
+        counts = λ g j. row-other h x v Count g (refl, refl, refl, refl) refl ∙ B .counts g j;
+      }

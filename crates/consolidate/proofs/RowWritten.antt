@@ -1,0 +1,106 @@
+-- The row of heap h written anew from the places: its start, one place, and its end.
+use Prim.Native.Nat.{ℕ, _+_, _≤_, _<_}
+use mathlib.Core.Path.{_≡_, refl, sym, ap, subst, _∙_}
+use mathlib.Core.List.{List, [], _∷_, _++_, append-assoc, append-nil}
+use mathlib.Core.Bool.{Bool, true, false, cond}
+use native.Mathlib.Numerals.{add-one}
+use native.Mathlib.Omega.{arith}
+use lib.Dec.{eqb}
+use lib.ListN.{length, getD, take, drop, length-set, take-append-drop}
+use lib.Seq.{getD-set-same, take-all, take-suc}
+use Rattle.rules.specs.declared.Field.the-variants.{FirstTree, LastTree, Minimum}
+use Rattle.rules.specs.Consolidate.{occupied}
+use Rattle.rules.specs.Forests.{Forests, none, rowOf, setRow}
+use Rattle.rules.specs.Lists.{occurs, sumBy}
+use Rattle.rules.specs.Order.{leastIn, minimum}
+use Rattle.rules.specs.SetWord.{setWord}
+use Rattle.rules.specs.WellFormed.{Disjoint, WellFormed}
+use Rattle.rules.specs.Words.{encode, headOr, lastOr}
+use Rattle.rules.proofs.Occurs.{eqb-self}
+use Rattle.store.specs.Says.{Changes}
+use Rattle.consolidate.specs.Consolidating.{Consolidating}
+use Rattle.consolidate.specs.Writing.{Coming, Writing}
+use Rattle.consolidate.proofs.Beside.{rowed-words}
+use Rattle.consolidate.proofs.RowWords.{beside-ends, beside-minimum, beside-row}
+
+occupied-append : (a b : List ℕ) → occupied (a ++ b) ≡ occupied a ++ occupied b
+unfolding occupied
+occupied-append [] b = refl
+occupied-append (x ∷ a) b = go (eqb x none) (occupied-append a b)
+  where
+    go : (t : Bool) → occupied (a ++ b) ≡ occupied a ++ occupied b
+        → cond t (occupied (a ++ b)) (x ∷ occupied (a ++ b)) ≡ cond t (occupied a) (x ∷ occupied a) ++ occupied b
+    go true e = e
+    go false e = ap (λ l. x ∷ l) e
+
+-- the forests with the row of the places
+module _ {n h : ℕ} {w ps : List ℕ} {t : Forests} (C : Consolidating n h w ps [] [] t) where
+  pub places-formed : WellFormed (setRow h (occupied ps) t)
+  places-formed = subst (λ l. WellFormed (setRow h l t)) (append-nil (occupied ps)) (C .formed)
+
+  pub places-row : rowOf (setRow h (occupied ps) t) h ≡ occupied ps
+  places-row =
+      getD-set-same (t .rows) h (occupied ps) []
+      (omega (arith, C .heap, length-set (t .rows) h (occupied ps), places-formed .disjoint .rows8))
+
+  -- an empty row
+  pub writing-starts : {w₁ w₂ : List ℕ} → Changes n w (setWord FirstTree h none) w₁
+      → Changes n w₁ (setWord LastTree h none) w₂ → Writing n h w₂ [] none (setRow h (occupied ps) t)
+  unfolding headOr lastOr leastIn occurs sumBy
+  writing-starts a b =
+      record {
+        values = setWord LastTree h none (setWord FirstTree h none (C .values));
+        says = b .says _ (a .says _ (C .says));
+        beside = beside-ends (beside-row (C .beside) (occupied ps)) none none;
+        row = record {
+          front = rw (eqb-self h);
+          back = rw (eqb-self h);
+          nexts = λ y i. absurd (omega arith);
+          prevs = λ y i. absurd (omega arith);
+        };
+        least = refl;
+      }
+
+-- ---- one place
+
+module _ (h : ℕ) (ps : List ℕ) (r : ℕ) (t : Forests) (D : Disjoint t) (hh : h < 8) (e : rowOf t h ≡ occupied ps)
+    (long : length ps ≡ 17) where
+  next-place : (x : ℕ) → r < 17 → x ≡ getD ps r 0
+      → occupied (take (r + 1) ps) ≡ occupied (take r ps) ++ occupied (x ∷ [])
+  next-place x k q = rw (add-one r, take-suc ps r 0 (omega arith), ← q) (occupied-append (take r ps) (x ∷ []))
+
+  pub coming : {x : ℕ} → r < 17 → x ≡ getD ps r 0 → Coming h (occupied (take r ps)) x (occupied (drop (r + 1) ps)) t
+  coming {x} k q =
+      record {
+        disjoint = D;
+        heap = hh;
+        row = e
+            ∙ ap occupied (sym (take-append-drop (r + 1) ps))
+            ∙ occupied-append (take (r + 1) ps) (drop (r + 1) ps)
+            ∙ rw (
+              next-place x k q,
+              append-assoc (occupied (take r ps)) (occupied (x ∷ []))
+                  (occupied (drop (r + 1) ps)),
+            );
+      }
+
+  pub place-written : {n m x : ℕ} {w : List ℕ} → r < 17 → x ≡ getD ps r 0
+      → Writing n h w (occupied (take r ps) ++ occupied (x ∷ [])) m t → Writing n h w (occupied (take (r + 1) ps)) m t
+  place-written {x = x} k q W = rw (next-place x k q) W
+
+  -- ---- all places
+
+  pub row-written : {n m : ℕ} {w w′ : List ℕ} → 17 ≤ r → Writing n h w (occupied (take r ps)) m t
+      → Changes n w (setWord Minimum h m) w′
+      → w′ ≡ encode t
+  unfolding minimum
+  row-written {n} {m} {w} {w′} k W c =
+      let z : occupied (take r ps) ≡ rowOf t h = ap occupied (take-all r ps (omega arith)) ∙ sym e in
+      rowed-words t D {n = n} {h = h} {w = w′}
+      (record {
+        values = setWord Minimum h m (W .values);
+        says = c .says (W .values) (W .says);
+        beside = beside-minimum (W .beside) m;
+        row = rw z at (W .row);
+        least = rw (eqb-self h) (W .least ∙ ap (leastIn (t .key)) z);
+      })

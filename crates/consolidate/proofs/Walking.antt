@@ -1,0 +1,228 @@
+-- The trees of a row on their way to the places: what holds between two trees, on the words.
+use Prim.Native.Nat.{ℕ, suc, _+_, _≤_, _<_}
+use mathlib.Core.Path.{_≡_, refl, sym, ap, subst, _∙_}
+use mathlib.Core.Logic.{_≢_}
+use mathlib.Core.List.{List, [], _∷_, _++_}
+use mathlib.Core.Bool.{Bool, true, false}
+use native.Mathlib.Omega.{arith}
+use lib.Dec.{leb}
+use lib.ListN.{length, replicate}
+use borrow.Author.Tests.{leb-true, leb-false, ne-eqb}
+use Rattle.rules.specs.declared.Field.the-variants.{FirstTree, Next}
+use Rattle.rules.specs.Consolidate.{Linking, isFree, linkTrees, occupied}
+use Rattle.rules.specs.Forests.{Forests, none, heapOf, parentOf, rankOf, rowOf, setRow}
+use Rattle.rules.specs.Lists.{occurs, sumBy}
+use Rattle.rules.specs.WellFormed.{KeysFit, WellFormed}
+use Rattle.rules.specs.Words.{follow, headOr, look, nextIn}
+use Rattle.rules.proofs.ConsolidateKeeps.{start}
+use Rattle.rules.proofs.Excused.{to-formed, well-formed}
+use Rattle.rules.proofs.Follow.{follow-list, once-short}
+use Rattle.rules.proofs.LinkKeeps.{in-row, once}
+use Rattle.rules.proofs.Members.{heap-in}
+use Rattle.rules.proofs.Occurs.{delta-self, eqb-self, occurs-append}
+use Rattle.rules.proofs.Potential.{climb-count, length-occupied}
+use Rattle.rules.proofs.SiblingLists.{list-inside}
+use Rattle.rules.proofs.Siblings.{Once, head-out}
+use Rattle.consolidate.specs.Consolidating.{ClimbReady, Consolidating, Settled, Settles, linkRow, settle}
+use Rattle.consolidate.specs.Stored.{Rowed}
+use Rattle.consolidate.proofs.Chains.{head-none}
+use Rattle.consolidate.proofs.Climbing.{held}
+
+-- the trees to come are roots of heap h, each once
+module _ {n h : ℕ} {w ps rest ahead : List ℕ} {t : Forests} (C : Consolidating n h w ps rest ahead t) where
+  abbrev ρ : List ℕ
+  ρ = occupied ps ++ rest
+
+  comes-root : (y : ℕ) → 1 ≤ occurs y rest → (heapOf t y ≡ suc h) × (parentOf t y ≡ none)
+  comes-root y i = in-row t h ρ (held C .formed) (C .heap) y (omega (arith, occurs-append y (occupied ps) rest))
+
+  pub comes-inside : (y : ℕ) → 1 ≤ occurs y rest → y < n
+  comes-inside y i =
+      let k = heap-in t y (λ e. omega (arith, comes-root y i .0)) in
+      omega (arith, C .beside .size)
+
+  comes-once : Once rest
+  comes-once y = go (leb (occurs y rest) 1) refl
+    where
+      go : (b : Bool) → leb (occurs y rest) 1 ≡ b → occurs y rest ≤ 1
+      go true e = leb-true (occurs y rest) 1 e
+      go false e =
+          let k : 1 < occurs y rest = leb-false (occurs y rest) 1 e in
+          let a = occurs-append y (occupied ps) rest in
+          omega (arith, a, once t h ρ (held C .formed) (C .heap) y (omega (arith, a)))
+
+  outside : (y : ℕ) → n ≤ y → occurs y rest ≡ 0
+  outside y k =
+      list-inside (setRow h ρ t) (C .formed .disjoint) rest (λ z i e. omega (arith, e, comes-root z i .0)) y
+      (omega (arith, C .beside .size))
+
+  pub none-comes : occurs none rest ≡ 0
+  none-comes = outside none (omega (arith, C .says .sized .small))
+
+  pub rest-short : length rest ≤ n
+  rest-short = once-short n rest comes-once outside
+
+-- the trees to come, by the next words
+pub follows : {n h : ℕ} {w ps rest : List ℕ} {t : Forests} → Consolidating n h w ps rest rest t
+    → follow n (look n w Next) (headOr none rest) ≡ rest
+follows {n} {h} {w} {ps} {rest} C =
+    follow-list n (look n w Next) rest (rest-short C) (comes-once C) (none-comes C)
+    (λ y i. C .says .says Next y (comes-inside C y i) ∙ C .ahead y i)
+
+pub record Walking (n h base : ℕ) (goal : Linking) (w ps : List ℕ) (x links : ℕ) : Type 0 where
+  pub here : Forests
+  pub made : ℕ
+  pub rest : List ℕ
+  pub state : Consolidating n h w ps rest rest here
+  pub head : x ≡ headOr none rest
+  pub count : links ≡ base + made
+  pub fits : links + length (occupied ps) + length rest ≤ 4294967295
+  pub whole : linkTrees 18 rest (record { places = ps; links = made; forests = here }) ≡ goal
+
+pub walk-starts : {n h m : ℕ} {w : List ℕ} {t : Forests} (x links : ℕ) → Rowed n h m w t → WellFormed t → h < 8
+    → x ≡ look n w FirstTree h → links + 4096 ≤ 4294967295
+    → Walking n h links (linkRow h t) w (replicate 17 none) x links
+unfolding linkRow KeysFit occupied
+walk-starts {n} {h} {m} {w} {t} x links R W k e f =
+    let H = start h t k (to-formed t W) in
+    let C : Consolidating n h w (replicate 17 none) (rowOf t h) (rowOf t h) t =
+    record {
+      heap = k;
+      values = R .values;
+      says = R .says;
+      beside = R .beside;
+      formed = well-formed (setRow h (rowOf t h) t) (H .formed) (W .keys);
+      long = H .long;
+      placed = H .rank;
+      ahead = R .row .nexts;
+    } in
+    record {
+      here = t;
+      made = 0;
+      rest = rowOf t h;
+      state = C;
+      head = e ∙ R .says .says FirstTree h k ∙ R .row .front;
+      count = omega arith;
+      fits = omega (arith, rest-short C, C .says .sized .small);
+      whole = refl;
+    }
+
+module _ {n h base : ℕ} {goal : Linking} {w ps : List ℕ} {x links : ℕ} (G : Walking n h base goal w ps x links) where
+  pub walk-left : length (follow n (look n w Next) x) ≡ length (G .rest)
+  walk-left = rw (G .head) (ap length (follows (G .state)))
+
+  -- ---- no tree is left
+
+  pub walk-ends : x ≡ none → Settled n h base [] w ps links goal
+  unfolding linkTrees
+  walk-ends e =
+      go (G .rest) (head-none (G .rest) (none-comes (G .state)) (sym (G .head) ∙ e)) (G .state) (G .whole)
+    where
+      go : (l : List ℕ) → l ≡ [] → Consolidating n h w ps l l (G .here)
+          → linkTrees 18 l (record { places = ps; links = G .made; forests = G .here }) ≡ goal
+          → Settled n h base [] w ps links goal
+      go [] z C q =
+          record {
+            places = ap (λ l. l .places) q;
+            count = G .count ∙ ap (λ l. base + l .links) q;
+            state = subst (λ l. Consolidating n h w ps [] [] (l .forests)) q C;
+          }
+      go (y ∷ l) z C q = absurd (omega (arith, ap length z))
+
+  -- ---- the next tree
+
+  module _ (m : x ≢ none) where
+    -- the first tree to come is x
+    record First : Type 0 where
+      pub tail : List ℕ
+      pub is : G .rest ≡ x ∷ tail
+
+    first : First
+    unfolding headOr
+    first = go (G .rest) (G .head) refl
+      where
+        go : (l : List ℕ) → x ≡ headOr none l → G .rest ≡ l → First
+        go [] e q = absurd (m e)
+        go (y ∷ l) e q = record { tail = l; is = q ∙ ap (λ z. z ∷ l) (sym e) }
+
+    tail : List ℕ
+    tail = first .tail
+
+    whole-state : Consolidating n h w ps (x ∷ first .tail) (x ∷ first .tail) (G .here)
+    whole-state = rw (first .is) at (G .state)
+
+    pub walk-inside : x < n
+    unfolding occurs sumBy
+    walk-inside = comes-inside whole-state x (omega (arith, delta-self x))
+
+    -- its link is not needed any more
+    climbing : Consolidating n h w ps (x ∷ first .tail) (first .tail) (G .here)
+    unfolding occurs sumBy nextIn
+    climbing =
+        let C = whole-state in
+        record {
+          heap = C .heap;
+          values = C .values;
+          says = C .says;
+          beside = C .beside;
+          formed = C .formed;
+          long = C .long;
+          placed = C .placed;
+          ahead = λ y i. C .ahead y (omega arith)
+              ∙ rw (ne-eqb x y (λ e.
+              omega (arith, head-out x (first .tail) (comes-once C), ap (λ z. occurs z (first .tail)) e)));
+        }
+
+    room : links + length (occupied ps) + suc (length (first .tail)) ≤ 4294967295
+    room = rw (first .is) at (G .fits)
+
+    pub walk-ready : ClimbReady n w ps x links
+    walk-ready =
+        record {
+          inHeap = h;
+          rest = first .tail;
+          forests = G .here;
+          state = climbing;
+          fits = omega (arith, room);
+        }
+
+    pub record Step (w′ ps′ : List ℕ) (x′ links′ : ℕ) : Type 0 where
+      pub next : Walking n h base goal w′ ps′ x′ links′
+      pub less : length (next .rest) < length (G .rest)
+
+    pub walk-step : {w′ ps′ : List ℕ} {x′ links′ : ℕ} → x′ ≡ look n w Next x → Settles n w ps x links w′ ps′ links′
+        → Step w′ ps′ x′ links′
+    unfolding Settles settle linkTrees nextIn occurs sumBy
+    walk-step {w′} {ps′} {x′} {links′} e f =
+        let S = f h base (G .made) (G .here) (first .tail) climbing (G .count) in
+        let L : Linking = settle ps (G .made) (G .here) x in
+        let q : linkTrees 18 (x ∷ first .tail) (record { places = ps; links = G .made; forests = G .here }) ≡ goal =
+        rw (first .is) at (G .whole) in
+        let p : _≡_ {A = Linking} (record { places = ps′; links = L .links; forests = L .forests }) L =
+        rw (S .places) in
+        record {
+          next = record {
+            here = L .forests;
+            made = L .links;
+            rest = first .tail;
+            state = S .state;
+            head = e
+                ∙ whole-state .says .says Next x walk-inside
+                ∙ whole-state .ahead x (omega (arith, delta-self x))
+                ∙ rw (eqb-self x);
+            count = S .count;
+            fits = omega (
+              arith,
+              room,
+              S .count,
+              G .count,
+              ap length (ap occupied (S .places)),
+              length-occupied ps,
+              length-occupied (L .places),
+              climb-count 18 (isFree ps (rankOf (G .here) x)) (rankOf (G .here) x) x
+                  (record { places = ps; links = G .made; forests = G .here }) refl,
+            );
+            whole = rw p q;
+          };
+          less = omega (arith, ap length (first .is));
+        }

@@ -1,0 +1,138 @@
+-- `heap::write_row` meets its contract.
+use Prim.Native.Nat.{_+_, _-_}
+use mathlib.Core.Path.{_≡_, refl}
+use mathlib.Core.List.{[]}
+use native.Mathlib.Omega.{arith}
+use borrow.Author.Needs.{needs}
+use lib.ListN.{length, drop, take}
+use Rattle.rules.specs.Consolidate.{occupied}
+use Rattle.rules.specs.Forests.{Forests, none, rowOf, setRow}
+use Rattle.rules.specs.WellFormed.{Disjoint}
+use Rattle.consolidate.specs.Consolidating.{WritesRow}
+use Rattle.consolidate.specs.Writing.{Writing, WritesTree}
+use Rattle.consolidate.proofs.RowWritten.{coming, place-written, places-formed, places-row, row-written, writing-starts}
+use Rattle.consolidate.proofs.write_row.Statement.{statement}
+use Rattle.consolidate.proofs.write_row.Tie as tie
+
+abbrev Inv-loop : tie.InvT-loop
+Inv-loop s₀ n h places m₀ r₀ s m r =
+    (length s ≡ length s₀) ×
+    ((t : Forests) → Disjoint t → rowOf t h ≡ occupied places → Writing n h s₀ [] none t
+    → Writing n h s (occupied (take r places)) m t)
+
+abbrev μ-loop : tie.MeasureT-loop
+μ-loop s₀ n h places m₀ r₀ s m r = 17 - r
+
+put-requires : tie.Need-put-requires Inv-loop μ-loop
+put-requires c κs =
+    let p = c .before .before .pre in
+    record { sized = p .state .says .sized; inside = p .state .heap }
+
+put-requires-2 : tie.Need-put-requires-2 Inv-loop μ-loop
+put-requires-2 c κs =
+    let c3 = c .before .before .before in
+    let c6 = c3 .before .before .before in
+    record { sized = c3 .put .ensures .sized; inside = c6 .pre .state .heap }
+
+loop-holds : tie.Need-loop-holds Inv-loop μ-loop
+unfolding occupied
+loop-holds c = (refl, λ t D e W. W)
+
+-- the state at the loop's head, for the forests that the caller has
+here : (c : tie.At-loop Inv-loop μ-loop) →
+    let c10 = c .before .before .before .before .before .before .before .before .before .before in
+    Writing (c10 .args .n) (c10 .args .h) (c .loop .s) (occupied (take (c .loop .r) (c10 .args .t4))) (c .loop .m)
+    (setRow (c10 .args .h) (occupied (c10 .args .t4)) (c10 .pre .forests))
+here c =
+    let c3 = c .before .before .before in
+    let c7 = c3 .before .before .before .before in
+    let c10 = c7 .before .before .before in
+    let C = c10 .pre .state in
+    c .loop .inv .1 _ (places-formed C .disjoint) (places-row C)
+    (writing-starts C (c7 .put .ensures) (c3 .put2 .ensures))
+
+write-tree-requires : tie.Need-write-tree-requires Inv-loop μ-loop
+write-tree-requires c κs =
+    let c1 = c .before in
+    let c3 = c1 .before .before in
+    let c4 = c3 .before in
+    let c14 = c4 .before .before .before .before .before .before .before .before .before .before in
+    let C = c14 .pre .state in
+    let ps = c14 .args .t4 in
+    let r = c4 .loop .r in
+    let t = setRow (c14 .args .h) (occupied ps) (c14 .pre .forests) in
+    record {
+      forests = t;
+      written = occupied (take r ps);
+      rest = occupied (drop (r + 1) ps);
+      coming = coming (c14 .args .h) ps r t (places-formed C .disjoint) (C .heap) (places-row C) (C .long)
+          (c3 .loop-test .taken) (c1 .holder .ensures);
+      state = here c4;
+    }
+
+loop-again : tie.Need-loop-again Inv-loop μ-loop
+unfolding WritesTree
+loop-again c =
+    let c2 = c .before .before in
+    let c4 = c2 .before .before in
+    let c6 = c4 .before .before in
+    let c7 = c6 .before in
+    let c17 = c7 .before .before .before .before .before .before .before .before .before .before in
+    let C = c17 .pre .state in
+    let h = c17 .args .h in
+    let ps = c17 .args .t4 in
+    let r = c7 .loop .r in (
+      omega (arith, c2 .write-tree .kept .0, c7 .loop .inv .0),
+      λ t D e W.
+          place-written h ps r t D (C .heap) e (C .long) (c6 .loop-test .taken) (c4 .holder .ensures)
+          (c2 .write-tree .ensures _ _ t
+          (coming h ps r t D (C .heap) e (C .long) (c6 .loop-test .taken) (c4 .holder .ensures))
+          (c7 .loop .inv .1 t D e W)),
+    )
+
+put-requires-3 : tie.Need-put-requires-3 Inv-loop μ-loop
+put-requires-3 c κs =
+    let c2 = c .before .before in
+    let c12 = c2 .before .before .before .before .before .before .before .before .before .before in
+    record { sized = here c2 .says .sized; inside = c12 .pre .state .heap }
+
+same-length : tie.Need-same-length Inv-loop μ-loop
+same-length c =
+    let c2 = c .before .before in
+    let c5 = c2 .before .before .before in
+    let c8 = c5 .before .before .before in
+    let c12 = c8 .before .before .before .before in
+    omega (arith, c2 .put3 .kept .0, c5 .loop .inv .0, c8 .put2 .kept .0, c12 .put .kept .0)
+
+returns : tie.Need-returns Inv-loop μ-loop
+unfolding WritesRow
+returns c =
+    let c2 = c .before .before in
+    let c4 = c2 .before .before in
+    let c5 = c4 .before in
+    let c8 = c5 .before .before .before in
+    let c12 = c8 .before .before .before .before in
+    let a = c12 .before .before .before .args in
+    λ t C.
+    row-written (a .h) (a .t4) (c5 .loop .r) _ (places-formed C .disjoint) (C .heap) (places-row C) (C .long)
+    (c4 .loop-test .left)
+    (c5 .loop .inv .1 _ (places-formed C .disjoint) (places-row C)
+    (writing-starts C (c12 .put .ensures) (c8 .put2 .ensures))) (c2 .put3 .ensures)
+
+pub write-row-spec : {M : Type 1} → statement M
+write-row-spec =
+    tie.close
+    (tie.spec
+    Inv-loop
+    μ-loop
+    put-requires
+    put-requires-2
+    loop-holds
+    (λ c κs. c .before .loop-test .taken)
+    write-tree-requires
+    (λ c. search needs)
+    (λ c. search needs)
+    loop-again
+    put-requires-3
+    same-length
+    returns)

@@ -1,0 +1,8 @@
+pub mod Chain
+pub mod Stored
+pub mod Before
+pub mod Released
+pub mod Removed
+pub mod Consolidating
+pub mod Writing
+pub mod Extract

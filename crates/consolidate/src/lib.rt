@@ -1,0 +1,236 @@
+// The calls on the heaps whose words a store holds.
+ghost use mathlib.Core.Path.{_≡_};
+ghost use mathlib.Core.Bool.{cond};
+ghost use Prim.Native.Nat.{ℕ, _+_, _<_};
+ghost use lib.ListN.{getD, set};
+ghost use Rattle.rules.specs.declared.Call.the-variants.{ExtractMin};
+ghost use Rattle.rules.specs.declared.Field.the-variants.{Key};
+ghost use Rattle.rules.specs.Calls.{perform};
+ghost use Rattle.rules.specs.Words.{decode, look};
+ghost use Rattle.store.specs.Says.{Within};
+ghost use Rattle.consolidate.specs.Before.{comesBefore};
+ghost use Rattle.consolidate.specs.Consolidating.{ClimbReady, ConsolidateReady, RowReady};
+ghost use Rattle.consolidate.specs.Consolidating.{Consolidates, LinksRow, Settles, WritesRow};
+ghost use Rattle.consolidate.specs.Extract.{ExtractReady, Performs};
+ghost use Rattle.consolidate.specs.Released.{ReleaseReady, Releases};
+ghost use Rattle.consolidate.specs.Removed.{RemovesRoot, RootReady};
+ghost use Rattle.consolidate.specs.Writing.{TreeReady, WritesTree};
+use rules::Field;
+use rules::Tally;
+use store::NONE;
+use store::Owner;
+use store::append;
+use store::concat;
+use store::free_item;
+use store::get;
+use store::put;
+use store::remove;
+
+// Item a comes before item b: its key is smaller, or the keys are equal and a < b.
+pub fn precedes(s: &[u32], n: usize, a: u32, b: u32) -> bool
+    requires { ⌜ Within n (now s) Key a ⌝ }
+    requires { ⌜ Within n (now s) Key b ⌝ }
+    ensures { λ r. ⌜ r ≡ comesBefore (look n (now (s .entry)) Key) a b ⌝ }
+{
+    let x = get(s, n, Field::Key, a);
+    let y = get(s, n, Field::Key, b);
+    x < y || (x == y && a < b)
+}
+
+// Two items in their order.
+struct Pair {
+    first: u32,
+    second: u32,
+}
+
+fn in_order(s: &[u32], n: usize, a: u32, b: u32) -> Pair
+    requires { ⌜ Within n (now s) Key a ⌝ }
+    requires { ⌜ Within n (now s) Key b ⌝ }
+    ensures { λ r. ⌜ r .first ≡ cond (comesBefore (look n (now (s .entry)) Key) a b) a b ⌝ }
+    ensures { λ r. ⌜ r .second ≡ cond (comesBefore (look n (now (s .entry)) Key) a b) b a ⌝ }
+{
+    if precedes(s, n, a, b) {
+        Pair {
+            first: a,
+            second: b,
+        }
+    } else {
+        Pair {
+            first: b,
+            second: a,
+        }
+    }
+}
+
+// The tree at place r. This function and the next alone index the places.
+fn holder(places: &[u32; 17], r: u32) -> u32
+    requires { ⌜ r < 17 ⌝ }
+    ensures { λ x. ⌜ x ≡ getD (now (places .entry)) r 0 ⌝ }
+{
+    places[r as usize]
+}
+
+// The tree x put at place r.
+fn hold(places: &mut [u32; 17], r: u32, x: u32)
+    requires { ⌜ r < 17 ⌝ }
+    ensures { λ q. ⌜ now (places .exit) ≡ set (now (places .entry)) r x ⌝ }
+{
+    places[r as usize] = x;
+}
+
+// The places, and the tally so far.
+struct Linked {
+    places: [u32; 17],
+    tally: Tally,
+}
+
+// A tree comes to the places: it is linked with the holder of the place of its rank, and the winner climbs one rank,
+// until it rests at a free place.
+fn climb(s: &mut [u32], n: usize, held: [u32; 17], tree: u32, tally: Tally) -> Linked
+    requires { ⌜ ClimbReady n (now s) held tree (tally .links) ⌝ }
+    ensures { λ r. ⌜ Settles n (now (s .entry)) held tree (tally .links)
+        (now (s .exit)) (r .places) (r .tally .links) ⌝ }
+    ensures { λ r. ⌜ r .tally .cuts ≡ tally .cuts ⌝ }
+{
+    let mut places = held;
+    let mut x = tree;
+    let mut t = tally;
+    let mut r = get(s, n, Field::Rank, x);
+    let rank = loop {
+        let y = holder(&places, r);
+        if y == NONE {
+            break r;
+        }
+        let pair = in_order(s, n, y, x);
+        let w = pair.first;
+        append(s, n, Owner::Children(w), pair.second);
+        hold(&mut places, r, NONE);
+        t = t.link();
+        x = w;
+        r += 1;
+    };
+    hold(&mut places, rank, x);
+    Linked { places, tally: t }
+}
+
+// The trees of the row of heap h come to the places, left to right. Its links are left as they are.
+fn link_row(s: &mut [u32], n: usize, h: u32, tally: Tally) -> Linked
+    requires { ⌜ ConsolidateReady n (now s) h (tally .links) ⌝ }
+    ensures { λ r. ⌜ LinksRow n (now (s .entry)) h (tally .links) (now (s .exit)) (r .places) (r .tally .links) ⌝ }
+    ensures { λ r. ⌜ r .tally .cuts ≡ tally .cuts ⌝ }
+{
+    let mut places = [NONE; 17];
+    let mut t = tally;
+    let mut x = get(s, n, Field::FirstTree, h);
+    while x != NONE {
+        let next = get(s, n, Field::Next, x);
+        let c = climb(s, n, places, x, t);
+        let q = c.places;
+        places = q;
+        t = c.tally;
+        x = next;
+    }
+    Linked { places, tally: t }
+}
+
+// The k siblings from c on become roots of heap h, unmarked.
+fn release(s: &mut [u32], n: usize, h: u32, child: u32, count: u32)
+    requires { ⌜ ReleaseReady n (now s) h child count ⌝ }
+    ensures { λ r. ⌜ Releases n (now (s .entry)) h child count (now (s .exit)) ⌝ }
+{
+    let state = 1 + 2 * h;
+    let mut c = child;
+    let mut k = count;
+    while k > 0 {
+        put(s, n, Field::Parent, c, NONE);
+        put(s, n, Field::State, c, state);
+        c = get(s, n, Field::Next, c);
+        k -= 1;
+    }
+}
+
+// The root x of heap h leaves the row and is free; its children join the end. The minimum is left as it is.
+pub fn remove_root(s: &mut [u32], n: usize, h: u32, x: u32)
+    requires { ⌜ RootReady n (now s) h x ⌝ }
+    ensures { λ r. ⌜ RemovesRoot n (now (s .entry)) h x (now (s .exit)) ⌝ }
+{
+    let first = get(s, n, Field::FirstChild, x);
+    let end = get(s, n, Field::LastChild, x);
+    let rank = get(s, n, Field::Rank, x);
+    let count = get(s, n, Field::Count, h);
+    remove(s, n, Owner::Row(h), x);
+    release(s, n, h, first, rank);
+    concat(s, n, h, first, end);
+    free_item(s, n, x);
+    put(s, n, Field::Count, h, count - 1);
+}
+
+// The tree x, unless it is NONE, put at the end of the row of heap h, whose least item was m. Gives the least item.
+fn write_tree(s: &mut [u32], n: usize, h: u32, m: u32, x: u32) -> u32
+    requires { ⌜ TreeReady n (now s) h m x ⌝ }
+    ensures { λ r. ⌜ WritesTree n (now (s .entry)) h m x (now (s .exit)) r ⌝ }
+{
+    if x == NONE {
+        return m;
+    }
+    append(s, n, Owner::Row(h), x);
+    if m == NONE {
+        return x;
+    }
+    let pair = in_order(s, n, x, m);
+    pair.first
+}
+
+// The row of heap h written anew from the places, by ascending rank, with its minimum.
+fn write_row(s: &mut [u32], n: usize, h: u32, places: [u32; 17])
+    requires { ⌜ RowReady n (now s) h places ⌝ }
+    ensures { λ r. ⌜ WritesRow n (now (s .entry)) h places (now (s .exit)) ⌝ }
+{
+    put(s, n, Field::FirstTree, h, NONE);
+    put(s, n, Field::LastTree, h, NONE);
+    let mut m = NONE;
+    let mut r = 0;
+    while r < 17 {
+        let x = holder(&places, r);
+        m = write_tree(s, n, h, m, x);
+        r += 1;
+    }
+    put(s, n, Field::Minimum, h, m);
+}
+
+// Linking: the row of heap h has no two trees of one rank then.
+fn consolidate(s: &mut [u32], n: usize, h: u32, tally: Tally) -> Tally
+    requires { ⌜ ConsolidateReady n (now s) h (tally .links) ⌝ }
+    ensures { λ r. ⌜ Consolidates n (now (s .entry)) h (tally .links) (now (s .exit)) (r .links) ⌝ }
+    ensures { λ r. ⌜ r .cuts ≡ tally .cuts ⌝ }
+{
+    let linked = link_row(s, n, h, tally);
+    let places = linked.places;
+    write_row(s, n, h, places);
+    linked.tally
+}
+
+// The item that a call took out, its key, and the tally.
+pub struct Extracted {
+    pub item: u32,
+    pub key: u32,
+    pub tally: Tally,
+}
+
+// T: the minimum of heap h leaves, then linking follows.
+pub fn extract_min(s: &mut [u32], n: usize, h: u32, tally: Tally) -> Extracted
+    requires { ⌜ ExtractReady n (now s) h (tally .links) ⌝ }
+    ensures { λ r. ⌜ Performs (now (s .exit)) (tally .links) (r .item) (r .key) (r .tally .links)
+        (perform (decode n (now (s .entry))) (ExtractMin h)) ⌝ }
+    ensures { λ r. ⌜ r .tally .cuts ≡ tally .cuts ⌝ }
+{
+    let x = get(s, n, Field::Minimum, h);
+    let key = get(s, n, Field::Key, x);
+    remove_root(s, n, h, x);
+    let t = consolidate(s, n, h, tally);
+    Extracted {
+        item: x,
+        key,
+        tally: t,
+    }
+}

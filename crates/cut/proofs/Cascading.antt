@@ -1,0 +1,132 @@
+-- The loop of cascading cuts: what remains from here on gives the whole.
+use Prim.Native.Nat.{ℕ, zero, suc, _+_, _-_, _%_, _<_, _≤_}
+use mathlib.Core.Path.{_≡_, sym, ap, subst, _∙_}
+use mathlib.Core.Logic.{_≢_}
+use mathlib.Core.List.{List}
+use mathlib.Core.Bool.{cond}
+use native.Mathlib.Omega.{arith}
+use lib.Dec.{eqb}
+use borrow.Author.Tests.{ne-eqb}
+use Rattle.rules.specs.declared.Field.the-variants.{State}
+use Rattle.rules.specs.Forests.{Forests, none, parentOf, markOf, heapOf, setMark}
+use Rattle.rules.specs.Cut.{cut, root, unmarked, marked, standing, Cuts, cascadingCut}
+use Rattle.rules.specs.SetWord.{setWord}
+use Rattle.rules.specs.Words.{stateOf}
+use Rattle.rules.proofs.CutKeeps.{cut-disjoint}
+use Rattle.store.specs.Says.{Changes}
+use Rattle.store.specs.Families.{Holds}
+use Rattle.store.proofs.Scalars.{mark-holds}
+use Rattle.cut.specs.Ready.{Member, Cascaded}
+use Rattle.cut.proofs.Cutting.{member-item}
+
+-- After some cuts the forests are `here` and p lost a child; `left` bounds the cuts that may follow.
+pub record Going (n : ℕ) (w : List ℕ) (c m : ℕ → ℕ) (k : Cuts) (h p cuts left : ℕ) : Type 0 where
+  pub here : Forests
+  pub holds : Holds n w c m here none
+  pub member : Member here h p
+  pub goal-cuts : k .cuts ≡ cuts + (cascadingCut left (standing here p) h p here) .cuts
+  pub goal-forests : k .forests ≡ (cascadingCut left (standing here p) h p here) .forests
+
+pub going-start : {n : ℕ} {w : List ℕ} {c m : ℕ → ℕ} {t : Forests} {h x : ℕ} → Holds n w c m t none → Member t h x
+    → Going n w c m (cascadingCut (suc n) (standing t x) h x t) h x 0 (n + 1)
+going-start {n} {t = t} {h} {x} H M =
+    let e : n + 1 ≡ suc n = omega arith in
+    record {
+      here = t;
+      holds = H;
+      member = M;
+      goal-cuts = rw e (omega arith);
+      goal-forests = rw e;
+    }
+
+-- ---- how a parent stands
+
+root-standing : (t : Forests) (p : ℕ) → parentOf t p ≡ none → standing t p ≡ root
+unfolding standing
+root-standing t p e = rw e
+
+child-standing : (t : Forests) (p : ℕ) → parentOf t p ≢ none → standing t p ≡ cond (eqb (markOf t p) 0) unmarked marked
+unfolding standing
+child-standing t p e = rw (ne-eqb (parentOf t p) none e)
+
+-- the state of an item of heap h is odd where it is unmarked
+state-mark : (h mark : ℕ) → mark ≤ 1 → stateOf (suc h) mark % 2 ≡ 1 → mark ≡ 0
+unfolding stateOf
+state-mark h mark k e = omega arith
+
+state-marked : (h mark : ℕ) → mark ≤ 1 → stateOf (suc h) mark % 2 ≢ 1 → mark ≢ 0
+unfolding stateOf
+state-marked h mark k e z = e (omega arith)
+
+-- the parent is in the same heap
+after-cut : (t : Forests) (h p : ℕ) → Member t h p → parentOf t p ≢ none → Member (cut h p t) h (parentOf t p)
+unfolding cut
+after-cut t h p M ne =
+    record {
+      disjoint = cut-disjoint t (M .disjoint) h p (M .heap) ne;
+      heap = M .disjoint .up p (λ e. omega (arith, e, M .heap)) ne .1 ∙ M .heap;
+    }
+
+module _ {n : ℕ} {w : List ℕ} {c m : ℕ → ℕ} {k : Cuts} {h p cuts : ℕ} where
+  -- no cut may follow
+  pub going-end : (left : ℕ) → Going n w c m k h p cuts left → left ≡ 0 → Cascaded n w c m k cuts
+  unfolding cascadingCut
+  going-end zero G e =
+      record { holds = rw (G .goal-forests) (G .holds); cuts = omega (arith, G .goal-cuts) }
+  going-end (suc d) G e = absurd (omega arith)
+
+  -- p is a root
+  pub going-root : (left : ℕ) (G : Going n w c m k h p cuts left) → 0 < left → parentOf (G .here) p ≡ none
+      → Cascaded n w c m k cuts
+  unfolding cascadingCut
+  going-root zero G l e = absurd (omega arith)
+  going-root (suc d) G l e =
+      let r = root-standing (G .here) p e in
+      record {
+        holds = subst (λ t. Holds n w c m t none) (sym (rw r at (G .goal-forests))) (G .holds);
+        cuts = let z = rw r at (G .goal-cuts) in omega (arith, z);
+      }
+
+-- p is no root: its state says whether it has a mark
+module _ {n : ℕ} {w w′ : List ℕ} {c m : ℕ → ℕ} {k : Cuts} {h p cuts : ℕ} (v : ℕ) where
+  -- it gets one
+  pub going-mark : (left : ℕ) (G : Going n w c m k h p cuts left) → 0 < left → parentOf (G .here) p ≢ none
+      → v ≡ stateOf (heapOf (G .here) p) (markOf (G .here) p) → v % 2 ≡ 1 → Changes n w (setWord State p (v + 1)) w′
+      → Cascaded n w′ c m k cuts
+  unfolding cascadingCut stateOf
+  going-mark zero G l ne s e a = absurd (omega arith)
+  going-mark (suc d) G l ne s e a =
+      let i : v ≡ stateOf (suc h) (markOf (G .here) p) =
+      s ∙ ap (λ u. stateOf u (markOf (G .here) p)) (G .member .heap) in
+      let z : markOf (G .here) p ≡ 0 =
+      state-mark h (markOf (G .here) p) (G .member .disjoint .bit p) (rw (← i) e) in
+      let u : standing (G .here) p ≡ unmarked = child-standing (G .here) p ne ∙ rw z in
+      let H : Holds n w′ c m (setMark p 1 (G .here)) none =
+      mark-holds (G .holds) p (v + 1) 1 (member-item (G .holds) (G .member))
+      (rw (G .member .heap) (omega (arith, i, z))) a in
+      record {
+        holds = subst (λ t. Holds n w′ c m t none) (sym (rw u at (G .goal-forests))) H;
+        cuts = let y = rw u at (G .goal-cuts) in omega (arith, y);
+      }
+
+  -- it has one: after the cut its parent q lost a child
+  pub going-turn : (left q : ℕ) (G : Going n w c m k h p cuts left) → 0 < left → parentOf (G .here) p ≢ none
+      → v ≡ stateOf (heapOf (G .here) p) (markOf (G .here) p) → v % 2 ≢ 1 → q ≡ parentOf (G .here) p
+      → Holds n w′ c m (cut h p (G .here)) none → Going n w′ c m k h q (cuts + 1) (left - 1)
+  unfolding cascadingCut
+  going-turn zero q G l ne s e y H = absurd (omega arith)
+  going-turn (suc d) q G l ne s e y H =
+      let i : v ≡ stateOf (suc h) (markOf (G .here) p) =
+      s ∙ ap (λ u. stateOf u (markOf (G .here) p)) (G .member .heap) in
+      let z : markOf (G .here) p ≢ 0 =
+      state-marked h (markOf (G .here) p) (G .member .disjoint .bit p) (rw (← i) e) in
+      let u : standing (G .here) p ≡ marked =
+      child-standing (G .here) p ne ∙ rw (ne-eqb (markOf (G .here) p) 0 z) in
+      let f : suc d - 1 ≡ d = omega arith in
+      rw (f, y) (record {
+        here = cut h p (G .here);
+        holds = H;
+        member = after-cut (G .here) h p (G .member) ne;
+        goal-cuts = let x = rw u at (G .goal-cuts) in omega (arith, x);
+        goal-forests = rw u at (G .goal-forests);
+      })

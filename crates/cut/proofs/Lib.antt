@@ -1,0 +1,3 @@
+pub mod Cutting
+pub mod Cascading
+pub mod CutOut

@@ -1,0 +1,13 @@
+-- The spans of one place, as a range of span numbers: spans are sorted by the place that they leave.
+use Prim.Native.Nat.{ℕ, suc, _≤_, _<_}
+use mathlib.Core.List.{List}
+use lib.ListN.{length, getD}
+
+pub record Sorted (from : List ℕ) : Type 0 where
+  pub rising : (e : ℕ) → suc e < length from → getD from e 0 ≤ getD from (suc e) 0
+
+-- Span r is the lowest-numbered one that leaves place u or a higher one; r is the number of spans if none does.
+pub record FirstSpan (from : List ℕ) (u r : ℕ) : Type 0 where
+  pub within : r ≤ length from
+  pub below : (e : ℕ) → e < r → getD from e 0 < u
+  pub above : (e : ℕ) → r ≤ e → e < length from → u ≤ getD from e 0

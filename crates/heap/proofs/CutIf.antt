@@ -1,0 +1,82 @@
+-- An item cut if a test says so, on words that hold forests: one law for each way out.
+use Prim.Native.Nat.{ℕ, _<_}
+use mathlib.Core.Path.{_≡_, refl, sym, _∙_}
+use mathlib.Core.Logic.{_≢_}
+use mathlib.Core.List.{List}
+use mathlib.Core.Bool.{Bool, true, false, not, _&&_}
+use native.Mathlib.Omega.{arith}
+use borrow.Author.Tests.{ne-eqb}
+use Rattle.rules.specs.declared.Field.the-variants.{Key, Parent}
+use Rattle.rules.specs.Calls.{hasParent}
+use Rattle.rules.specs.Cut.{cutIf, cutOut}
+use Rattle.rules.specs.Forests.{Forests, none, parentOf}
+use Rattle.rules.specs.Order.{precedes}
+use Rattle.rules.specs.Words.{look}
+use Rattle.store.specs.Families.{Holds}
+use Rattle.store.proofs.Ready.{member}
+use Rattle.cut.specs.Ready.{Cascaded, Child, Member}
+use Rattle.cut.proofs.Cutting.{key-word, member-item, parent-word}
+use Rattle.consolidate.specs.Before.{comesBefore}
+
+-- a test that fails, and one that holds
+off : (b : Bool) → not b ≡ true → b ≡ false
+off true e = sym e
+off false e = refl
+
+on : (b : Bool) → not b ≡ false → b ≡ true
+on true e = refl
+on false e = sym e
+
+module _ {n : ℕ} {w : List ℕ} {c m : ℕ → ℕ} {t : Forests} {h i p : ℕ} (H : Holds n w c m t none) (M : Member t h i)
+    (e : p ≡ look n w Parent i) where
+  parent : p ≡ parentOf t i
+  parent = e ∙ parent-word H (member-item H M)
+
+  -- i is a root
+  pub root-kept : (test : Bool) → p ≡ none → Cascaded n w c m (cutIf (hasParent t i && test) h i t) 0
+  unfolding hasParent cutIf
+  root-kept test z =
+      let q : parentOf t i ≡ none = sym parent ∙ z in
+      rw q (record { holds = H; cuts = refl })
+
+  pub root-kept-child : p ≡ none → Cascaded n w c m (cutIf (hasParent t i) h i t) 0
+  unfolding hasParent cutIf
+  root-kept-child z =
+      let q : parentOf t i ≡ none = sym parent ∙ z in
+      rw q (record { holds = H; cuts = refl })
+
+  has : p ≢ none → hasParent t i ≡ true
+  unfolding hasParent
+  has z = rw (ne-eqb (parentOf t i) none (λ q. z (parent ∙ q)))
+
+  pub parent-inside : p ≢ none → p < n
+  parent-inside z =
+      let u = M .disjoint .up i (λ q. omega (arith, q, M .heap)) (λ q. z (parent ∙ q)) in
+      omega (arith, u .0, H .shape .heapN, parent)
+
+  pub child : p ≢ none → Child t h i
+  child z = record { member = M; child = λ q. z (parent ∙ q) }
+
+  -- the order of the words is that of the forests
+  order : p ≢ none → comesBefore (look n w Key) i p ≡ precedes (t .key) i (parentOf t i)
+  unfolding comesBefore precedes
+  order z =
+      rw (key-word H (member-item H M), key-word H (parent-inside z), parent)
+
+  -- i does not come before its parent
+  pub later-kept : {b : Bool} → p ≢ none → b ≡ comesBefore (look n w Key) i p → not b ≡ true
+      → Cascaded n w c m (cutIf (hasParent t i && precedes (t .key) i (parentOf t i)) h i t) 0
+  unfolding cutIf
+  later-kept {b} z d f = rw (has z, ← order z, ← d, off b f) (record { holds = H; cuts = refl })
+
+  -- it does, or the test is only that it has a parent
+  pub before-cut : {b : Bool} {w′ : List ℕ} {r : ℕ} → p ≢ none → b ≡ comesBefore (look n w Key) i p → not b ≡ false
+      → Cascaded n w′ c m (cutOut h i t) r
+      → Cascaded n w′ c m (cutIf (hasParent t i && precedes (t .key) i (parentOf t i)) h i t) r
+  unfolding cutIf
+  before-cut {b} z d f k = rw (has z, ← order z, ← d, on b f) k
+
+  pub child-cut : {w′ : List ℕ} {r : ℕ} → p ≢ none → Cascaded n w′ c m (cutOut h i t) r
+      → Cascaded n w′ c m (cutIf (hasParent t i) h i t) r
+  unfolding cutIf
+  child-cut z k = rw (has z) k

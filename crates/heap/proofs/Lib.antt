@@ -1,0 +1,13 @@
+pub mod LeastOfTwo
+pub mod SoundStore
+pub mod Entering
+pub mod JoiningHeaps
+pub mod InsertWords
+pub mod RefusalWords
+pub mod MovedHeaps
+pub mod FollowedRow
+pub mod MeldWords
+pub mod Answered
+pub mod CutIf
+pub mod Decreasing
+pub mod Deleting

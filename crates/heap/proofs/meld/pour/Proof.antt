@@ -1,0 +1,39 @@
+-- `heap::meld::pour` meets its contract.
+use borrow.Author.Needs.{needs}
+use mathlib.Core.Path.{sym, subst}
+use Rattle.store.specs.Siblings.{Link}
+use Rattle.heap.proofs.JoiningHeaps.{pour-changes}
+use Rattle.heap.proofs.meld.pour.Statement.{statement}
+use Rattle.heap.proofs.meld.pour.Tie as tie
+
+concat-requires : tie.Need-concat-requires
+concat-requires c κs =
+    let c3 = c .before .before .before in
+    let c6 = c3 .before .before .before in
+    record {
+      sized = c6 .pre .heaps .sized;
+      heap = c6 .pre .heaps .into;
+      last = c6 .pre .last;
+      first = subst (Link (c6 .args .n)) (sym (c3 .get .ensures)) (c6 .pre .first);
+    }
+
+returns : tie.Need-returns
+returns c =
+    let c2 = c .before .before in
+    let c6 = c2 .before .before .before .before in
+    let c8 = c6 .before .before in
+    let c10 = c8 .before .before in
+    let c13 = c10 .before .before .before in
+    pour-changes (c13 .pre .heaps) (c10 .get .ensures) (c8 .get2 .ensures) (c6 .concat .ensures)
+    (c2 .empty-heap .ensures)
+
+pub pour-spec : {M : Type 1} → statement M
+pour-spec =
+    tie.close
+    (tie.spec
+    (λ c κs. search needs)
+    (λ c κs. search needs)
+    concat-requires
+    (λ c κs. search needs)
+    (λ c. search needs)
+    returns)

@@ -1,0 +1,32 @@
+-- `heap::perform::shown` meets its contract.
+use borrow.Author.Needs.{needs}
+use mathlib.Core.Path.{sym, subst}
+use Prim.Native.Nat.{_<_}
+use Rattle.heap.proofs.SoundStore.{sound-says}
+use Rattle.heap.proofs.Answered.{minimum-item, shown-performed}
+use Rattle.heap.proofs.perform.shown.Statement.{statement}
+use Rattle.heap.proofs.perform.shown.Tie as tie
+
+get-requires : tie.Need-get-requires
+get-requires c κs =
+    let c4 = c .before .before .before .before in
+    record {
+      sized = sound-says (c4 .pre .allowed .store) .sized;
+      inside = subst (λ i. i < c4 .args .n) (sym (c .before .find-min .ensures)) (minimum-item (c4 .pre .allowed));
+    }
+
+returns : tie.Need-returns
+returns c =
+    let c3 = c .before .before .before in
+    let c6 = c3 .before .before .before in
+    shown-performed (c6 .pre) (c3 .find-min .ensures) (c .before .get .ensures) (c .answer .ensures)
+
+pub shown-spec : {M : Type 1} → statement M
+shown-spec =
+    tie.close
+    (tie.spec
+    (λ c κs. c .before .before .pre .allowed)
+    get-requires
+    (λ c κs. tt)
+    (λ c. search needs)
+    returns)

@@ -1,0 +1,6 @@
+pub mod Lesser
+pub mod Allowed
+pub mod Performed
+pub mod Entered
+pub mod HeapsJoined
+pub mod Moving

@@ -1,0 +1,34 @@
+-- The contract of a call on the words, refused or done.
+use Prim.Native.Nat.{ℕ, _+_, _≤_}
+use mathlib.Core.Path.{_≡_}
+use mathlib.Core.List.{List}
+use Rattle.rules.specs.declared.Call.{Call}
+use Rattle.rules.specs.declared.Line.the-variants.{Yields}
+use Rattle.rules.specs.Answers.{answer}
+use Rattle.rules.specs.Words.{Sound, encode, forestsOf}
+use Rattle.rules.specs.declared.Tally.{Tally}
+use Rattle.heap.specs.declared.Reply.{Reply}
+
+-- A sound store, and a tally with room for one call: it makes at most 41,000 links and cuts (crate rules,
+-- proofs/ReplyBounds).
+pub record Ready (w : List ℕ) (t : Tally) : Type 0 where
+  pub sound : Sound w
+  pub links : t .links + 41000 ≤ 4294967295
+  pub cuts : t .cuts + 41000 ≤ 4294967295
+
+-- The answer is the rules' answer, counts added to the tally, and the words are those of the rules' next forests.
+pub record Performed (w : List ℕ) (c : Call) (t : Tally) (r : Reply) (w′ : List ℕ) : Type 0 where
+  pub code : r .code ≡ (answer (forestsOf w) (Yields c)) .reply .code
+  pub item : r .item ≡ (answer (forestsOf w) (Yields c)) .reply .item
+  pub key : r .key ≡ (answer (forestsOf w) (Yields c)) .reply .key
+  pub links : r .tally .links ≡ t .links + (answer (forestsOf w) (Yields c)) .reply .links
+  pub cuts : r .tally .cuts ≡ t .cuts + (answer (forestsOf w) (Yields c)) .reply .cuts
+  pub words : w′ ≡ encode ((answer (forestsOf w) (Yields c)) .next)
+
+-- an answer with its numbers
+pub record Answers (code item key : ℕ) (t : Tally) (r : Reply) : Type 0 where
+  pub isCode : r .code ≡ code
+  pub isItem : r .item ≡ item
+  pub isKey : r .key ≡ key
+  pub links : r .tally .links ≡ t .links
+  pub cuts : r .tally .cuts ≡ t .cuts

@@ -1,0 +1,78 @@
+// Joining two heaps.
+ghost use mathlib.Core.Path.{_≡_};
+ghost use Rattle.rules.specs.declared.Call.the-variants.{Meld};
+ghost use Rattle.rules.specs.Calls as calls;
+ghost use Rattle.rules.specs.Words.{encode, forestsOf};
+ghost use Rattle.store.specs.Says.{Changes};
+ghost use Prim.Native.Nat.{_<_};
+ghost use Rattle.heap.specs.Allowed.{Allowed};
+ghost use Rattle.heap.specs.HeapsJoined.{poured, heapsJoined, movedState, rehomed, PourReady, JoinHeapsReady, RehomeReady};
+use super::lesser::lesser_of;
+use rules::Field;
+use store::concat;
+use store::empty_heap;
+use store::get;
+use store::put;
+
+// b's row follows a's, and b is empty.
+fn pour(s: &mut [u32], n: usize, a: u32, b: u32)
+    requires { ⌜ PourReady n (now s) a b ⌝ }
+    ensures { λ r. ⌜ Changes n (now (s .entry)) (poured a b) (now (s .exit)) ⌝ }
+{
+    let x = get(s, n, Field::FirstTree, b);
+    let y = get(s, n, Field::LastTree, b);
+    concat(s, n, a, x, y);
+    empty_heap(s, n, b);
+}
+
+// The words of the two heaps: a has the items of both, and the lesser of their minima.
+fn join_heaps(s: &mut [u32], n: usize, a: u32, b: u32)
+    requires { ⌜ JoinHeapsReady n (now s) a b ⌝ }
+    ensures { λ r. ⌜ Changes n (now (s .entry)) (heapsJoined a b) (now (s .exit)) ⌝ }
+{
+    let c = get(s, n, Field::Count, a);
+    let d = get(s, n, Field::Count, b);
+    let p = get(s, n, Field::Minimum, a);
+    let q = get(s, n, Field::Minimum, b);
+    let least = lesser_of(s, n, p, q);
+    pour(s, n, a, b);
+    put(s, n, Field::Minimum, a, least);
+    put(s, n, Field::Count, a, c + d);
+}
+
+// The state word of an item, once the items of heap b are heap a's.
+fn moved_state(x: u32, a: u32, b: u32) -> u32
+    requires { ⌜ a < 8 ⌝ }
+    requires { ⌜ b < 8 ⌝ }
+    ensures { λ r. ⌜ r ≡ movedState a b x ⌝ }
+{
+    if x == 1 + 2 * b {
+        return 1 + 2 * a;
+    }
+    if x == 2 + 2 * b {
+        return 2 + 2 * a;
+    }
+    x
+}
+
+// The state words of b's items, one pass over all.
+fn rehome(s: &mut [u32], n: usize, a: u32, b: u32)
+    requires { ⌜ RehomeReady n (now s) a b ⌝ }
+    ensures { λ r. ⌜ Changes n (now (s .entry)) (rehomed a b) (now (s .exit)) ⌝ }
+{
+    let m = n as u32;
+    for i in 0..m {
+        let x = get(s, n, Field::State, i);
+        let y = moved_state(x, a, b);
+        put(s, n, Field::State, i, y);
+    }
+}
+
+// J: b's row follows a's, and b is empty and usable again.
+pub fn meld(s: &mut [u32], n: usize, a: u32, b: u32)
+    requires { ⌜ Allowed (now s) n (Meld a b) ⌝ }
+    ensures { λ r. ⌜ now (s .exit) ≡ encode (calls.meld a b (forestsOf (now (s .entry)))) ⌝ }
+{
+    join_heaps(s, n, a, b);
+    rehome(s, n, a, b);
+}

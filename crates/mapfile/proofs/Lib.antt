@@ -1,0 +1,7 @@
+-- The proofs of the map reader.
+pub mod ByHand
+pub mod Variants
+pub mod LineAt
+pub mod Counting
+pub mod Filling
+pub mod Ways

@@ -1,0 +1,22 @@
+-- `mapfile::line_numbers` meets its contract.
+use borrow.Author.Needs.{needs}
+use Rattle.mapfile.specs.Lines.{numbersOf}
+use Rattle.mapfile.proofs.line_numbers.Statement.{statement}
+use Rattle.mapfile.proofs.line_numbers.Tie as tie
+use Rattle.mapfile.proofs.line_numbers.Reads as reads
+use Rattle.mapfile.proofs.line_numbers.Lts as lts
+use Rattle.text.proofs.number_at.Reads as number-at-reads
+use Rattle.text.proofs.numbers_from.Reads as numbers-from-reads
+
+number-at-requires : tie.Need-number-at-requires
+number-at-requires c κs = search needs
+
+numbers-from-requires : tie.Need-numbers-from-requires
+numbers-from-requires c κs = search needs
+
+returns : tie.Need-returns
+unfolding numbersOf
+returns c = rw (← c .before .number-at .ensures) (c .numbers-from .ensures)
+
+pub line-numbers-spec : {M : Type 1} → statement M
+line-numbers-spec = tie.close (tie.spec number-at-requires numbers-from-requires returns)

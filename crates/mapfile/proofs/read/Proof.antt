@@ -1,0 +1,99 @@
+-- `mapfile::read` meets its contract: one law for each way out.
+use native.Mathlib.Omega.{arith}
+use Rattle.mapfile.proofs.LineAt.{line-within}
+use Rattle.mapfile.proofs.Ways.{refuses, as-read, too-long, bad-head, good-head}
+use borrow.Author.Needs.{needs}
+use Rattle.mapfile.proofs.read.Statement.{statement}
+use Rattle.mapfile.proofs.read.Tie as tie
+use Rattle.mapfile.proofs.read.Reads as reads
+use Rattle.mapfile.proofs.read.Lts as lts
+use Rattle.mapfile.proofs.line_numbers.Reads as line-numbers-reads
+use Rattle.mapfile.proofs.read_spans.Reads as read-spans-reads
+use Rattle.mapfile.proofs.refuse.Reads as refuse-reads
+use Rattle.text.proofs.line_end.Reads as line-end-reads
+
+refuse-requires : tie.Need-refuse-requires
+refuse-requires c κs = search needs
+
+returns : tie.Need-returns
+returns c = refuses 21 (too-long _ _ _ _ (c .before .if1 .taken)) (c .refuse .ensures)
+
+line-end-requires : tie.Need-line-end-requires
+line-end-requires c κs = search needs
+
+sub-line-numbers : tie.Need-sub-line-numbers
+sub-line-numbers c = search needs
+
+part-line-numbers-start : tie.Need-part-line-numbers-start
+part-line-numbers-start c = search needs
+
+part-line-numbers-end : tie.Need-part-line-numbers-end
+part-line-numbers-end c = let e = line-within _ _ _ (c .line-end .ensures) (omega arith) in search needs
+
+line-numbers-requires : tie.Need-line-numbers-requires
+line-numbers-requires c κs = search needs
+
+enum-known-head : tie.Need-enum-known-head
+enum-known-head c = search needs
+
+refuse-requires-2 : tie.Need-refuse-requires-2
+refuse-requires-2 c κs = search needs
+
+returns-2 : tie.Need-returns-2
+returns-2 c =
+    let n = c .before .before in
+    let w = n .before .before in
+    refuses 21
+    (bad-head _ _ _ _ (w .before .if1 .left) _ (w .line-end .ensures) _ (n .line-numbers .ensures)
+    (c .before .match .keys2))
+    (c .refuse2 .ensures)
+
+add-read-spans : tie.Need-add-read-spans
+add-read-spans c =
+    let w = c .before .before .before .before .before in
+    let e = line-within _ _ _ (w .line-end .ensures) (omega arith) in
+    search needs
+
+read-spans-requires : tie.Need-read-spans-requires
+read-spans-requires c κs = search needs
+
+same-length : tie.Need-same-length
+same-length c = search needs
+
+same-length-2 : tie.Need-same-length-2
+same-length-2 c = search needs
+
+same-length-3 : tie.Need-same-length-3
+same-length-3 c = search needs
+
+returns-3 : tie.Need-returns-3
+returns-3 c =
+    let r = c .before .before .before .before .before .before in
+    let h = r .before .before .before .before .before in
+    let n = h .before .before in
+    let w = n .before .before in
+    as-read
+    (good-head _ _ _ _ (w .before .if1 .left) _ (w .line-end .ensures) _ _ _ (n .line-numbers .ensures)
+    (h .head .given .1))
+    (r .read-spans .ensures)
+
+pub read-spec : {M : Type 1} → statement M
+read-spec =
+    tie.close
+    (tie.spec
+    refuse-requires
+    returns
+    line-end-requires
+    sub-line-numbers
+    part-line-numbers-start
+    part-line-numbers-end
+    line-numbers-requires
+    enum-known-head
+    refuse-requires-2
+    returns-2
+    add-read-spans
+    read-spans-requires
+    same-length
+    same-length-2
+    same-length-3
+    returns-3)

@@ -1,0 +1,40 @@
+-- Map texts worked by hand: the map of the scope paper, and the refusals.
+use Prim.Native.Nat.{ℕ}
+use mathlib.Core.Path.{_≡_}
+use mathlib.Core.List.{List, [], _∷_, _++_, map}
+use lib.ListN.{replicate}
+use Rattle.mapfile.specs.Read.{Reading, refused, readMap}
+
+-- `3,0` `0,1,7` `0,2,20` `1,2,5`, each with LF
+unfoldable pub paperText : List ℕ
+paperText =
+    (51 ∷ 44 ∷ 48 ∷ 10 ∷ []) ++ (48 ∷ 44 ∷ 49 ∷ 44 ∷ 55 ∷ 10 ∷ []) ++ (48 ∷ 44 ∷ 50 ∷ 44 ∷ 50 ∷ 48 ∷ 10 ∷ [])
+    ++ (49 ∷ 44 ∷ 50 ∷ 44 ∷ 53 ∷ 10 ∷ [])
+
+-- read into lists of n words, all nines
+unfoldable pub readOnto : ℕ → List ℕ → Reading
+readOnto n text = readMap text (replicate n 9) (replicate n 9) (replicate n 9)
+
+-- nothing; `3,0` and an empty line; `3,0` and `0,1`; `3`; `3,0` with CR
+unfoldable pub malformed : List (List ℕ)
+malformed =
+    [] ∷ (51 ∷ 44 ∷ 48 ∷ 10 ∷ 10 ∷ []) ∷ (51 ∷ 44 ∷ 48 ∷ 10 ∷ 48 ∷ 44 ∷ 49 ∷ []) ∷ (51 ∷ []) ∷
+    (51 ∷ 44 ∷ 48 ∷ 13 ∷ 10 ∷ []) ∷ []
+
+pub record WorkedTexts : Type 0 where
+  -- a fourth word is left as it was
+  pub paper :
+      readOnto 4 paperText
+      ≡ record {
+        answer = record { code = 0; places = 3; start = 0; spans = 3 };
+        from = 0 ∷ 0 ∷ 1 ∷ 9 ∷ [];
+        to = 1 ∷ 2 ∷ 2 ∷ 9 ∷ [];
+        loss = 7 ∷ 20 ∷ 5 ∷ 9 ∷ [];
+      }
+  -- no room for the third span
+  pub short : readOnto 2 paperText ≡ refused 16 (9 ∷ 9 ∷ []) (9 ∷ 9 ∷ []) (9 ∷ 9 ∷ [])
+  pub uneven :
+      readMap paperText (9 ∷ 9 ∷ 9 ∷ []) (9 ∷ []) (9 ∷ 9 ∷ 9 ∷ [])
+      ≡ refused 16 (9 ∷ 9 ∷ 9 ∷ []) (9 ∷ []) (9 ∷ 9 ∷ 9 ∷ [])
+  -- 21 comes before 16
+  pub refusals : map (readOnto 0) malformed ≡ replicate 5 (refused 21 [] [] [])

@@ -1,0 +1,4 @@
+-- The definitions of the map reader.
+pub mod Lines
+pub mod Read
+pub mod ByHand

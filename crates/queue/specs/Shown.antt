@@ -1,0 +1,18 @@
+-- What the program prints of a run: the answers, or the code alone and LF.
+use Prim.Native.Nat.{ℕ, _≤_}
+use mathlib.Core.Path.{_≡_}
+use mathlib.Core.List.{List}
+use mathlib.Core.Bool.{cond}
+use lib.ListN.{length, take}
+use lib.Dec.{eqb}
+use Rattle.text.specs.Decimal.{field}
+use Rattle.text.specs.Lines.{lineFeed}
+use Rattle.sheet.specs.Runs.{Run}
+
+unfoldable pub shown : Run → List ℕ
+shown run = cond (eqb (run .code) 0) (take (run .bytes) (run .out)) (field (run .code) lineFeed)
+
+-- the first r bytes of the output are what is printed
+pub record Shows (run : Run) (r : ℕ) (out : List ℕ) : Type 0 where
+  pub bytes : take r out ≡ shown run
+  pub within : r ≤ length out

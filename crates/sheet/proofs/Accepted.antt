@@ -1,0 +1,17 @@
+-- The check of a kept store says yes exactly of sound words.
+use Prim.Native.Nat.{ℕ}
+use mathlib.Core.Path.{_≡_}
+use mathlib.Core.List.{List}
+use mathlib.Core.Bool.{true}
+use Rattle.rules.specs.Words.{Sound}
+use Rattle.audit.specs.Check.{soundWords}
+use Rattle.audit.specs.Theorems.{SoundExact}
+use Rattle.audit.proofs.SoundExact.{soundExact}
+
+pub accepted-sound : (w : List ℕ) → soundWords w ≡ true → Sound w
+unfolding SoundExact
+accepted-sound w = soundExact w .0
+
+pub sound-accepted : (w : List ℕ) → Sound w → soundWords w ≡ true
+unfolding SoundExact
+sound-accepted w = soundExact w .1

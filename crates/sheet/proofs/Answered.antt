@@ -1,0 +1,76 @@
+-- The two ways to answer a line: it yields no call, or its call is performed.
+use Prim.Native.Nat.{ℕ, _+_, _≤_}
+use mathlib.Core.Path.{_≡_, sym, ap, _∙_}
+use mathlib.Core.List.{List}
+use native.Mathlib.Omega.{arith}
+use lib.ListN.{length}
+use Rattle.rules.specs.declared.Answer.{Answer}
+use Rattle.rules.specs.declared.Call.{Call}
+use Rattle.rules.specs.declared.Line.{Line}
+use Rattle.rules.specs.declared.Line.the-variants.{NoCall, Yields}
+use Rattle.rules.specs.Answers.{answer, refused}
+use Rattle.rules.specs.Words.{encode, forestsOf}
+use Rattle.rules.proofs.ReplyBounds.{answer-small}
+use Rattle.rules.proofs.SoundWords.{sound-forests, sound-words}
+use Rattle.heap.specs.declared.Reply.{Reply}
+use Rattle.heap.specs.Performed.{Performed, Ready}
+use Rattle.text.specs.Output.{Wrote}
+use Rattle.sheet.specs.Promises.{Answerable, Answered}
+use Rattle.sheet.specs.Parse.{lineOf}
+use Rattle.sheet.specs.Print.{answerRow}
+use Rattle.sheet.proofs.InRange.{line-range}
+use Rattle.sheet.proofs.Printed.{row-32}
+
+abbrev pub six : Answer
+six = record { code = 6; item = 0; key = 0; links = 0; cuts = 0 }
+
+abbrev pub answerOf : Reply → Answer
+answerOf p =
+    record { code = p .code; item = p .item; key = p .key; links = p .tally .links; cuts = p .tally .cuts }
+
+-- of a call that starts with an empty tally, the reply is the rules' reply
+pub reply-is : {w w′ : List ℕ} {c : Call} {p : Reply} → Performed w c (record { links = 0; cuts = 0 }) p w′
+    → answerOf p ≡ (answer (forestsOf w) (Yields c)) .reply
+reply-is {w} {w′} {c} {p} P =
+    let links : p .tally .links ≡ (answer (forestsOf w) (Yields c)) .reply .links = omega (arith, P .links) in
+    let cuts : p .tally .cuts ≡ (answer (forestsOf w) (Yields c)) .reply .cuts = omega (arith, P .cuts) in
+    rw (P .code, P .item, P .key, links, cuts)
+
+module _ {w out : List ℕ} {at : ℕ} (A : Answerable w out at) where
+  pub ready : Ready w (record { links = 0; cuts = 0 })
+  ready = record { sound = A .sound; links = omega arith; cuts = omega arith }
+
+  module _ (line : List ℕ) where
+    abbrev reply : Answer
+    reply = (answer (forestsOf w) (lineOf line)) .reply
+
+    -- an answer has room
+    pub fits : (a : Answer) → a ≡ reply → at + length (answerRow a) ≤ length out
+    fits a e =
+        let short : length (answerRow reply) ≤ 32 =
+        row-32 reply (answer-small (forestsOf w) (sound-forests w (A .sound)) (lineOf line) (line-range line)) in
+        rw e (omega (arith, A .room))
+
+    module _ (e : lineOf line ≡ NoCall) where
+      pub six-reply : six ≡ reply
+      unfolding answer refused
+      six-reply = ap (λ (l : Line). (answer (forestsOf w) l) .reply) (sym e)
+
+      -- and the forests stay
+      none-next : (answer (forestsOf w) (lineOf line)) .next ≡ forestsOf w
+      unfolding answer refused
+      none-next = rw e
+
+      pub answered-none : {out′ : List ℕ} {r : ℕ} → Wrote out at (answerRow six) out′ r
+          → Answered w out at line r w out′
+      answered-none v =
+          record { words = sound-words w (A .sound) ∙ ap encode (sym none-next); wrote = rw (← six-reply) v }
+
+    module _ {w′ : List ℕ} {c : Call} {p : Reply} (e : lineOf line ≡ Yields c)
+        (P : Performed w c (record { links = 0; cuts = 0 }) p w′) where
+      pub call-reply : answerOf p ≡ reply
+      call-reply = reply-is P ∙ ap (λ (l : Line). (answer (forestsOf w) l) .reply) (sym e)
+
+      pub answered-call : {out′ : List ℕ} {r : ℕ} → Wrote out at (answerRow (answerOf p)) out′ r
+          → Answered w out at line r w′ out′
+      answered-call v = record { words = rw e (P .words); wrote = rw (← call-reply) v }

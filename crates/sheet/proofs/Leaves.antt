@@ -1,0 +1,120 @@
+-- The ways that a run ends, against the definitions of the runs.
+use Prim.Native.Nat.{ℕ, zero, suc, _*_, _≤_}
+use mathlib.Core.Path.{_≡_, refl, sym, ap, _∙_}
+use mathlib.Core.List.{List}
+use mathlib.Core.Bool.{true, false}
+use native.Mathlib.Omega.{arith}
+use lib.ListN.{length}
+use Rattle.rules.specs.Answers.{answers}
+use Rattle.rules.specs.Forests.{Forests, empty}
+use Rattle.rules.specs.WellFormed.{WellFormed}
+use Rattle.rules.specs.Words.{Sound, encode, forestsOf, itemsIn}
+use Rattle.rules.proofs.EmptyForests.{emptyWellFormed}
+use Rattle.rules.proofs.SoundWords.{forests-encode, sound-encode, sound-forests}
+use Rattle.audit.specs.Check.{soundWords}
+use Rattle.store.specs.Says.{Sized}
+use Rattle.text.specs.Lines.{lines}
+use Rattle.sheet.specs.declared.Checked.{Checked}
+use Rattle.sheet.specs.declared.Ran.{Ran}
+use Rattle.sheet.specs.Parse.{linesOf}
+use Rattle.sheet.specs.Print.{printed}
+use Rattle.sheet.specs.Promises.{Limited, RanLines, Runnable}
+use Rattle.sheet.specs.Runs.{Leaves, Run, doneRun, freshRun, keptRun, limitCode, refusedRun, unlessLimit}
+use Rattle.sheet.proofs.Accepted.{accepted-sound}
+use Rattle.sheet.proofs.InRange.{lines-range}
+use Rattle.sheet.proofs.Limits.{Within, lines-length, within}
+use Rattle.sheet.proofs.Printed.{printed-32}
+use Rattle.sheet.proofs.Runs.{fresh-done, kept-done}
+
+abbrev refusal : ℕ → Ran
+refusal code = record { code = code; lines = 0; bytes = 0 }
+
+-- the bytes that the lines took
+ran-short : {w sheet out w′ out′ : List ℕ} {r : ℕ} → Sound w → RanLines w sheet out r w′ out′
+    → r ≤ 32 * length (linesOf sheet)
+ran-short {w} {sheet} S R =
+    omega (arith, R .wrote .next, printed-32 (forestsOf w) (sound-forests w S) (linesOf sheet) (lines-range sheet))
+
+-- the lines answered from the forests s on
+ran-all : {w sheet out w′ out′ : List ℕ} {r : ℕ} (s : Forests) → forestsOf w ≡ s → RanLines w sheet out r w′ out′
+    → Leaves (doneRun s (linesOf sheet) out) (record { code = 0; lines = length (linesOf sheet); bytes = r }) w′ out′
+unfolding doneRun
+ran-all {w} {sheet} {out} {w′} {out′} {r} s e R =
+    let n : r ≡ length (printed (answers (forestsOf w) (linesOf sheet))) = omega (arith, R .wrote .next) in
+    rw (← e)
+    (record { sameCode = refl; sameLines = refl; sameBytes = n; sameStore = R .words; sameOut = R .wrote .left })
+
+limit-met : (c : ℕ) (store out : List ℕ) (run : Run) → (c ≡ 0 → ⊥)
+    → Leaves (unlessLimit c store out run) (refusal c) store out
+unfolding unlessLimit refusedRun
+limit-met zero store out run n = absurd (n refl)
+limit-met (suc k) store out run n =
+    record { sameCode = refl; sameLines = refl; sameBytes = refl; sameStore = refl; sameOut = refl }
+
+module _ {store sheet out : List ℕ} {l : Checked} (L : Limited store sheet out l) where
+  -- beyond a limit
+  module _ (n : l .code ≡ 0 → ⊥) where
+    pub fresh-refused : Leaves (freshRun store sheet out) (refusal (l .code)) store out
+    unfolding freshRun
+    fresh-refused = rw (← L .code) (limit-met (l .code) store out _ n)
+
+    pub kept-refused : Leaves (keptRun store sheet out) (refusal (l .code)) store out
+    unfolding keptRun
+    kept-refused = rw (← L .code) (limit-met (l .code) store out _ n)
+
+  -- within the limits
+  module _ (z : l .code ≡ 0) where
+    none : limitCode store sheet out ≡ 0
+    none = sym (L .code) ∙ z
+
+    limits : Within store sheet out
+    limits = within store sheet out none
+
+    pub sized : Sized (l .items) store
+    sized = rw (L .items z) (record { size = limits .size; small = limits .small })
+
+    runnable : (w : List ℕ) → Sound w → Runnable w sheet out
+    runnable w S = record { sound = S; room = limits .room }
+
+    bytes-fit : {w w′ out′ : List ℕ} {r : ℕ} → Sound w → RanLines w sheet out r w′ out′ → r ≤ 64000
+    bytes-fit S R = omega (arith, ran-short S R, limits .few, lines-length sheet)
+
+    -- a fresh run, on the words of the empty store
+    module _ {w : List ℕ} (e : w ≡ encode (empty (l .items))) where
+      formed : WellFormed (empty (l .items))
+      formed = emptyWellFormed (l .items) (sized .small)
+
+      empty-sound : Sound w
+      empty-sound = rw e (sound-encode (empty (l .items)) formed)
+
+      pub fresh-runnable : Runnable w sheet out
+      fresh-runnable = runnable w empty-sound
+
+      module _ {w′ out′ : List ℕ} {r : ℕ} (R : RanLines w sheet out r w′ out′) where
+        pub fresh-fits : r ≤ 64000
+        fresh-fits = bytes-fit empty-sound R
+
+        pub fresh-ran : Leaves (freshRun store sheet out) (record { code = 0; lines = l .lines; bytes = r }) w′ out′
+        fresh-ran =
+            let f : forestsOf w ≡ empty (itemsIn store) =
+            ap forestsOf e ∙ forests-encode (empty (l .items)) formed ∙ ap empty (L .items z) in
+            rw (fresh-done store sheet out none, L .lines z) (ran-all (empty (itemsIn store)) f R)
+
+    -- a kept run
+    pub unsound : soundWords store ≡ false → Leaves (keptRun store sheet out) (refusal 5) store out
+    unfolding keptRun unlessLimit refusedRun
+    unsound u =
+        rw (none, u)
+        (record { sameCode = refl; sameLines = refl; sameBytes = refl; sameStore = refl; sameOut = refl })
+
+    module _ (t : soundWords store ≡ true) where
+      pub kept-runnable : Runnable store sheet out
+      kept-runnable = runnable store (accepted-sound store t)
+
+      module _ {w′ out′ : List ℕ} {r : ℕ} (R : RanLines store sheet out r w′ out′) where
+        pub kept-fits : r ≤ 64000
+        kept-fits = bytes-fit (accepted-sound store t) R
+
+        pub kept-ran : Leaves (keptRun store sheet out) (record { code = 0; lines = l .lines; bytes = r }) w′ out′
+        kept-ran =
+            rw (kept-done store sheet out none (accepted-sound store t), L .lines z) (ran-all (forestsOf store) refl R)

@@ -1,0 +1,15 @@
+pub mod Booleans
+pub mod Accepted
+pub mod InRange
+pub mod Printed
+pub mod EmptyLine
+pub mod RowRoom
+pub mod Answered
+pub mod LineFound
+pub mod RanLines
+pub mod Limits
+pub mod Runs
+pub mod Leaves
+pub mod FreshRuns
+pub mod Continuation
+pub mod Histories

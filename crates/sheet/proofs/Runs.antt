@@ -1,0 +1,79 @@
+-- Runs that are done: from well-formed forests, what a run of one part and then of the other does.
+use Prim.Native.Nat.{ℕ, _*_, _≤_}
+use mathlib.Core.Path.{_≡_, refl, sym, ap, _∙_}
+use mathlib.Core.List.{List, [], _∷_, _++_, map}
+use mathlib.Core.Bool.{true}
+use native.Mathlib.Omega.{arith}
+use lib.ListN.{length, take, length-append}
+use lib.Seq.{sets, sets-eq, take-append-seam}
+use Rattle.rules.specs.declared.Line.{Line}
+use Rattle.rules.specs.Answers.{after, answers}
+use Rattle.rules.specs.Forests.{Forests, empty}
+use Rattle.rules.specs.WellFormed.{WellFormed}
+use Rattle.rules.specs.Words.{Sound, encode, forestsOf, itemsIn}
+use Rattle.rules.proofs.Answers.{AllInRange, after-append, after-well-formed}
+use Rattle.text.specs.Lines.{closed, lines}
+use Rattle.text.proofs.Lines.{lines-append}
+use Rattle.sheet.specs.Parse.{lineOf, linesOf}
+use Rattle.sheet.specs.Print.{printed}
+use Rattle.sheet.specs.Runs.{doneRun, freshRun, keptRun, limitCode, unlessLimit}
+use Rattle.sheet.specs.Theorems.{SameAs}
+use Rattle.sheet.proofs.Accepted.{sound-accepted}
+use Rattle.sheet.proofs.InRange.{lines-range}
+use Rattle.sheet.proofs.Limits.{lines-length, within}
+use Rattle.sheet.proofs.Printed.{printed-32, printed-after}
+
+pub fresh-done : (store sheet out : List ℕ) → limitCode store sheet out ≡ 0
+    → freshRun store sheet out ≡ doneRun (empty (itemsIn store)) (linesOf sheet) out
+unfolding freshRun unlessLimit
+fresh-done store sheet out e = rw e
+
+pub kept-done : (store sheet out : List ℕ) → limitCode store sheet out ≡ 0 → Sound store
+    → keptRun store sheet out ≡ doneRun (forestsOf store) (linesOf sheet) out
+unfolding keptRun unlessLimit
+kept-done store sheet out e S = rw (e, sound-accepted store S)
+
+-- what a done run wrote
+pub wrote : (s : Forests) → WellFormed s → (ls : List Line) → AllInRange ls → (out : List ℕ)
+    → 32 * length ls ≤ length out
+    → take (length (printed (answers s ls))) (sets out 0 (printed (answers s ls))) ≡ printed (answers s ls)
+wrote s W ls r out k =
+    rw (sets-eq (printed (answers s ls)) out 0 (omega (arith, printed-32 s W ls r)))
+    (take-append-seam (printed (answers s ls)) _)
+
+map-append : (f : List ℕ → Line) (a b : List (List ℕ)) → map f (a ++ b) ≡ map f a ++ map f b
+map-append f [] b = refl
+map-append f (x ∷ a) b = ap (λ r. f x ∷ r) (map-append f a b)
+
+lines-of-append : (a b : List ℕ) → closed a ≡ true → linesOf (a ++ b) ≡ linesOf a ++ linesOf b
+unfolding linesOf
+lines-of-append a b c = rw (lines-append a b c) (map-append lineOf (lines a) (lines b))
+
+pub run-room : (store sheet out : List ℕ) → limitCode store sheet out ≡ 0 → 32 * length (linesOf sheet) ≤ length out
+run-room store sheet out e = omega (arith, within store sheet out e .room, lines-length sheet)
+
+-- A and then B from the forests that A left is A followed by B.
+pub parts : (s : Forests) → WellFormed s → (a b outA outB outAB : List ℕ) → closed a ≡ true
+    → 32 * length (linesOf a) ≤ length outA → 32 * length (linesOf b) ≤ length outB
+    → 32 * length (linesOf (a ++ b)) ≤ length outAB
+    → SameAs (doneRun s (linesOf a) outA) (doneRun (after s (linesOf a)) (linesOf b) outB)
+    (doneRun s (linesOf (a ++ b)) outAB)
+unfolding doneRun
+parts s W a b outA outB outAB c ka kb kab =
+    let e : linesOf (a ++ b) ≡ linesOf a ++ linesOf b = lines-of-append a b c in
+    let t : Forests = after s (linesOf a) in
+    let T : WellFormed t = after-well-formed s W (linesOf a) (lines-range a) in
+    let p = printed-after s (linesOf a) (linesOf b) in
+    record {
+      codes = (refl, refl, refl);
+      lines = rw e (sym (length-append (linesOf a) (linesOf b)));
+      bytes = rw (e, p) (sym (length-append (printed (answers s (linesOf a))) (printed (answers t (linesOf b)))));
+      store = sym (ap (λ ls. encode (after s ls)) e ∙ ap encode (after-append s (linesOf a) (linesOf b)));
+      answers = rw (
+        wrote s W (linesOf a) (lines-range a) outA ka,
+        wrote t T (linesOf b) (lines-range b) outB kb,
+        wrote s W (linesOf (a ++ b)) (lines-range (a ++ b)) outAB kab,
+        e,
+        p,
+      );
+    }

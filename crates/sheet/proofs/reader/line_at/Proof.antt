@@ -1,0 +1,20 @@
+-- `line_at` meets its contract.
+use borrow.Author.Tests.{lt-ltb, le-ltb}
+use Rattle.sheet.specs.LineAt.{lineAt}
+use borrow.Author.Needs.{needs}
+use Rattle.sheet.proofs.reader.line_at.Statement.{statement}
+use Rattle.sheet.proofs.reader.line_at.Tie as tie
+
+line-end-requires : tie.Need-line-end-requires
+line-end-requires c κs = search needs
+
+returns : tie.Need-returns
+unfolding lineAt
+returns c = simp (lt-ltb _ _ (c .before .if1 .taken), c .line-end .ensures)
+
+returns-2 : tie.Need-returns-2
+unfolding lineAt
+returns-2 c = simp (le-ltb _ _ (c .if1 .left))
+
+pub line-at-spec : {M : Type 1} → statement M
+line-at-spec = tie.close (tie.spec line-end-requires returns returns-2)

@@ -1,0 +1,39 @@
+-- What the inner functions of a run ask of the store and of the output, and what they promise.
+use Prim.Native.Nat.{ℕ, _+_, _*_, _≤_}
+use mathlib.Core.Path.{_≡_}
+use mathlib.Core.List.{List}
+use lib.ListN.{length}
+use Rattle.rules.specs.Answers.{answer, answers, after}
+use Rattle.rules.specs.Words.{Sound, encode, forestsOf, itemsIn}
+use Rattle.text.specs.Lines.{lines}
+use Rattle.text.specs.Output.{Wrote}
+use Rattle.sheet.specs.declared.Checked.{Checked}
+use Rattle.sheet.specs.Parse.{lineOf, linesOf}
+use Rattle.sheet.specs.Print.{answerRow, printed}
+use Rattle.sheet.specs.Runs.{limitCode}
+
+-- a sound store, and room for a line of output
+pub record Answerable (w out : List ℕ) (at : ℕ) : Type 0 where
+  pub sound : Sound w
+  pub room : at + 32 ≤ length out
+
+-- the words of the forests after the line, and its answer in the output
+pub record Answered (w out : List ℕ) (at : ℕ) (line : List ℕ) (r : ℕ) (w′ out′ : List ℕ) : Type 0 where
+  pub words : w′ ≡ encode ((answer (forestsOf w) (lineOf line)) .next)
+  pub wrote : Wrote out at (answerRow ((answer (forestsOf w) (lineOf line)) .reply)) out′ r
+
+-- A sound store, and an output with room for every line.
+pub record Runnable (w sheet out : List ℕ) : Type 0 where
+  pub sound : Sound w
+  pub room : 32 * length (lines sheet) ≤ length out
+
+-- the words of the forests after all lines, and their answers at the start of the output
+pub record RanLines (w sheet out : List ℕ) (r : ℕ) (w′ out′ : List ℕ) : Type 0 where
+  pub words : w′ ≡ encode (after (forestsOf w) (linesOf sheet))
+  pub wrote : Wrote out 0 (printed (answers (forestsOf w) (linesOf sheet))) out′ r
+
+-- the first of the codes 1 to 4 whose condition is met; 0, and then the number of items and the number of lines
+pub record Limited (store sheet out : List ℕ) (l : Checked) : Type 0 where
+  pub code : l .code ≡ limitCode store sheet out
+  pub items : l .code ≡ 0 → l .items ≡ itemsIn store
+  pub lines : l .code ≡ 0 → l .lines ≡ length (linesOf sheet)

@@ -1,0 +1,198 @@
+-- The words after an append are those of the forests in which x joined the list.
+use Prim.Native.Nat.{ℕ, _+_, _-_, _<_}
+use mathlib.Core.Path.{_≡_, refl, sym, ap, _∙_}
+use mathlib.Core.Logic.{_≢_}
+use mathlib.Core.List.{[], _∷_, _++_}
+use mathlib.Core.Bool.{Bool, true, false, cond}
+use native.Mathlib.Omega.{arith}
+use lib.ListN.{length, length-append}
+use lib.Seq.{getD-set-same, getD-set-other}
+use lib.Dec.{eqb}
+use borrow.Author.Tests.{eqb-true, eqb-false, ne-eqb}
+use Rattle.rules.specs.declared.Field.{Field}
+use Rattle.rules.specs.declared.Field.the-variants.{
+  FirstTree,
+  LastTree,
+  Minimum,
+  Count,
+  Key,
+  Parent,
+  FirstChild,
+  LastChild,
+  Next,
+  Prev,
+  Rank,
+  State,
+}
+use Rattle.rules.specs.Lists.{occurs}
+use Rattle.rules.specs.Forests.{Forests, none, rowOf, childrenOf, heapOf}
+use Rattle.rules.specs.Words.{room, headOr, lastOr, nextIn, prevIn, siblings, unlessFree, word}
+use Rattle.rules.proofs.Siblings.{last-in}
+use Rattle.rules.proofs.Relinks.{at-end, head-appended, last-appended, next-appended, prev-appended, next-new, prev-new}
+use Rattle.store.specs.declared.Owner.{Owner}
+use Rattle.store.specs.declared.Owner.the-variants.{Row, Children}
+use Rattle.store.specs.Siblings.{parentIn, firstOf, lastOf, setFirst, setLast, setNext, addRank, joined, appended}
+use Rattle.store.specs.Families.{listOf, ownerOf, appendTo, wordBut, loose, Shape, Present, Family, MayJoin}
+use Rattle.store.proofs.Families.{
+  Relisted,
+  Stand,
+  inside,
+  outside,
+  stand,
+  inside-word,
+  inside-relisted,
+  outside-relisted,
+  getD-set,
+}
+use Rattle.store.proofs.Listed.{none-out, absent, not-none, set-at}
+
+module _ (n : ℕ) (t : Forests) (x : ℕ) (S : Shape n t) (k : x < n) where
+  relisted : (o : Owner) → Present n t o → Relisted t (appendTo o x t) o x (listOf t o ++ (x ∷ []))
+  unfolding appendTo listOf ownerOf
+  relisted (Row h) p =
+      record {
+        heap = λ j. refl;
+        list = getD-set-same (t .rows) h (rowOf t h ++ (x ∷ [])) [] (omega (arith, S .rows8));
+        lists = λ q m. other q m;
+        owners = λ j m. rw (getD-set-other (t .parent) x j none 0 m);
+      }
+    where
+      other : (q : Owner) → q ≢ Row h → listOf (appendTo (Row h) x t) q ≡ listOf t q
+      other (Row g) m = getD-set-other (t .rows) h g (rowOf t h ++ (x ∷ [])) [] (λ e. m (ap Row e))
+      other (Children q) m = refl
+  relisted (Children p) i =
+      record {
+        heap = λ j. refl;
+        list = getD-set-same (t .children) p (childrenOf t p ++ (x ∷ [])) [] (omega (arith, i .0, S .childrenN));
+        lists = λ q m. other q m;
+        owners = λ j m. rw (getD-set-other (t .parent) x j p 0 m);
+      }
+    where
+      other : (q : Owner) → q ≢ Children p → listOf (appendTo (Children p) x t) q ≡ listOf t q
+      other (Row g) m = refl
+      other (Children q) m = getD-set-other (t .children) p q (childrenOf t p ++ (x ∷ [])) [] (λ e. m (ap Children e))
+
+  new-owner : (o : Owner) → Present n t o → MayJoin t o x → ownerOf (appendTo o x t) x ≡ o
+  unfolding appendTo ownerOf
+  new-owner (Row h) p j =
+      rw (getD-set-same (t .parent) x none 0 (omega (arith, S .parentN)), j) (ap Row (omega arith))
+  new-owner (Children p) i j =
+      rw (
+        getD-set-same (t .parent) x p 0 (omega (arith, S .parentN)),
+        ne-eqb p none (λ e. omega (arith, e, i .0, S .small)),
+      )
+
+  new-live : (o : Owner) → MayJoin t o x → heapOf (appendTo o x t) x ≢ 0
+  unfolding appendTo
+  new-live (Row h) j e = omega (arith, j, e)
+  new-live (Children p) j e = j e
+
+module _ (n : ℕ) (t : Forests) (o : Owner) (x : ℕ) (S : Shape n t) (F : Family n t o) (k : x < n)
+    (out : occurs x (listOf t o) ≡ 0) (J : MayJoin t o x) where
+  R : Relisted t (appendTo o x t) o x (listOf t o ++ (x ∷ []))
+  R = relisted n t x S k o (F .present)
+
+  last-apart : (j : ℕ) → j < n → occurs j (listOf t o) ≡ 0 → lastOr none (listOf t o) ≢ j
+  last-apart j h a = at-end (lastOr none (listOf t o)) j (listOf t o) (last-in none (listOf t o)) (not-none S j h) a
+
+  next-law : (l a j : ℕ) → l ≡ lastOr none (listOf t o) → j < n
+      → cond (eqb l j) x (cond (eqb x j) none (cond (eqb x j) a (word t Next j))) ≡ word (appendTo o x t) Next j
+  unfolding word
+  next-law l a j q h = rw q (go (eqb x j) refl (stand t o j))
+    where
+      go : (b : Bool) → eqb x j ≡ b → Stand t o j
+          → cond (eqb (lastOr none (listOf t o)) j) x
+          (cond b none (cond b a (unlessFree t j (nextIn j (siblings t j)))))
+          ≡ unlessFree (appendTo o x t) j (nextIn j (siblings (appendTo o x t) j))
+      go true e s =
+          rw (← (eqb-true x j e), ne-eqb (lastOr none (listOf t o)) x (last-apart x k out))
+          (sym (inside-word (appendTo o x t) o x (nextIn x) (new-live n t x S k o J)
+          (new-owner n t x S k o (F .present) J)
+          ∙ ap (nextIn x) (R .list) ∙ next-new x (listOf t o) out))
+      go false e (inside m d) =
+          let ne : j ≢ x = λ z. eqb-false x j e (sym z) in
+          rw (inside-word t o j (nextIn j) m d, inside-relisted R j (nextIn j) ne m d)
+          (sym (next-appended x j (listOf t o) (F .once) ne (not-none S j h)))
+      go false e (outside m) =
+          rw (ne-eqb (lastOr none (listOf t o)) j (last-apart j h (absent n t o F j m)))
+          (sym (outside-relisted R j (nextIn j) (λ z. eqb-false x j e (sym z)) m))
+
+  prev-law : (l b j : ℕ) → l ≡ lastOr none (listOf t o) → j < n
+      → cond (eqb x j) l (cond (eqb x j) b (word t Prev j)) ≡ word (appendTo o x t) Prev j
+  unfolding word
+  prev-law l b j q h = rw q (go (eqb x j) refl (stand t o j))
+    where
+      go : (c : Bool) → eqb x j ≡ c → Stand t o j
+          → cond c (lastOr none (listOf t o)) (cond c b (unlessFree t j (prevIn none j (siblings t j))))
+          ≡ unlessFree (appendTo o x t) j (prevIn none j (siblings (appendTo o x t) j))
+      go true e s =
+          rw (← (eqb-true x j e))
+          (sym (inside-word (appendTo o x t) o x (prevIn none x) (new-live n t x S k o J)
+          (new-owner n t x S k o (F .present) J) ∙ ap (prevIn none x) (R .list) ∙ prev-new x (listOf t o) out))
+      go false e (inside m d) =
+          let ne : j ≢ x = λ z. eqb-false x j e (sym z) in
+          rw (inside-word t o j (prevIn none j) m d, inside-relisted R j (prevIn none j) ne m d)
+          (sym (prev-appended x j (listOf t o) ne))
+      go false e (outside m) = sym (outside-relisted R j (prevIn none j) (λ z. eqb-false x j e (sym z)) m)
+
+module _ (n : ℕ) (counts minima : ℕ → ℕ) (t : Forests) (x a b : ℕ) (S : Shape n t) (k : x < n) where
+  -- x joins the row h
+  row-word : (h : ℕ) → Family n t (Row h) → occurs x (listOf t (Row h)) ≡ 0 → MayJoin t (Row h) x → (f : Field) (j : ℕ)
+      → j < room n f
+      → appended (Row h) x (loose x a b (wordBut counts minima t)) f j
+      ≡ wordBut counts minima (appendTo (Row h) x t) f j
+  unfolding appended joined setLast setFirst setNext firstOf lastOf addRank parentIn loose wordBut appendTo listOf word
+      unlessFree
+  row-word h F out J FirstTree j i =
+      set-at (t .rows) h j _ (rowOf t h ++ (x ∷ [])) (λ _. headOr none) (omega (arith, F .present, S .rows8))
+      (sym (head-appended x (rowOf t h) (none-out n t (Row h) S F)))
+  row-word h F out J LastTree j i =
+      set-at (t .rows) h j _ (rowOf t h ++ (x ∷ [])) (λ _. lastOr none) (omega (arith, F .present, S .rows8))
+      (sym (last-appended x (rowOf t h)))
+  row-word h F out J Minimum j i = refl
+  row-word h F out J Count j i = refl
+  row-word h F out J Key j i = refl
+  row-word h F out J Parent j i = sym (getD-set (t .parent) x j none 0 (omega (arith, S .parentN)))
+  row-word h F out J FirstChild j i = refl
+  row-word h F out J LastChild j i = refl
+  row-word h F out J Next j i = next-law n t (Row h) x S F k out J _ a j refl i
+  row-word h F out J Prev j i = prev-law n t (Row h) x S F k out J _ b j refl i
+  row-word h F out J Rank j i = refl
+  row-word h F out J State j i = refl
+
+  -- x joins the children of p
+  children-word : (p : ℕ) → Family n t (Children p) → occurs x (listOf t (Children p)) ≡ 0 → MayJoin t (Children p) x
+      → (f : Field) (j : ℕ) → j < room n f
+      → appended (Children p) x (loose x a b (wordBut counts minima t)) f j
+      ≡ wordBut counts minima (appendTo (Children p) x t) f j
+  unfolding appended joined setLast setFirst setNext firstOf lastOf addRank parentIn loose wordBut appendTo listOf word
+      unlessFree
+  children-word p F out J FirstTree j i = refl
+  children-word p F out J LastTree j i = refl
+  children-word p F out J Minimum j i = refl
+  children-word p F out J Count j i = refl
+  children-word p F out J Key j i = refl
+  children-word p F out J Parent j i = sym (getD-set (t .parent) x j p 0 (omega (arith, S .parentN)))
+  children-word p F out J FirstChild j i =
+      set-at (t .children) p j _ (childrenOf t p ++ (x ∷ [])) (λ q l. unlessFree t q (headOr none l))
+      (omega (arith, F .present .0, S .childrenN))
+      (rw (ne-eqb (heapOf t p) 0 (F .present .1))
+      (sym (head-appended x (childrenOf t p) (none-out n t (Children p) S F))))
+  children-word p F out J LastChild j i =
+      set-at (t .children) p j _ (childrenOf t p ++ (x ∷ [])) (λ q l. unlessFree t q (lastOr none l))
+      (omega (arith, F .present .0, S .childrenN))
+      (rw (ne-eqb (heapOf t p) 0 (F .present .1)) (sym (last-appended x (childrenOf t p))))
+  children-word p F out J Next j i =
+      next-law n t (Children p) x S F k out J _ a j (rw (ne-eqb (heapOf t p) 0 (F .present .1))) i
+  children-word p F out J Prev j i =
+      prev-law n t (Children p) x S F k out J _ b j (rw (ne-eqb (heapOf t p) 0 (F .present .1))) i
+  children-word p F out J Rank j i =
+      set-at (t .children) p j _ (childrenOf t p ++ (x ∷ [])) (λ _. length)
+      (omega (arith, F .present .0, S .childrenN)) (sym (length-append (childrenOf t p) (x ∷ [])))
+  children-word p F out J State j i = refl
+
+  pub append-word : (o : Owner) → Family n t o → occurs x (listOf t o) ≡ 0 → MayJoin t o x → (f : Field) (j : ℕ)
+      → j < room n f
+      → appended o x (loose x a b (wordBut counts minima t)) f j ≡ wordBut counts minima (appendTo o x t) f j
+  append-word (Row h) F out J f j i = row-word h F out J f j i
+  append-word (Children p) F out J f j i = children-word p F out J f j i

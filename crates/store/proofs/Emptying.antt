@@ -1,0 +1,135 @@
+-- The words of eight empty heaps over free items: first all words are 0, then the heaps are emptied one by one.
+use Prim.Native.Nat.{ℕ, zero, suc, _+_, _<_}
+use mathlib.Core.Path.{_≡_, refl, sym, ap, subst, _∙_}
+use mathlib.Core.Bool.{Bool, true, false, cond}
+use mathlib.Core.List.{List, []}
+use native.Mathlib.Omega.{arith}
+use lib.ListN.{length, replicate, length-replicate}
+use lib.Dec.{eqb, ltb, eqb·zero-suc}
+use borrow.Author.Tests.{eqb-true, eqb-false, ltb-true, ltb-false, lt-ltb, le-ltb}
+use Rattle.rules.specs.declared.Field.{Field}
+use Rattle.rules.specs.declared.Field.the-variants.{
+  FirstTree,
+  LastTree,
+  Minimum,
+  Count,
+  Key,
+  Parent,
+  FirstChild,
+  LastChild,
+  Next,
+  Prev,
+  Rank,
+  State,
+}
+use Rattle.rules.specs.Lists.{sumBy}
+use Rattle.rules.specs.Forests.{none, empty, count}
+use Rattle.rules.specs.Order.{leastIn, minimum}
+use Rattle.rules.specs.Words.{room, at, headOr, lastOr, stateOf, unlessFree, word, wordsOf, encode}
+use Rattle.rules.proofs.EmptyForests.{getD-all}
+use Rattle.rules.proofs.Words.{words-equal}
+use Rattle.store.specs.Says.{Sized, Values, Says, Changes}
+use Rattle.store.specs.Empty.{emptyHeap}
+use Rattle.store.proofs.Says.{says-as}
+
+-- the first k heaps are empty, all other words 0
+abbrev pub emptied : ℕ → Values
+emptied k FirstTree h = cond (ltb h k) none 0
+emptied k LastTree h = cond (ltb h k) none 0
+emptied k Minimum h = cond (ltb h k) none 0
+emptied k Count i = 0
+emptied k Key i = 0
+emptied k Parent i = 0
+emptied k FirstChild i = 0
+emptied k LastChild i = 0
+emptied k Next i = 0
+emptied k Prev i = 0
+emptied k Rank i = 0
+emptied k State i = 0
+
+emptied-none : (f : Field) (i : ℕ) → 0 ≡ emptied 0 f i
+emptied-none FirstTree i = rw (le-ltb i 0 (omega arith))
+emptied-none LastTree i = rw (le-ltb i 0 (omega arith))
+emptied-none Minimum i = rw (le-ltb i 0 (omega arith))
+emptied-none Count i = refl
+emptied-none Key i = refl
+emptied-none Parent i = refl
+emptied-none FirstChild i = refl
+emptied-none LastChild i = refl
+emptied-none Next i = refl
+emptied-none Prev i = refl
+emptied-none Rank i = refl
+emptied-none State i = refl
+
+-- one heap more
+one-more : (k i : ℕ) → cond (eqb k i) none (cond (ltb i k) none 0) ≡ cond (ltb i (k + 1)) none 0
+one-more k i = go (eqb k i) (ltb i k) refl refl
+  where
+    go : (p q : Bool) → eqb k i ≡ p → ltb i k ≡ q → cond p none (cond q none 0) ≡ cond (ltb i (k + 1)) none 0
+    go true q d e = rw (lt-ltb i (k + 1) (omega (arith, eqb-true k i d)))
+    go false true d e = rw (lt-ltb i (k + 1) (omega (arith, ltb-true i k e)))
+    go false false d e =
+        let m : k ≡ i → ⊥ = eqb-false k i d in
+        rw (le-ltb i (k + 1) (omega (arith, ltb-false i k e)))
+
+emptied-more : (k : ℕ) (f : Field) (i : ℕ) → emptyHeap k (emptied k) f i ≡ emptied (k + 1) f i
+unfolding emptyHeap
+emptied-more k FirstTree i = one-more k i
+emptied-more k LastTree i = one-more k i
+emptied-more k Minimum i = one-more k i
+emptied-more k Count i = go (eqb k i)
+  where
+    go : (t : Bool) → cond {A = ℕ} t 0 0 ≡ 0
+    go true = refl
+    go false = refl
+emptied-more k Key i = refl
+emptied-more k Parent i = refl
+emptied-more k FirstChild i = refl
+emptied-more k LastChild i = refl
+emptied-more k Next i = refl
+emptied-more k Prev i = refl
+emptied-more k Rank i = refl
+emptied-more k State i = refl
+
+count-empty : (n h : ℕ) → count (empty n) h ≡ 0
+unfolding count sumBy
+count-empty zero h = refl
+count-empty (suc n) h = rw (eqb·zero-suc h) (omega (arith, count-empty n h))
+
+emptied-all : (n : ℕ) (f : Field) (i : ℕ) → i < room n f → emptied 8 f i ≡ word (empty n) f i
+unfolding word headOr lastOr minimum leastIn unlessFree stateOf
+emptied-all n FirstTree i k = rw (lt-ltb i 8 k, getD-all 8 i)
+emptied-all n LastTree i k = rw (lt-ltb i 8 k, getD-all 8 i)
+emptied-all n Minimum i k = rw (lt-ltb i 8 k, getD-all 8 i)
+emptied-all n Count i k = sym (count-empty n i)
+emptied-all n Key i k = sym (getD-all n i 0)
+emptied-all n Parent i k = sym (getD-all n i 0)
+emptied-all n FirstChild i k = rw (getD-all {A = ℕ} n i 0)
+emptied-all n LastChild i k = rw (getD-all {A = ℕ} n i 0)
+emptied-all n Next i k = rw (getD-all {A = ℕ} n i 0)
+emptied-all n Prev i k = rw (getD-all {A = ℕ} n i 0)
+emptied-all n Rank i k = rw (getD-all {A = List ℕ} n i [])
+emptied-all n State i k = rw (getD-all {A = ℕ} n i 0)
+
+-- ---- the steps
+
+pub none-emptied : (n : ℕ) (w w′ : List ℕ) → Sized n w → w′ ≡ replicate (length w) 0 → Says n w′ (emptied 0)
+none-emptied n w w′ s e =
+    rw e (record {
+      sized = record { size = length-replicate (length w) 0 ∙ s .size; small = s .small };
+      says = λ f i k. getD-all (length w) (at n f i) 0 ∙ emptied-none f i;
+    })
+
+pub more-emptied : {n : ℕ} {w w′ : List ℕ} (h : ℕ) → Says n w (emptied h) → Changes n w (emptyHeap h) w′
+    → Says n w′ (emptied (h + 1))
+more-emptied {n} {w} {w′} h s c =
+    says-as n w′ (emptyHeap h (emptied h)) (emptied (h + 1)) (c .says (emptied h) s) (λ f i _. emptied-more h f i)
+
+eight-emptied : (n : ℕ) (w : List ℕ) → Says n w (emptied 8) → w ≡ encode (empty n)
+unfolding encode
+eight-emptied n w s =
+    words-equal n (word (empty n)) w (s .sized .size) (λ f i k. s .says f i k ∙ emptied-all n f i k)
+    ∙ ap (λ k. wordsOf k (word (empty n))) (sym (length-replicate n 0))
+
+pub all-emptied : (n : ℕ) (w : List ℕ) (h : ℕ) → h ≡ 8 → Says n w (emptied h) → w ≡ encode (empty n)
+all-emptied n w h e s = eight-emptied n w (subst (λ k. Says n w (emptied k)) e s)

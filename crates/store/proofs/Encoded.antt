@@ -1,0 +1,106 @@
+-- The words of disjoint forests hold them; and words that hold forests, with their counts and minima, are their words.
+use Prim.Native.Nat.{ℕ, _<_}
+use mathlib.Core.Path.{_≡_, refl, sym, ap, _∙_}
+use mathlib.Core.Logic.{_≢_}
+use mathlib.Core.List.{List}
+use native.Mathlib.Omega.{arith}
+use borrow.Author.Tests.{ne-eqb}
+use Rattle.rules.specs.declared.Field.{Field}
+use Rattle.rules.specs.declared.Field.the-variants.{
+  FirstTree,
+  LastTree,
+  Minimum,
+  Count,
+  Key,
+  Parent,
+  FirstChild,
+  LastChild,
+  Next,
+  Prev,
+  Rank,
+  State,
+}
+use Rattle.rules.specs.Forests.{Forests, none, heapOf, tableSize, count}
+use Rattle.rules.specs.Order.{minimum}
+use Rattle.rules.specs.WellFormed.{Disjoint}
+use Rattle.rules.specs.Words.{room, word, wordsOf, encode}
+use Rattle.rules.proofs.Members.{heap-in, not-none, row-root, child-parent}
+use Rattle.rules.proofs.SiblingLists.{once-row, once-children}
+use Rattle.rules.proofs.Words.{length-wordsOf, look-wordsOf, words-equal}
+use Rattle.store.specs.declared.Owner.the-variants.{Row, Children}
+use Rattle.store.specs.Families.{listOf, ownerOf, wordBut, Shape, Family, Holds}
+use Rattle.store.proofs.Holds.{says-holds, holds-says}
+
+-- the true counts and minima are those of `word`
+but-word : (n : ℕ) (counts minima : ℕ → ℕ) (t : Forests) → ((h : ℕ) → h < 8 → counts h ≡ count t h)
+    → ((h : ℕ) → h < 8 → minima h ≡ minimum t h) → (f : Field) (i : ℕ) → i < room n f
+    → wordBut counts minima t f i ≡ word t f i
+unfolding wordBut word
+but-word n counts minima t c m FirstTree i k = refl
+but-word n counts minima t c m LastTree i k = refl
+but-word n counts minima t c m Minimum i k = m i k
+but-word n counts minima t c m Count i k = c i k
+but-word n counts minima t c m Key i k = refl
+but-word n counts minima t c m Parent i k = refl
+but-word n counts minima t c m FirstChild i k = refl
+but-word n counts minima t c m LastChild i k = refl
+but-word n counts minima t c m Next i k = refl
+but-word n counts minima t c m Prev i k = refl
+but-word n counts minima t c m Rank i k = refl
+but-word n counts minima t c m State i k = refl
+
+-- the lengths of disjoint forests, and their lists
+pub disjoint-shape : (s : Forests) → Disjoint s → Shape (tableSize s) s
+disjoint-shape s D =
+    record {
+      small = D .small;
+      rows8 = D .rows8;
+      childrenN = D .childrenN;
+      parentN = D .parentN;
+      keyN = D .keyN;
+      markN = D .markN;
+      heapN = refl;
+    }
+
+module _ (n : ℕ) (s : Forests) (D : Disjoint s) (N : tableSize s ≡ n) where
+  pub row-family : (h : ℕ) → h < 8 → Family n s (Row h)
+  unfolding listOf ownerOf
+  row-family h k =
+      record {
+        present = k;
+        once = once-row s D h;
+        owned = λ y i.
+            let b = row-root s D h y i in
+            (λ z. omega (arith, z, b .0), rw (b .1, b .0) (ap Row (omega arith)));
+      }
+
+  pub children-family : (p : ℕ) → heapOf s p ≢ 0 → Family n s (Children p)
+  unfolding listOf ownerOf
+  children-family p live =
+      let k : p < tableSize s = heap-in s p live in
+      record {
+        present = (omega arith, live);
+        once = once-children s D p k;
+        owned = λ y i.
+            let b = child-parent s D p y k i in
+            (b .0, rw (b .1, ne-eqb p none (λ z. not-none s D p k (sym z))));
+      }
+
+pub encode-holds : (s : Forests) → Disjoint s → (w : List ℕ) → w ≡ encode s
+    → Holds (tableSize s) w (count s) (minimum s) s none
+unfolding encode
+encode-holds s D w e =
+    rw e (says-holds (disjoint-shape s D) (record {
+      sized = record { size = length-wordsOf (tableSize s) (word s); small = D .small };
+      says = λ f i k.
+          look-wordsOf (tableSize s) (word s) f i k
+          ∙ sym (but-word (tableSize s) (count s) (minimum s) s (λ _ _. refl) (λ _ _. refl) f i k);
+    }))
+
+pub holds-encode : {n : ℕ} {w : List ℕ} {counts minima : ℕ → ℕ} {t : Forests} → Holds n w counts minima t none
+    → ((h : ℕ) → h < 8 → counts h ≡ count t h) → ((h : ℕ) → h < 8 → minima h ≡ minimum t h) → w ≡ encode t
+unfolding encode
+holds-encode {n} {w} {counts} {minima} {t} H c m =
+    let s = holds-says H in
+    words-equal n (word t) w (s .sized .size) (λ f i k. s .says f i k ∙ but-word n counts minima t c m f i k)
+    ∙ ap (λ k. wordsOf k (word t)) (sym (H .shape .heapN))

@@ -1,0 +1,13 @@
+pub mod Says
+pub mod Owners
+pub mod Moves
+pub mod Families
+pub mod Listed
+pub mod AppendWords
+pub mod RemoveWords
+pub mod Ready
+pub mod Holds
+pub mod Encoded
+pub mod Scalars
+pub mod ConcatWords
+pub mod Emptying

@@ -1,0 +1,181 @@
+-- The words after a removal are those of the forests in which x left the list, but for its own links.
+use Prim.Native.Nat.{ℕ, _-_, _≤_, _<_}
+use mathlib.Core.Path.{_≡_, refl, sym}
+use mathlib.Core.Logic.{_≢_}
+use mathlib.Core.Bool.{Bool, true, false, cond}
+use native.Mathlib.Omega.{arith}
+use lib.ListN.{length}
+use lib.Dec.{eqb}
+use borrow.Author.Tests.{eqb-true, eqb-false, ne-eqb}
+use Rattle.rules.specs.declared.Field.{Field}
+use Rattle.rules.specs.declared.Field.the-variants.{
+  FirstTree,
+  LastTree,
+  Minimum,
+  Count,
+  Key,
+  Parent,
+  FirstChild,
+  LastChild,
+  Next,
+  Prev,
+  Rank,
+  State,
+}
+use Rattle.rules.specs.Lists.{occurs, without}
+use Rattle.rules.specs.Forests.{Forests, none, rowOf, childrenOf, heapOf}
+use Rattle.rules.specs.Words.{room, headOr, lastOr, nextIn, prevIn, unlessFree, word}
+use Rattle.rules.proofs.RemoveLinks.{prev-in, last-without, next-out}
+use Rattle.rules.proofs.Sums.{length-without}
+use Rattle.rules.proofs.Relinks.{at-end, head-removed, next-removed, prev-removed}
+use Rattle.store.specs.declared.Owner.{Owner}
+use Rattle.store.specs.declared.Owner.the-variants.{Row, Children}
+use Rattle.store.specs.Siblings.{firstOf, lastOf, setFirst, setLast, setNext, setPrev, dropRank, removed}
+use Rattle.store.specs.Families.{listOf, removeFrom, wordBut, loose, Shape, Present, Family}
+use Rattle.store.proofs.Families.{
+  Relisted,
+  Stand,
+  inside,
+  outside,
+  stand,
+  inside-word,
+  inside-relisted,
+  outside-relisted,
+  row-relisted,
+  children-relisted,
+}
+use Rattle.store.proofs.Listed.{none-out, absent, not-none, set-at}
+
+relisted : (n : ℕ) (t : Forests) (x : ℕ) (o : Owner) → Shape n t → Present n t o
+    → Relisted t (removeFrom o x t) o x (without x (listOf t o))
+unfolding removeFrom listOf
+relisted n t x (Row h) S p = row-relisted n t x h (without x (rowOf t h)) S p
+relisted n t x (Children p) S i = children-relisted n t x p (without x (childrenOf t p)) S (i .0)
+
+module _ (n : ℕ) (t : Forests) (o : Owner) (x : ℕ) (S : Shape n t) (F : Family n t o)
+    (k : 1 ≤ occurs x (listOf t o)) where
+  R : Relisted t (removeFrom o x t) o x (without x (listOf t o))
+  R = relisted n t x o S (F .present)
+
+  -- the links of x itself
+  pub next-of : word t Next x ≡ nextIn x (listOf t o)
+  unfolding word
+  next-of = let b = F .owned x k in inside-word t o x (nextIn x) (b .0) (b .1)
+
+  pub prev-of : word t Prev x ≡ prevIn none x (listOf t o)
+  unfolding word
+  prev-of = let b = F .owned x k in inside-word t o x (prevIn none x) (b .0) (b .1)
+
+  -- another item is linked past x
+  next-past : (j : ℕ) → j < n → j ≢ x → Stand t o j
+      → cond (eqb (prevIn none x (listOf t o)) j) (nextIn x (listOf t o)) (word t Next j)
+      ≡ word (removeFrom o x t) Next j
+  unfolding word
+  next-past j h ne (inside m d) =
+      rw (inside-word t o j (nextIn j) m d, inside-relisted R j (nextIn j) ne m d)
+      (sym (next-removed x (listOf t o) (F .once) (none-out n t o S F) k j ne (not-none S j h)))
+  next-past j h ne (outside m) =
+      rw (ne-eqb (prevIn none x (listOf t o)) j (at-end (prevIn none x (listOf t o)) j (listOf t o)
+      (prev-in none x (listOf t o) k) (not-none S j h) (absent n t o F j m)))
+      (sym (outside-relisted R j (nextIn j) ne m))
+
+  prev-past : (j : ℕ) → j < n → j ≢ x → Stand t o j
+      → cond (eqb (nextIn x (listOf t o)) j) (prevIn none x (listOf t o)) (word t Prev j)
+      ≡ word (removeFrom o x t) Prev j
+  unfolding word
+  prev-past j h ne (inside m d) =
+      rw (inside-word t o j (prevIn none j) m d, inside-relisted R j (prevIn none j) ne m d)
+      (sym (prev-removed x (listOf t o) (F .once) (none-out n t o S F) k j ne (not-none S j h)))
+  prev-past j h ne (outside m) =
+      rw (ne-eqb (nextIn x (listOf t o)) j (next-out x j (listOf t o) (absent n t o F j m) (not-none S j h)))
+      (sym (outside-relisted R j (prevIn none j) ne m))
+
+  -- the link of x is left as it is: f one of its two links, g the other
+  past : (f g : Field) (j : ℕ)
+      → (j ≢ x → cond (eqb (word t g x) j) (word t f x) (word t f j) ≡ word (removeFrom o x t) f j)
+      → cond (eqb (word t g x) j) (word t f x) (word t f j) ≡ cond (eqb x j) (word t f x) (word (removeFrom o x t) f j)
+  past f g j e = go (eqb x j) refl
+    where
+      either : (c : Bool) → cond c (word t f x) (word t f x) ≡ word t f x
+      either true = refl
+      either false = refl
+
+      go : (c : Bool) → eqb x j ≡ c
+          → cond (eqb (word t g x) j) (word t f x) (word t f j) ≡ cond c (word t f x) (word (removeFrom o x t) f j)
+      go true d = rw (← (eqb-true x j d)) (either (eqb (word t g x) x))
+      go false d = e (λ z. eqb-false x j d (sym z))
+
+  next-law : (j : ℕ) → j < n
+      → cond (eqb (word t Prev x) j) (word t Next x) (word t Next j)
+      ≡ cond (eqb x j) (word t Next x) (word (removeFrom o x t) Next j)
+  next-law j h = past Next Prev j (λ ne. rw (prev-of, next-of) (next-past j h ne (stand t o j)))
+
+  prev-law : (j : ℕ) → j < n
+      → cond (eqb (word t Next x) j) (word t Prev x) (word t Prev j)
+      ≡ cond (eqb x j) (word t Prev x) (word (removeFrom o x t) Prev j)
+  prev-law j h = past Prev Next j (λ ne. rw (prev-of, next-of) (prev-past j h ne (stand t o j)))
+
+  -- the ends
+  first-law : cond (eqb (word t Prev x) none) (word t Next x) (headOr none (listOf t o))
+      ≡ headOr none (without x (listOf t o))
+  first-law = rw (prev-of, next-of) (sym (head-removed x (listOf t o) (F .once) (none-out n t o S F) k))
+
+  last-law : cond (eqb (word t Next x) none) (word t Prev x) (lastOr none (listOf t o))
+      ≡ lastOr none (without x (listOf t o))
+  last-law = rw (prev-of, next-of) (sym (last-without none x (listOf t o) (none-out n t o S F) k))
+
+module _ (n : ℕ) (counts minima : ℕ → ℕ) (t : Forests) (x : ℕ) (S : Shape n t) where
+  row-word : (h : ℕ) → Family n t (Row h) → 1 ≤ occurs x (listOf t (Row h)) → (f : Field) (j : ℕ) → j < room n f
+      → removed (Row h) x (wordBut counts minima t) f j
+      ≡ loose x (word t Next x) (word t Prev x) (wordBut counts minima (removeFrom (Row h) x t)) f j
+  unfolding removed setLast setFirst setNext setPrev firstOf lastOf dropRank loose wordBut removeFrom listOf word
+      unlessFree
+  row-word h F k FirstTree j i =
+      set-at (t .rows) h j _ (without x (rowOf t h)) (λ _. headOr none) (omega (arith, F .present, S .rows8))
+      (first-law n t (Row h) x S F k)
+  row-word h F k LastTree j i =
+      set-at (t .rows) h j _ (without x (rowOf t h)) (λ _. lastOr none) (omega (arith, F .present, S .rows8))
+      (last-law n t (Row h) x S F k)
+  row-word h F k Minimum j i = refl
+  row-word h F k Count j i = refl
+  row-word h F k Key j i = refl
+  row-word h F k Parent j i = refl
+  row-word h F k FirstChild j i = refl
+  row-word h F k LastChild j i = refl
+  row-word h F k Next j i = next-law n t (Row h) x S F k j i
+  row-word h F k Prev j i = prev-law n t (Row h) x S F k j i
+  row-word h F k Rank j i = refl
+  row-word h F k State j i = refl
+
+  children-word : (p : ℕ) → Family n t (Children p) → 1 ≤ occurs x (listOf t (Children p)) → (f : Field) (j : ℕ)
+      → j < room n f
+      → removed (Children p) x (wordBut counts minima t) f j
+      ≡ loose x (word t Next x) (word t Prev x) (wordBut counts minima (removeFrom (Children p) x t)) f j
+  unfolding removed setLast setFirst setNext setPrev firstOf lastOf dropRank loose wordBut removeFrom listOf word
+      unlessFree
+  children-word p F k FirstTree j i = refl
+  children-word p F k LastTree j i = refl
+  children-word p F k Minimum j i = refl
+  children-word p F k Count j i = refl
+  children-word p F k Key j i = refl
+  children-word p F k Parent j i = refl
+  children-word p F k FirstChild j i =
+      set-at (t .children) p j _ (without x (childrenOf t p)) (λ q l. unlessFree t q (headOr none l))
+      (omega (arith, F .present .0, S .childrenN))
+      (rw (ne-eqb (heapOf t p) 0 (F .present .1)) (first-law n t (Children p) x S F k))
+  children-word p F k LastChild j i =
+      set-at (t .children) p j _ (without x (childrenOf t p)) (λ q l. unlessFree t q (lastOr none l))
+      (omega (arith, F .present .0, S .childrenN))
+      (rw (ne-eqb (heapOf t p) 0 (F .present .1)) (last-law n t (Children p) x S F k))
+  children-word p F k Next j i = next-law n t (Children p) x S F k j i
+  children-word p F k Prev j i = prev-law n t (Children p) x S F k j i
+  children-word p F k Rank j i =
+      set-at (t .children) p j _ (without x (childrenOf t p)) (λ _. length) (omega (arith, F .present .0, S .childrenN))
+      (omega (arith, length-without x (childrenOf t p) k))
+  children-word p F k State j i = refl
+
+  pub remove-word : (o : Owner) → Family n t o → 1 ≤ occurs x (listOf t o) → (f : Field) (j : ℕ) → j < room n f
+      → removed o x (wordBut counts minima t) f j
+      ≡ loose x (word t Next x) (word t Prev x) (wordBut counts minima (removeFrom o x t)) f j
+  remove-word (Row h) F k f j i = row-word h F k f j i
+  remove-word (Children p) F k f j i = children-word p F k f j i

@@ -1,0 +1,4 @@
+pub mod Says
+pub mod Empty
+pub mod Siblings
+pub mod Families

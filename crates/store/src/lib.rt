@@ -1,0 +1,285 @@
+// The words of a store for n items: the only code that knows where a word lies.
+// Nothing above this crate indexes a store.
+ghost use mathlib.Core.Path.{_≡_};
+ghost use Prim.Native.Nat.{ℕ, _+_, _*_, _<_, _≤_};
+ghost use lib.ListN.{length, replicate};
+ghost use Rattle.rules.specs.Forests.{empty};
+ghost use Rattle.rules.specs.SetWord.{setWord};
+ghost use Rattle.rules.specs.Words.{storeSize, room, at, look, encode};
+ghost use Rattle.store.specs.Says.{Sized, Within, Changes};
+ghost use Rattle.store.specs.Empty.{emptyHeap, freeItem};
+ghost use Rattle.store.specs.Siblings.{
+  parentIn,
+  lastOf,
+  setFirst,
+  setLast,
+  setNext,
+  setPrev,
+  addRank,
+  dropRank,
+  joined,
+  concatenated,
+  appended,
+  removed,
+};
+ghost use Rattle.store.specs.Siblings.{
+  RankRises,
+  RankFalls,
+  OwnerReady,
+  LinkReady,
+  JoinReady,
+  ConcatReady,
+  AppendReady,
+  RemoveReady,
+};
+use rules::Field;
+
+// No item.
+pub const NONE: u32 = 4294967295;
+
+// Whose list of siblings: the row of a heap, or the children of an item.
+pub enum Owner {
+    Row(u32),
+    Children(u32),
+}
+
+// Where word i of a kind lies in a store for n items.
+fn place(n: usize, f: Field, i: usize) -> usize
+    requires { ⌜ n ≤ 4096 ⌝ }
+    requires { ⌜ i ≤ 4096 ⌝ }
+    ensures { λ r. ⌜ r ≡ at n f i ⌝ }
+{
+    match f {
+        Field::FirstTree => 4 * i,
+        Field::LastTree => 4 * i + 1,
+        Field::Minimum => 4 * i + 2,
+        Field::Count => 4 * i + 3,
+        Field::Key => 32 + i,
+        Field::Parent => 32 + n + i,
+        Field::FirstChild => 32 + 2 * n + i,
+        Field::LastChild => 32 + 3 * n + i,
+        Field::Next => 32 + 4 * n + i,
+        Field::Prev => 32 + 5 * n + i,
+        Field::Rank => 32 + 6 * n + i,
+        Field::State => 32 + 7 * n + i,
+    }
+}
+
+// Word i of a kind.
+pub fn get(s: &[u32], n: usize, f: Field, i: u32) -> u32
+    requires { ⌜ Within n (now s) f i ⌝ }
+    ensures { λ r. ⌜ r ≡ look n (now (s .entry)) f i ⌝ }
+{
+    let at = place(n, f, i as usize);
+    s[at]
+}
+
+// Word i of a kind stored.
+pub fn put(s: &mut [u32], n: usize, f: Field, i: u32, x: u32)
+    requires { ⌜ Within n (now s) f i ⌝ }
+    ensures { λ r. ⌜ Changes n (now (s .entry)) (setWord f i x) (now (s .exit)) ⌝ }
+{
+    let at = place(n, f, i as usize);
+    s[at] = x;
+}
+
+// The number of items, from the length of the store.
+pub fn items_of(s: &[u32]) -> usize
+    requires { ⌜ 32 ≤ length (now s) ⌝ }
+    ensures { λ r. ⌜ ((n : ℕ) → length (now (s .entry)) ≡ storeSize n → r ≡ n) ⌝ }
+{
+    (s.len() - 32) / 8
+}
+
+// Every word 0.
+fn fill(s: &mut [u32])
+    ensures { λ r. ⌜ now (s .exit) ≡ replicate (length (now (s .entry))) 0 ⌝ }
+{
+    let mut i: usize = 0;
+    while i < s.len() {
+        s[i] = 0;
+        i += 1;
+    }
+}
+
+// The words of an empty heap.
+pub fn empty_heap(s: &mut [u32], n: usize, h: u32)
+    requires { ⌜ Sized n (now s) ⌝ }
+    requires { ⌜ h < 8 ⌝ }
+    ensures { λ r. ⌜ Changes n (now (s .entry)) (emptyHeap h) (now (s .exit)) ⌝ }
+{
+    put(s, n, Field::FirstTree, h, NONE);
+    put(s, n, Field::LastTree, h, NONE);
+    put(s, n, Field::Minimum, h, NONE);
+    put(s, n, Field::Count, h, 0);
+}
+
+// The words of a free item.
+pub fn free_item(s: &mut [u32], n: usize, i: u32)
+    requires { ⌜ Sized n (now s) ⌝ }
+    requires { ⌜ i < n ⌝ }
+    ensures { λ r. ⌜ Changes n (now (s .entry)) (freeItem i) (now (s .exit)) ⌝ }
+{
+    put(s, n, Field::Key, i, 0);
+    put(s, n, Field::Parent, i, 0);
+    put(s, n, Field::FirstChild, i, 0);
+    put(s, n, Field::LastChild, i, 0);
+    put(s, n, Field::Next, i, 0);
+    put(s, n, Field::Prev, i, 0);
+    put(s, n, Field::Rank, i, 0);
+    put(s, n, Field::State, i, 0);
+}
+
+// The words of eight empty heaps over free items.
+pub fn make_empty(s: &mut [u32], n: usize)
+    requires { ⌜ Sized n (now s) ⌝ }
+    ensures { λ r. ⌜ now (s .exit) ≡ encode (empty n) ⌝ }
+{
+    fill(s);
+    for h in 0..8 {
+        empty_heap(s, n, h);
+    }
+}
+
+// The last of a list of siblings.
+pub fn last(s: &[u32], n: usize, o: Owner) -> u32
+    requires { ⌜ OwnerReady n (now s) o ⌝ }
+    ensures { λ r. ⌜ r ≡ lastOf o (look n (now (s .entry))) ⌝ }
+{
+    match o {
+        Owner::Row(h) => get(s, n, Field::LastTree, h),
+        Owner::Children(p) => get(s, n, Field::LastChild, p),
+    }
+}
+
+// The first of a list stored.
+fn put_first(s: &mut [u32], n: usize, o: Owner, x: u32)
+    requires { ⌜ OwnerReady n (now s) o ⌝ }
+    ensures { λ r. ⌜ Changes n (now (s .entry)) (setFirst o x) (now (s .exit)) ⌝ }
+{
+    match o {
+        Owner::Row(h) => put(s, n, Field::FirstTree, h, x),
+        Owner::Children(p) => put(s, n, Field::FirstChild, p, x),
+    }
+}
+
+// The last of a list stored.
+fn put_last(s: &mut [u32], n: usize, o: Owner, x: u32)
+    requires { ⌜ OwnerReady n (now s) o ⌝ }
+    ensures { λ r. ⌜ Changes n (now (s .entry)) (setLast o x) (now (s .exit)) ⌝ }
+{
+    match o {
+        Owner::Row(h) => put(s, n, Field::LastTree, h, x),
+        Owner::Children(p) => put(s, n, Field::LastChild, p, x),
+    }
+}
+
+// x follows a, or is the first of the list where a is NONE.
+fn put_next(s: &mut [u32], n: usize, o: Owner, a: u32, x: u32)
+    requires { ⌜ LinkReady n (now s) o a ⌝ }
+    ensures { λ r. ⌜ Changes n (now (s .entry)) (setNext o a x) (now (s .exit)) ⌝ }
+{
+    if a == NONE {
+        put_first(s, n, o, x);
+    } else {
+        put(s, n, Field::Next, a, x);
+    }
+}
+
+// x precedes b, or is the last of the list where b is NONE.
+fn put_prev(s: &mut [u32], n: usize, o: Owner, b: u32, x: u32)
+    requires { ⌜ LinkReady n (now s) o b ⌝ }
+    ensures { λ r. ⌜ Changes n (now (s .entry)) (setPrev o b x) (now (s .exit)) ⌝ }
+{
+    if b == NONE {
+        put_last(s, n, o, x);
+    } else {
+        put(s, n, Field::Prev, b, x);
+    }
+}
+
+// The parent that the members of a list have.
+fn parent_in(o: Owner) -> u32
+    ensures { λ r. ⌜ r ≡ parentIn o ⌝ }
+{
+    match o {
+        Owner::Row(_) => NONE,
+        Owner::Children(p) => p,
+    }
+}
+
+// The rank of the owner, if it is an item, one more.
+fn add_rank(s: &mut [u32], n: usize, o: Owner)
+    requires { ⌜ OwnerReady n (now s) o ⌝ }
+    requires { ⌜ RankRises o (look n (now s)) ⌝ }
+    ensures { λ r. ⌜ Changes n (now (s .entry)) (addRank o) (now (s .exit)) ⌝ }
+{
+    match o {
+        Owner::Row(_) => {}
+        Owner::Children(p) => {
+            let r = get(s, n, Field::Rank, p);
+            put(s, n, Field::Rank, p, r + 1);
+        }
+    }
+}
+
+// The rank of the owner, if it is an item, one less.
+fn drop_rank(s: &mut [u32], n: usize, o: Owner)
+    requires { ⌜ OwnerReady n (now s) o ⌝ }
+    requires { ⌜ RankFalls o (look n (now s)) ⌝ }
+    ensures { λ r. ⌜ Changes n (now (s .entry)) (dropRank o) (now (s .exit)) ⌝ }
+{
+    match o {
+        Owner::Row(_) => {}
+        Owner::Children(p) => {
+            let r = get(s, n, Field::Rank, p);
+            put(s, n, Field::Rank, p, r - 1);
+        }
+    }
+}
+
+// The chain of siblings from x to y joined to the end of a list, whose last is l.
+fn join(s: &mut [u32], n: usize, o: Owner, l: u32, x: u32, y: u32)
+    requires { ⌜ JoinReady n (now s) o l x ⌝ }
+    ensures { λ r. ⌜ Changes n (now (s .entry)) (joined o l x y) (now (s .exit)) ⌝ }
+{
+    put_next(s, n, o, l, x);
+    put(s, n, Field::Prev, x, l);
+    put_last(s, n, o, y);
+}
+
+// The same at the end of row h, where the chain may be empty: x is NONE then.
+pub fn concat(s: &mut [u32], n: usize, h: u32, x: u32, y: u32)
+    requires { ⌜ ConcatReady n (now s) h x ⌝ }
+    ensures { λ r. ⌜ Changes n (now (s .entry)) (concatenated h x y) (now (s .exit)) ⌝ }
+{
+    if x != NONE {
+        let l = get(s, n, Field::LastTree, h);
+        join(s, n, Owner::Row(h), l, x, y);
+    }
+}
+
+// The item i made the last of a list, with the owner as its parent.
+pub fn append(s: &mut [u32], n: usize, o: Owner, i: u32)
+    requires { ⌜ AppendReady n (now s) o i ⌝ }
+    ensures { λ r. ⌜ Changes n (now (s .entry)) (appended o i) (now (s .exit)) ⌝ }
+{
+    let l = last(s, n, o);
+    let p = parent_in(o);
+    add_rank(s, n, o);
+    put(s, n, Field::Next, i, NONE);
+    put(s, n, Field::Parent, i, p);
+    join(s, n, o, l, i, i);
+}
+
+// The item i taken out of a list. Its own links are left as they are.
+pub fn remove(s: &mut [u32], n: usize, o: Owner, i: u32)
+    requires { ⌜ RemoveReady n (now s) o i ⌝ }
+    ensures { λ r. ⌜ Changes n (now (s .entry)) (removed o i) (now (s .exit)) ⌝ }
+{
+    let a = get(s, n, Field::Prev, i);
+    let b = get(s, n, Field::Next, i);
+    drop_rank(s, n, o);
+    put_next(s, n, o, a, b);
+    put_prev(s, n, o, b, a);
+}
