@@ -20,9 +20,11 @@ use Rattle.rules.proofs.Excused.{to-formed}
 use Rattle.rules.proofs.Fibonacci.{R-is, R-zero, F-above}
 use Rattle.rules.proofs.EmptyForests.{emptyWellFormed}
 use Rattle.rules.proofs.Ledger.{all-paid}
+use Rattle.finder.specs.Map.{Map, Accepted}
+use Rattle.finder.specs.Queue.{Stop}
 use Rattle.finder.specs.Search.{Search, never, search, find}
 use Rattle.finder.specs.Feed.{linksOf, cutsOf}
-use Rattle.finder.specs.Theorems.{isReached, CountsFit, Ceiling}
+use Rattle.finder.specs.Theorems.{isReached, Moment, CountsFit, Ceiling}
 use Rattle.finder.proofs.Invariant.{isNone, unsettled}
 use Rattle.finder.proofs.Begin.{sum-zeros}
 use Rattle.finder.proofs.Turns.{turns-keep, moments-keep, search-between}
@@ -38,7 +40,7 @@ unfolding sumBy
 links-and-cuts [] = refl
 links-and-cuts (a ∷ rs) = omega (arith, links-and-cuts rs)
 
-sum-none : (l : List ℕ) → ((i : ℕ) → getD l i 0 ≡ 0) → sumBy (λ h. h) l ≡ 0
+pub sum-none : (l : List ℕ) → ((i : ℕ) → getD l i 0 ≡ 0) → sumBy (λ h. h) l ≡ 0
 unfolding sumBy
 sum-none [] f = refl
 sum-none (x ∷ l) f = omega (arith, f 0, sum-none l (λ i. f (suc i)))
@@ -72,9 +74,10 @@ moves-le n few ls =
       sum-zeros n,
     )
 
-pub countsFit : CountsFit
+pub counts-low : (stop : Stop) (m : Map) → Accepted m → (s : Search) → Moment stop m s
+    → linksOf (m .places) (s .calls) + cutsOf (m .places) (s .calls) ≤ 20000000
 unfolding unsettled
-countsFit stop m A s M =
+counts-low stop m A s M =
     let C = moments-keep stop m A (Costs m) (costs stop m A) s M in
     let top = mul-le-mul-left (C .taken) (R-le (C .entered)) in
     let few : C .entered ≤ 4096 = omega (arith, C .entered-is, A .few) in
@@ -90,6 +93,9 @@ countsFit stop m A s M =
       C .taken-is,
       A .few,
     )
+
+pub countsFit : CountsFit
+countsFit stop m A s M = omega (arith, counts-low stop m A s M)
 
 pub ceiling : Ceiling
 unfolding search unsettled

@@ -21,5 +21,11 @@ pub mod Costs
 pub mod Counts
 pub mod Codes
 pub mod Accepts
+pub mod FeedCodes
 pub mod Range
 pub mod Walk
+pub mod Logged
+pub mod Relaxing
+pub mod Visiting
+pub mod Searching
+pub mod Feeding

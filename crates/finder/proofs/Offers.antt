@@ -76,7 +76,7 @@ module _
           let w : getD waits p 0 ≢ 0 = eqb-false (getD waits p 0) 0 e in
           omega (arith, T .invariant .bit p)
 
-  out-of-queue : bestAt s p ≡ none → getD waits p 0 ≡ 0
+  pub out-of-queue : bestAt s p ≡ none → getD waits p 0 ≡ 0
   out-of-queue z = go (eqb (getD waits p 0) 0) refl
     where
       go : (t : Bool) → eqb (getD waits p 0) 0 ≡ t → getD waits p 0 ≡ 0

@@ -26,7 +26,7 @@ pub record Between (stop : Stop) (m : Map) (k : ℕ) (s : Search) : Type 0 where
 module _ (stop : Stop) (m : Map) (A : Accepted m) where
   -- the place u is taken after k turns
   module _ (k : ℕ) (s : Search) (B : Between stop m k s) (u : ℕ) (e : next stop (s .queue) ≡ takes u) where
-    abbrev rest : ℕ
+    abbrev pub rest : ℕ
     rest = unsettled (set (s .queue .waits) u 0) (s .best)
 
     X : TakesNext stop (s .queue .waits) (s .queue .key) u

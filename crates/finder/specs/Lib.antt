@@ -7,5 +7,7 @@ pub mod Search
 pub mod Range
 pub mod Codes
 pub mod Feed
+pub mod Progress
+pub mod Promise
 pub mod Theorems
 pub mod ByHand

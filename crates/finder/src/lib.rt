@@ -1,73 +1,141 @@
-// The feed finder: so far the codes of its span lists. The theory is in specs/ and proofs/.
+// The feed finder: the least losses from a start (shortest paths), found over the queues.
 ghost use mathlib.Core.Path.{_≡_};
-ghost use lib.ListN.{getD};
-ghost use Rattle.finder.specs.Codes.{fault, spansCode};
-ghost use Rattle.finder.specs.Range.{Sorted, FirstSpan};
+ghost use lib.ListN.{length, replicate};
+ghost use Rattle.finder.specs.Map.{mapOf};
+ghost use Rattle.finder.specs.Feed.{feedResult};
+ghost use Rattle.finder.specs.Progress.{BeginReady, Begun, Stands, Found};
+ghost use Rattle.finder.specs.Promise.{Feeds};
+use heap::perform::perform;
+use refusal::feed_code;
+use relax::NONE;
+use relax::Progress;
+use rules::Call;
+use rules::Tally;
+use store::make_empty;
+use visit::visit_next;
 
-// The word of a list at place i, 0 beyond its end.
-fn word_or_zero(list: &[u32], i: usize) -> u32
-    ensures { λ r. ⌜ r ≡ getD (now (list .entry)) i 0 ⌝ }
-{
-    if i < list.len() {
-        return list[i];
-    }
-    0
+mod refusal;
+mod relax;
+mod visit;
+
+// What a feed call answers: its code, and three figures, zeros after a refusal.
+pub struct Fed {
+    pub code: u32,
+    pub links: u32,
+    pub cuts: u32,
+    pub examined: u32,
 }
 
-// The fault of a span from f to t at loss l, after one from b, of a map with n places: 18, 19, 20, or 0.
-fn fault_of(n: u32, f: u32, t: u32, l: u32, b: u32) -> u32
-    ensures { λ r. ⌜ r ≡ fault n f t l b ⌝ }
+fn fill(list: &mut [u32], word: u32)
+    ensures { λ _. ⌜ now (list .exit) ≡ replicate (length (now (list .entry))) word ⌝ }
 {
-    if n <= f {
-        return 18;
+    let mut i: usize = 0;
+    while i < list.len() {
+        list[i] = word;
+        i += 1;
     }
-    if n <= t {
-        return 18;
-    }
-    if l == 0 {
-        return 19;
-    }
-    if 1000000 < l {
-        return 19;
-    }
-    if f < b {
-        return 20;
-    }
-    0
 }
 
-// The code of the lowest-numbered faulty span, or 0.
-pub fn spans_code(places: u32, from: &[u32], to: &[u32], loss: &[u32]) -> u32
-    ensures { λ r. ⌜ r ≡ spansCode places (now (from .entry)) (now (to .entry)) (now (loss .entry)) ⌝ }
+// The store is made empty, and the start inserted with key 0.
+fn begin_search(
+    places: u32,
+    start: u32,
+    best: &mut [u32],
+    last: &mut [u32],
+    store: &mut [u32],
+) -> Progress
+    requires { ⌜ BeginReady places start (now best) (now last) (now store) ⌝ }
+    ensures { λ r. ⌜ Begun places start (now (best .exit)) (now (last .exit)) (now (store .exit)) r ⌝ }
 {
-    let mut e = 0;
-    let mut b = 0;
-    while e < from.len() {
-        let f = from[e];
-        let c = fault_of(places, f, word_or_zero(to, e), word_or_zero(loss, e), b);
-        if c != 0 {
-            return c;
-        }
-        b = f;
-        e += 1;
+    fill(best, NONE);
+    fill(last, NONE);
+    make_empty(store, places as usize);
+    let none = Tally { links: 0, cuts: 0 };
+    let reply = perform(
+        store,
+        Call::Insert {
+            heap: 0,
+            item: start,
+            key: 0,
+        },
+        none,
+    );
+    let i = start as usize;
+    best[i] = 0;
+    let tally = reply.tally;
+    Progress {
+        visited: 0,
+        met: 1,
+        examined: 0,
+        tally,
     }
-    0
 }
 
-// The lowest-numbered span that leaves place u or a higher one.
-fn first_span(from: &[u32], u: u32) -> usize
-    requires { ⌜ Sorted (now from) ⌝ }
-    ensures { λ r. ⌜ FirstSpan (now (from .entry)) u r ⌝ }
+// Places are visited until each that was met is.
+fn search(
+    places: u32,
+    start: u32,
+    from: &[u32],
+    to: &[u32],
+    loss: &[u32],
+    best: &mut [u32],
+    last: &mut [u32],
+    store: &mut [u32],
+    begun: Progress,
+) -> Progress
+    requires { ⌜ Stands (mapOf places start (now from) (now to) (now loss))
+        (now best) (now last) (now store) begun ⌝ }
+    ensures { λ r. ⌜ Found (mapOf places start (now (from .entry)) (now (to .entry)) (now (loss .entry)))
+        (now (best .exit)) (now (last .exit)) (now (store .exit)) r ⌝ }
 {
-    let mut low = 0;
-    let mut high = from.len();
-    while low < high {
-        let middle = low + (high - low) / 2;
-        if from[middle] < u {
-            low = middle + 1;
-        } else {
-            high = middle;
-        }
+    let mut go = begun;
+    while go.visited < go.met {
+        go = visit_next(places, start, from, to, loss, best, last, store, go);
     }
-    low
+    go
+}
+
+// The feed table of a map, and the links, cuts and examined spans of the search for it.
+pub fn feed(
+    places: u32,
+    start: u32,
+    from: &[u32],
+    to: &[u32],
+    loss: &[u32],
+    best: &mut [u32],
+    last: &mut [u32],
+    store: &mut [u32],
+) -> Fed
+    ensures { λ r. ⌜ Feeds (mapOf places start (now (from .entry)) (now (to .entry)) (now (loss .entry)))
+        (feedResult (mapOf places start (now (from .entry)) (now (to .entry)) (now (loss .entry)))
+        (now (best .entry)) (now (last .entry)) (now (store .entry)))
+        r (now (best .exit)) (now (last .exit)) (now (store .exit)) ⌝ }
+{
+    let code = feed_code(
+        places,
+        start,
+        from,
+        to,
+        loss,
+        best.len(),
+        last.len(),
+        store.len(),
+    );
+    if code != 0 {
+        return Fed {
+            code,
+            links: 0,
+            cuts: 0,
+            examined: 0,
+        };
+    }
+    let begun = begin_search(places, start, best, last, store);
+    let found = search(places, start, from, to, loss, best, last, store, begun);
+    let tally = found.tally;
+    Fed {
+        code: 0,
+        links: tally.links,
+        cuts: tally.cuts,
+        examined: found.examined,
+    }
 }

@@ -1,12 +1,10 @@
--- `finder::first_span` meets its contract.
+-- `finder::visit::first_span` meets its contract.
 use Prim.Native.Nat.{_-_}
 use native.Mathlib.Omega.{arith}
 use borrow.Author.Needs.{needs}
 use Rattle.finder.proofs.Range.{Halving, halving-starts, go-up, go-down, halving-ends}
-use Rattle.finder.proofs.first_span.Statement.{statement}
-use Rattle.finder.proofs.first_span.Tie as tie
-use Rattle.finder.proofs.first_span.Reads as reads
-use Rattle.finder.proofs.first_span.Lts as lts
+use Rattle.finder.proofs.visit.first_span.Statement.{statement}
+use Rattle.finder.proofs.visit.first_span.Tie as tie
 
 abbrev Inv-loop : tie.InvT-loop
 Inv-loop from u low₀ high₀ low high = Halving from u low high

@@ -1,24 +1,22 @@
 -- `finder::word_or_zero` meets its contract.
 use lib.ListN.{List·getD-eq-default}
 use borrow.Author.Needs.{needs}
-use Rattle.finder.proofs.word_or_zero.Statement.{statement}
-use Rattle.finder.proofs.word_or_zero.Tie as tie
-use Rattle.finder.proofs.word_or_zero.Reads as reads
-use Rattle.finder.proofs.word_or_zero.Lts as lts
+use Rattle.finder.proofs.refusal.word_or_zero.Statement.{statement}
+use Rattle.finder.proofs.refusal.word_or_zero.Tie as tie
 
--- src/lib.rt:11:16
+-- src/refusal.rt:11:16
 mul-result : tie.Need-mul-result
 mul-result c = search needs
 
--- src/lib.rt:11:16
+-- src/refusal.rt:11:16
 shared-slice-read-result : tie.Need-shared-slice-read-result
 shared-slice-read-result c = search needs
 
--- src/lib.rt:11:9
+-- src/refusal.rt:11:9
 returns : tie.Need-returns
 returns c = search needs
 
--- src/lib.rt:7:1
+-- src/refusal.rt:7:1
 returns-2 : tie.Need-returns-2
 returns-2 c = let h = c .if1 .left in rw List·getD-eq-default
 

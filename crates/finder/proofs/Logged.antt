@@ -1,0 +1,67 @@
+-- A queue call made on the store: the log grows by it, and the store and the tally follow. What is known of them at each
+-- moment of a search.
+use Prim.Native.Nat.{ℕ, _+_}
+use mathlib.Core.Path.{_≡_, sym, ap, _∙_}
+use mathlib.Core.List.{List, [], _∷_, _++_}
+use native.Mathlib.Omega.{arith}
+use Rattle.rules.specs.declared.Call.{Call}
+use Rattle.rules.specs.declared.Line.{Line}
+use Rattle.rules.specs.declared.Line.the-variants.{Yields}
+use Rattle.rules.specs.Forests.{empty}
+use Rattle.rules.specs.Answers.{answer, after}
+use Rattle.rules.specs.WellFormed.{WellFormed}
+use Rattle.rules.specs.Words.{encode, forestsOf}
+use Rattle.rules.proofs.SoundWords.{forests-encode, sound-encode}
+use Rattle.rules.specs.declared.Tally.{Tally}
+use Rattle.heap.specs.declared.Reply.{Reply}
+use Rattle.heap.specs.Performed.{Ready, Performed}
+use Rattle.finder.specs.Map.{Map, Accepted}
+use Rattle.finder.specs.Search.{Search, never}
+use Rattle.finder.specs.Theorems.{Moment}
+use Rattle.finder.specs.Progress.{Logged}
+use Rattle.finder.proofs.Turns.{moments-keep}
+use Rattle.finder.proofs.Log.{after-snoc, links-snoc, cuts-snoc}
+use Rattle.finder.proofs.Served.{ServedOf, served}
+use Rattle.finder.proofs.Counts.{counts-low}
+
+module _ (n : ℕ) (calls : List Line) (store : List ℕ) (t : Tally) (L : Logged n calls store t) where
+  pub logged-forests : WellFormed (after (empty n) calls) → forestsOf store ≡ after (empty n) calls
+  logged-forests W = ap forestsOf (L .words) ∙ forests-encode (after (empty n) calls) W
+
+  pub call-logged : WellFormed (after (empty n) calls) → (c : Call) (r : Reply) (store′ : List ℕ)
+      → Performed store c t r store′ → Logged n (calls ++ (Yields c ∷ [])) store′ (r .tally)
+  call-logged W c r store′ P =
+      let e = logged-forests W in
+      record {
+        words =
+            P .words ∙ ap (λ f. encode ((answer f (Yields c)) .next)) e
+            ∙ ap encode (sym (after-snoc (Yields c) (empty n) calls));
+        links =
+            omega (
+              arith,
+              P .links,
+              L .links,
+              ap (λ f. (answer f (Yields c)) .reply .links) e,
+              links-snoc (Yields c) n calls,
+            );
+        cuts =
+            omega (
+              arith,
+              P .cuts,
+              L .cuts,
+              ap (λ f. (answer f (Yields c)) .reply .cuts) e,
+              cuts-snoc (Yields c) n calls,
+            );
+      }
+
+-- at every moment another call may be made
+pub logged-ready : (m : Map) → Accepted m → (s : Search) → Moment never m s → (store : List ℕ) (t : Tally)
+    → Logged (m .places) (s .calls) store t → Ready store t
+logged-ready m A s M store t L =
+    let S = moments-keep never m A (ServedOf m) (served never m A) s M in
+    let low = counts-low never m A s M in
+    record {
+      sound = rw (L .words) (sound-encode (after (empty (m .places)) (s .calls)) (S .formed));
+      links = omega (arith, low, L .links);
+      cuts = omega (arith, low, L .cuts);
+    }

@@ -1,0 +1,154 @@
+-- An offer, by code: each way through it takes the search to the one that `offer` gives.
+use Prim.Native.Nat.{ℕ, zero, suc, _+_, _≤_, _<_}
+use mathlib.Core.Path.{_≡_, refl, sym, ap, _∙_}
+use mathlib.Core.Logic.{_≢_}
+use mathlib.Core.List.{List, [], _∷_}
+use native.Mathlib.Omega.{arith}
+use lib.ListN.{length, getD, set}
+use Rattle.rules.specs.declared.Call.the-variants.{Insert, DecreaseKey}
+use Rattle.rules.specs.Forests.{none}
+use Rattle.rules.proofs.Sums.{sumBy-set}
+use Rattle.heap.specs.declared.Reply.{Reply}
+use Rattle.heap.specs.Performed.{Performed}
+use Rattle.finder.specs.declared.relax.Progress.{Progress}
+use Rattle.finder.specs.Search.{Verdict, unmet, smaller, tie, worse, judge, update, offer}
+use Rattle.finder.specs.Progress.{EnterReady, OfferReady, Moves}
+use Rattle.finder.proofs.Judge.{judge-unmet, judge-smaller, judge-larger, judge-tie, judge-late}
+use Rattle.finder.proofs.Logged.{call-logged}
+
+-- below the length the default does not matter
+pub same-at : (l : List ℕ) (i a b : ℕ) → i < length l → getD l i a ≡ getD l i b
+same-at [] i a b h = absurd (omega arith)
+same-at (x ∷ l) zero a b h = refl
+same-at (x ∷ l) (suc i) a b h = same-at l i a b (omega arith)
+
+module _ (p l e : ℕ) (best last store : List ℕ) (go : Progress) where
+  -- the progress with another tally, and with k places met
+  abbrev on : ℕ → Reply → Progress
+  on k reply = record { visited = go .visited; met = k; examined = go .examined; tally = reply .tally }
+
+  pub enter-moves : EnterReady p best last store go → (reply : Reply) (store′ : List ℕ)
+      → Performed store (Insert 0 p l) (go .tally) reply store′
+      → Moves p (update unmet p l e) best last store go (set best p l) (set last p e) store′ (on (go .met + 1) reply)
+  unfolding update
+  enter-moves E reply store′ P =
+      record {
+        visited-is = refl;
+        holds =
+            λ n out s O H.
+            let z : getD (s .best) p none ≡ none =
+            rw (sym (H .best-is)) (same-at best p none 0 (E .offer .inBest) ∙ E .isNone) in
+            record {
+              best-is = ap (λ b. set b p l) (H .best-is);
+              last-is = ap (λ b. set b p e) (H .last-is);
+              logged = call-logged n (s .calls) store (go .tally) (H .logged) (O .formed)
+                  (Insert 0 p l) reply store′ P;
+              examined-is = H .examined-is;
+              met-is =
+                  omega (arith, H .met-is, sumBy-set (λ w. w) (s .queue .waits) p 1 0 (O .inside), O .apart z);
+            };
+      }
+
+  pub lower-moves : (reply : Reply) (store′ : List ℕ) → Performed store (DecreaseKey p l) (go .tally) reply store′
+      → Moves p (update smaller p l e) best last store go (set best p l) (set last p e) store′ (on (go .met) reply)
+  unfolding update
+  lower-moves reply store′ P =
+      record {
+        visited-is = refl;
+        holds =
+            λ n out s O H.
+            record {
+              best-is = ap (λ b. set b p l) (H .best-is);
+              last-is = ap (λ b. set b p e) (H .last-is);
+              logged = call-logged n (s .calls) store (go .tally) (H .logged) (O .formed)
+                  (DecreaseKey p l) reply store′ P;
+              examined-is = H .examined-is;
+              met-is = H .met-is;
+            };
+      }
+
+  pub tie-moves : Moves p (update tie p l e) best last store go best (set last p e) store go
+  unfolding update
+  tie-moves =
+      record {
+        visited-is = refl;
+        holds =
+            λ n out s O H.
+            record {
+              best-is = H .best-is;
+              last-is = ap (λ b. set b p e) (H .last-is);
+              logged = H .logged;
+              examined-is = H .examined-is;
+              met-is = H .met-is;
+            };
+      }
+
+  pub worse-moves : Moves p (update worse p l e) best last store go best last store go
+  unfolding update
+  worse-moves = record { visited-is = refl; holds = λ n out s O H. H }
+
+  -- the verdict is that on the words of the lists
+  pub judged-moves : (v : Verdict) → judge (getD best p none) (getD last p none) l e ≡ v
+      → (best′ last′ store′ : List ℕ) (r : Progress)
+      → Moves p (update v p l e) best last store go best′ last′ store′ r
+      → Moves p (offer p l e) best last store go best′ last′ store′ r
+  unfolding offer
+  judged-moves v q best′ last′ store′ r M =
+      record {
+        visited-is = M .visited-is;
+        holds =
+            λ n out s O H.
+            let j : judge (getD (s .best) p none) (getD (s .last) p none) l e ≡ v =
+            rw (sym (H .best-is), sym (H .last-is)) q in
+            rw j (M .holds n out s O H);
+      }
+
+  -- One law for each way out, in the order of the tests. The code reads a word as `getD .. 0`.
+  module _ (O : OfferReady p best last store go) (best′ last′ store′ : List ℕ) (r : Progress) where
+    b : getD best p none ≡ getD best p 0
+    b = same-at best p none 0 (O .inBest)
+
+    a : getD last p none ≡ getD last p 0
+    a = same-at last p none 0 (O .inLast)
+
+    pub offer-enters : getD best p 0 ≡ none → Moves p (update unmet p l e) best last store go best′ last′ store′ r
+        → Moves p (offer p l e) best last store go best′ last′ store′ r
+    offer-enters z M =
+        judged-moves unmet (judge-unmet (getD best p none) (getD last p none) l e (b ∙ z)) best′ last′ store′ r M
+
+    pub offer-lowers : getD best p 0 ≢ none → l < getD best p 0
+        → Moves p (update smaller p l e) best last store go best′ last′ store′ r
+        → Moves p (offer p l e) best last store go best′ last′ store′ r
+    offer-lowers z k M =
+        judged-moves smaller
+        (judge-smaller (getD best p none) (getD last p none) l e (λ q. z (sym b ∙ q)) (omega (arith, b))) best′ last′
+        store′ r M
+
+  module _ (O : OfferReady p best last store go) (met : getD best p 0 ≢ none) (low : getD best p 0 ≤ l) where
+    met′ : getD best p none ≢ none
+    met′ q = met (sym (same-at best p none 0 (O .inBest)) ∙ q)
+
+    low′ : getD best p none ≤ l
+    low′ = omega (arith, same-at best p none 0 (O .inBest))
+
+    pub offer-larger : getD best p 0 < l → Moves p (offer p l e) best last store go best last store go
+    offer-larger k =
+        judged-moves worse
+        (judge-larger (getD best p none) (getD last p none) l e met′ low′
+        (λ q. omega (arith, k, q, same-at best p none 0 (O .inBest))))
+        best last store go worse-moves
+
+    pub offer-late : getD last p 0 ≤ e → Moves p (offer p l e) best last store go best last store go
+    offer-late k =
+        judged-moves worse
+        (judge-late (getD best p none) (getD last p none) l e met′ low′
+        (omega (arith, same-at last p none 0 (O .inLast))))
+        best last store go worse-moves
+
+    pub offer-ties : l ≤ getD best p 0 → e < getD last p 0
+        → Moves p (offer p l e) best last store go best (set last p e) store go
+    offer-ties k i =
+        judged-moves tie
+        (judge-tie (getD best p none) (getD last p none) l e met′ low′
+        (omega (arith, low, k, same-at best p none 0 (O .inBest))) (omega (arith, same-at last p none 0 (O .inLast))))
+        best (set last p e) store go tie-moves

@@ -1,0 +1,260 @@
+-- The spans of a place that was taken, walked by code: what the code needs at each span, and where it stands after it.
+use Prim.Native.Nat.{ℕ, suc, _+_, _≤_, _<_}
+use mathlib.Core.Path.{_≡_, refl, ap, _∙_}
+use mathlib.Core.Bool.{Bool, true, false}
+use mathlib.Core.List.{List}
+use native.Mathlib.Nat.{le-refl}
+use native.Mathlib.Omega.{arith}
+use native.Mathlib.Numerals.{add-one}
+use lib.ListN.{length}
+use lib.Dec.{ltb}
+use borrow.Author.Tests.{eq-eqb, ltb-true, ltb-false}
+use Rattle.rules.specs.Forests.{none}
+use Rattle.finder.specs.declared.relax.Progress.{Progress}
+use Rattle.finder.specs.Map.{Map, spans, fromOf, toOf, lossOf}
+use Rattle.finder.specs.Search.{
+  Search,
+  offer,
+  try,
+  tried,
+  examine,
+  extracted,
+  visit,
+  turn,
+  turns,
+  never,
+  bestAt,
+}
+use Rattle.finder.specs.Range.{FirstSpan}
+use Rattle.finder.specs.Theorems.{trying}
+use Rattle.finder.specs.Progress.{
+  Holds,
+  Offerable,
+  OfferReady,
+  Moves,
+  Taken,
+  Visits,
+  examineOne,
+  visitOne,
+}
+use Rattle.finder.proofs.Waiting.{next-takes, waits-below}
+use Rattle.finder.proofs.Invariant.{unsettled}
+use Rattle.finder.proofs.Offers.{TryingOf, sum-fits, out-of-queue}
+use Rattle.finder.proofs.Tried.{tried-trying}
+use Rattle.finder.proofs.Turns.{
+  Between,
+  rest,
+  extracted-trying,
+  extracted-rest,
+  turns-between,
+  turns-keep,
+  trying-keeps,
+}
+use Rattle.finder.proofs.Served.{ServedOf, served}
+use Rattle.finder.proofs.Examined.{examinedAtMost}
+use Rattle.finder.proofs.Walk.{walk-begins, walk-ends}
+use Rattle.finder.proofs.Logged.{logged-ready}
+
+-- after the spans below e of place u, which was taken after k turns
+abbrev at : Map → ℕ → ℕ → ℕ → Search
+at m k u e = tried m u (bestAt (turns never m k) u) e (extracted u (turns never m k))
+
+-- Before span e of place u, which was taken after k turns: the spans from e to `end` are its spans still to be tried.
+pub record Walking (m : Map) (k u end e : ℕ) (best last store : List ℕ) (go : Progress) : Type 0 where
+  pub visited-is : go .visited ≡ k
+  pub ordered : e ≤ end
+  pub within : end ≤ spans m
+  pub own : (i : ℕ) → e ≤ i → i < end → fromOf m i ≡ u
+  pub beyond : end < spans m → u < fromOf m end
+  pub holds : Holds (m .places) (suc k) (at m k u e) best last store go
+
+module _
+    (m : Map) (free : (e : ℕ) → m .usable e ≡ true) (u d : ℕ) (best₀ last₀ store₀ : List ℕ) (taken : Progress)
+    (K : Taken m u d best₀ last₀ store₀ taken) where
+  abbrev k : ℕ
+  k = taken .visited
+
+  abbrev before : Search
+  before = turns never m k
+
+  B : Between never m k before
+  B = turns-between never m (K .accepted) k
+
+  abbrev left : ℕ
+  left = rest never m (K .accepted) k before B u (K .next-is)
+
+  left-is : left + 1 + k ≡ m .places
+  left-is =
+      omega (arith, B .goes u (K .next-is), extracted-rest never m (K .accepted) k before B u (K .next-is))
+
+  tryingAt : (e : ℕ) → e ≤ spans m → TryingOf m u (bestAt before u) e left (at m k u e)
+  tryingAt e h =
+      tried-trying m (K .accepted) u (bestAt before u) left (extracted u before)
+      (extracted-trying never m (K .accepted) k before B u (K .next-is)) e h
+
+  servedAt : (e : ℕ) → e ≤ spans m → ServedOf m (at m k u e)
+  servedAt e h =
+      trying-keeps never m (K .accepted) (ServedOf m) (served never m (K .accepted)) k u (K .next-is)
+      (turns-keep never m (K .accepted) (ServedOf m) (served never m (K .accepted)) k) e h
+
+  -- the place taken is one of few
+  pub place-small : u < 4096
+  place-small =
+      omega (
+        arith,
+        K .accepted .few,
+        B .invariant .waitsN,
+        waits-below (before .queue .waits) u (next-takes never (before .queue) u (K .next-is) .inside),
+      )
+
+  pub walking-begins : (first end : ℕ) → FirstSpan (m .from) u first → FirstSpan (m .from) (u + 1) end
+      → Walking m k u end first best₀ last₀ store₀ taken
+  walking-begins first end F E =
+      record {
+        visited-is = refl;
+        ordered = ordered;
+        within = E .within;
+        own =
+            λ i a b. omega (arith, F .above i a (omega (arith, E .within)), E .below i b);
+        beyond = λ h. omega (arith, E .above end (le-refl _) h);
+        holds = rw (walk-begins m u (bestAt before u) (extracted u before) first (F .below)) (K .holds);
+      }
+    where
+      ordered : first ≤ end
+      ordered = go (ltb end first) refl
+        where
+          go : (t : Bool) → ltb end first ≡ t → first ≤ end
+          go false q = ltb-false end first q
+          go true q =
+              let h = ltb-true end first q in
+              absurd (omega (arith, F .below end h, E .above end (le-refl _) (omega (arith, h, F .within))))
+
+  module _ (end e : ℕ) (best last store : List ℕ) (go : Progress) (W : Walking m k u end e best last store go) where
+    -- span e is one of u's
+    module _ (j : e < end) where
+      h : e < spans m
+      h = omega (arith, W .within)
+
+      f : fromOf m e ≡ u
+      f = W .own e (omega arith) j
+
+      T : TryingOf m u (bestAt before u) e left (at m k u e)
+      T = tryingAt e (omega (arith, h))
+
+      pub examined-small : go .examined < 4294967295
+      examined-small =
+          omega (
+            arith,
+            W .holds .examined-is,
+            examinedAtMost never m (K .accepted) (at m k u e) (trying k u e (K .next-is) (omega (arith, h))),
+            K .accepted .short,
+          )
+
+      pub span-small : e < 16384
+      span-small = omega (arith, h, K .accepted .short)
+
+      pub in-from : e < length (m .from)
+      in-from = h
+
+      pub in-to : e < length (m .to)
+      in-to = omega (arith, h, K .accepted .toN)
+
+      pub in-loss : e < length (m .loss)
+      in-loss = omega (arith, h, K .accepted .lossN)
+
+      pub loss-fits : d + lossOf m e < none
+      loss-fits =
+          omega (
+            arith,
+            K .loss-is,
+            sum-fits m (K .accepted) u (bestAt before u) e left (at m k u e) T (h, free e) f,
+          )
+
+      offerable : Offerable (m .places) (toOf m e) (examine (at m k u e))
+      offerable =
+          record {
+            formed = servedAt e (omega (arith, h)) .formed;
+            inside = omega (arith, T .invariant .waitsN, K .accepted .toIn e h);
+            apart =
+                λ z.
+                out-of-queue m (K .accepted) u (bestAt before u) e left (at m k u e) T (h, free e) f z;
+          }
+
+      pub offer-ready : OfferReady (toOf m e) best last store (examineOne go)
+      unfolding examineOne unsettled
+      offer-ready =
+          record {
+            inBest = omega (arith, ap length (W .holds .best-is), T .invariant .bestN, K .accepted .toIn e h);
+            inLast = omega (arith, ap length (W .holds .last-is), T .invariant .lastN, K .accepted .toIn e h);
+            ready =
+                logged-ready m (K .accepted) (at m k u e) (trying k u e (K .next-is) (omega (arith, h))) store
+                (go .tally) (W .holds .logged);
+            room = omega (arith, W .holds .met-is, T .left, left-is, K .accepted .few);
+          }
+
+      examined-holds : Holds (m .places) (suc k) (examine (at m k u e)) best last store (examineOne go)
+      unfolding examineOne
+      examined-holds =
+          record {
+            best-is = W .holds .best-is;
+            last-is = W .holds .last-is;
+            logged = W .holds .logged;
+            examined-is = omega (arith, W .holds .examined-is);
+            met-is = W .holds .met-is;
+          }
+
+      pub walking-on : (best′ last′ store′ : List ℕ) (r : Progress)
+          → Moves (toOf m e) (offer (toOf m e) (d + lossOf m e) e) best last store
+          (examineOne go) best′ last′ store′ r
+          → Walking m k u end (e + 1) best′ last′ store′ r
+      unfolding examineOne tried try
+      walking-on best′ last′ store′ r M =
+          record {
+            visited-is = M .visited-is ∙ W .visited-is;
+            ordered = omega arith;
+            within = W .within;
+            own = λ i a b. W .own i (omega arith) b;
+            beyond = W .beyond;
+            holds =
+                rw (add-one, eq-eqb (fromOf m e) u f, free e)
+                (rw (K .loss-is) at (M .holds (m .places) (suc k) (examine (at m k u e)) offerable examined-holds));
+          }
+
+    pub visited-small : go .visited < 4294967295
+    visited-small = omega (arith, W .visited-is, left-is, K .accepted .few)
+
+    -- the spans after e leave other places
+    turns-next : end ≤ e → turns never m (suc k) ≡ at m k u e
+    unfolding turns turn visit
+    turns-next j =
+        let q : end ≡ e = omega (arith, W .ordered) in
+        rw (K .next-is)
+        (walk-ends m (K .accepted) u (bestAt before u) (extracted u before) end (W .within) (W .beyond)
+        ∙ ap (λ i. at m k u i) q)
+
+    visited-holds : Holds (m .places) (suc k) (at m k u e) best last store (visitOne go)
+    unfolding visitOne
+    visited-holds =
+        record {
+          best-is = W .holds .best-is;
+          last-is = W .holds .last-is;
+          logged = W .holds .logged;
+          examined-is = W .holds .examined-is;
+          met-is = W .holds .met-is;
+        }
+
+    turned : end ≤ e → (i : ℕ) → i ≡ suc k → Holds (m .places) i (turns never m i) best last store (visitOne go)
+    turned j i q = rw (q, turns-next j) visited-holds
+
+    pub walking-ends : end ≤ e → Visits m taken best last store (visitOne go)
+    unfolding visitOne
+    walking-ends j =
+        record {
+          stands =
+              record {
+                accepted = K .accepted;
+                few = omega (arith, W .visited-is, left-is);
+                holds = turned j (go .visited + 1) (omega (arith, W .visited-is));
+              };
+          one-more = omega (arith, W .visited-is);
+        }

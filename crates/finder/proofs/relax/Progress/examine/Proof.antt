@@ -1,0 +1,18 @@
+-- `finder::relax::Progress::examine` meets its contract.
+use mathlib.Core.Path.{refl}
+use Rattle.finder.specs.Progress.{examineOne}
+use borrow.Author.Needs.{needs}
+use Rattle.finder.proofs.relax.Progress.examine.Statement.{statement}
+use Rattle.finder.proofs.relax.Progress.examine.Tie as tie
+
+-- src/relax.rt:31:23
+add-t3 : tie.Need-add-t3
+add-t3 c = search needs
+
+-- src/relax.rt:23:5
+returns : tie.Need-returns
+unfolding examineOne
+returns c = refl
+
+pub examine-spec : {M : Type 1} → statement M
+examine-spec = tie.close (tie.spec add-t3 returns)
