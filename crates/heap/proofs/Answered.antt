@@ -93,8 +93,8 @@ pub minimum-item : {w : List ℕ} {n h : ℕ} → Allowed w n (FindMin h) → mi
 minimum-item {w} {n} {h} A =
     let t = forestsOf w in
     let i = find-ok t h (A .done) in
-    let l = heap-in t (minimum t h) (λ e. omega (arith, e, row-root t (formed (A .store) .disjoint) h (minimum t h) i .0)) in
-    omega (arith, items-size (A .store))
+    let r = row-root t (formed (A .store) .disjoint) h (minimum t h) i in
+    omega (arith, heap-in t (minimum t h) (λ e. omega (arith, e, r .0)), items-size (A .store))
 
 -- T is refused as M is
 pub as-find : {w : List ℕ} {n h : ℕ} → Allowed w n (ExtractMin h) → Allowed w n (FindMin h)

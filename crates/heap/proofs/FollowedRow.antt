@@ -67,11 +67,12 @@ module _ (t : Forests) (D : Disjoint t) (a : ℕ) where
   next-kept (z ∷ zs) n j m k =
       rw (
         ne-eqb z none (head-item z zs n),
-        ne-eqb (lastOr none (rowOf t a)) j (at-end (lastOr none (rowOf t a)) j (rowOf t a) (last-in none (rowOf t a)) m k),
+        ne-eqb (lastOr none (rowOf t a)) j
+            (at-end (lastOr none (rowOf t a)) j (rowOf t a) (last-in none (rowOf t a)) m k),
       )
 
-  pub next-one : (l : List ℕ) → occurs none l ≡ 0 → (j : ℕ) → j ≢ none → occurs j l ≡ 0 → word t Next j ≡ nextIn j (rowOf t a)
-      → after t a l Next j ≡ nextIn j (rowOf t a ++ l)
+  pub next-one : (l : List ℕ) → occurs none l ≡ 0 → (j : ℕ) → j ≢ none → occurs j l ≡ 0
+      → word t Next j ≡ nextIn j (rowOf t a) → after t a l Next j ≡ nextIn j (rowOf t a ++ l)
   unfolding concatenated joined setLast setNext setFirst firstOf headOr word
   next-one [] n j m k e = rw (append-nil (rowOf t a)) e
   next-one (z ∷ zs) n j m k e =
@@ -85,8 +86,8 @@ module _ (t : Forests) (D : Disjoint t) (a : ℕ) where
   prev-kept (z ∷ zs) n j k =
       rw (ne-eqb z none (head-item z zs n), ne-eqb z j (apart z j (z ∷ zs) (head-in z zs) k))
 
-  pub prev-two : (l : List ℕ) → occurs none l ≡ 0 → (j : ℕ) → j ≢ none → occurs j (rowOf t a) ≡ 0 → word t Prev j ≡ prevIn none j l
-      → after t a l Prev j ≡ prevIn none j (rowOf t a ++ l)
+  pub prev-two : (l : List ℕ) → occurs none l ≡ 0 → (j : ℕ) → j ≢ none → occurs j (rowOf t a) ≡ 0
+      → word t Prev j ≡ prevIn none j l → after t a l Prev j ≡ prevIn none j (rowOf t a ++ l)
   unfolding concatenated joined setLast setNext setFirst firstOf headOr word prevIn
   prev-two [] n j m k e = e ∙ sym (prev-behind none j (rowOf t a) [] k)
   prev-two (z ∷ zs) n j m k e =

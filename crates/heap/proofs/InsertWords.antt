@@ -1,217 +1,30 @@
 -- The words after an insertion are those of the rules' next forests.
-use Prim.Native.Nat.{ℕ, suc, _+_, _-_, _*_, _<_}
-use mathlib.Core.Path.{_≡_, refl, sym, ap, _∙_, subst}
-use mathlib.Core.List.{List, [], _∷_, _++_}
-use mathlib.Core.Bool.{Bool, true, false, cond}
+use Prim.Native.Nat.{ℕ, suc, _<_}
+use mathlib.Core.Path.{_≡_, refl, sym, _∙_, subst}
+use mathlib.Core.List.{List}
 use native.Mathlib.Omega.{arith}
-use lib.ListN.{getD, set, length-set}
-use lib.Seq.{getD-set-same, getD-set-other}
-use lib.Dec.{eqb, eqb·zero-suc}
-use borrow.Author.Tests.{eqb-true, ne-eqb}
+use lib.ListN.{length-set}
+use lib.Seq.{getD-set-same}
 use Rattle.rules.specs.declared.Call.the-variants.{Insert}
-use Rattle.rules.specs.declared.Field.{Field}
-use Rattle.rules.specs.declared.Field.the-variants.{
-  Count,
-  FirstChild,
-  FirstTree,
-  Key,
-  LastChild,
-  LastTree,
-  Minimum,
-  Next,
-  Parent,
-  Prev,
-  Rank,
-  State,
-}
+use Rattle.rules.specs.declared.Field.the-variants.{Count, Minimum}
 use Rattle.store.specs.declared.Owner.the-variants.{Row}
 use Rattle.rules.specs.Calls.{insert}
-use Rattle.rules.specs.Fibonacci.{F}
-use Rattle.rules.specs.Forests.{
-  Forests,
-  childrenOf,
-  count,
-  heapOf,
-  keyOf,
-  markOf,
-  none,
-  parentOf,
-  rowOf,
-  setHeap,
-  setKey,
-  tableSize,
-}
-use Rattle.rules.specs.Lists.{delta, occurs}
-use Rattle.rules.specs.Order.{leastIn, leastOf, minimum}
+use Rattle.rules.specs.Forests.{Forests, count, heapOf, setHeap, setKey, tableSize}
+use Rattle.rules.specs.Order.{minimum}
 use Rattle.rules.specs.WellFormed.{Disjoint}
-use Rattle.rules.specs.Words.{
-  encode,
-  forestsOf,
-  headOr,
-  lastOr,
-  nextIn,
-  prevIn,
-  room,
-  siblings,
-  stateOf,
-  unlessFree,
-  word,
-}
-use Rattle.rules.proofs.Counts.{count-entered}
-use Rattle.rules.proofs.LinkKeeps.{once}
-use Rattle.rules.proofs.Members.{free-children, row-root}
-use Rattle.rules.proofs.Occurs.{delta-other, occurs-one}
+use Rattle.rules.specs.Words.{encode, forestsOf}
 use Rattle.rules.proofs.RankSixteen.{count-table}
 use Rattle.rules.proofs.Refusals.{insert-ok}
-use Rattle.rules.proofs.SiblingLists.{once-row}
-use Rattle.store.specs.Families.{Family, Holds, appendTo, listOf, loose, ownerOf, wordBut}
-use Rattle.store.specs.Says.{Changes, Says, Values}
+use Rattle.store.specs.Families.{Family, Holds, appendTo, listOf, wordBut}
+use Rattle.store.specs.Says.{Changes, Says}
 use Rattle.store.specs.Siblings.{AppendReady, Link, appended}
-use Rattle.store.proofs.Families.{getD-set}
 use Rattle.store.proofs.Holds.{append-holds, holds-says, reshape}
 use Rattle.store.proofs.Ready.{append-ready}
 use Rattle.store.proofs.Says.{says-as}
 use Rattle.heap.specs.Allowed.{Allowed}
 use Rattle.heap.specs.Entered.{EnrollReady, EnterReady, enrolled, entered}
-use Rattle.heap.specs.Lesser.{lesser}
-use Rattle.heap.proofs.LeastOfTwo.{least-append, least-other}
-use Rattle.heap.proofs.SoundStore.{
-  formed,
-  items-size,
-  minimum-link,
-  row-none,
-  says-encode,
-  sound-holds,
-  sound-says,
-}
-
-module _ (t : Forests) (D : Disjoint t) (h i k : ℕ) (hh : h < 8) (ii : i < tableSize t) (fr : heapOf t i ≡ 0) where
-  -- i has entered heap h, and is in no list yet
-  abbrev between : Forests
-  between = setHeap i (suc h) (setKey i k t)
-
-  abbrev old : Values
-  old = wordBut (count t) (minimum t) t
-
-  heap-at : (j : ℕ) → heapOf between j ≡ cond (eqb i j) (suc h) (heapOf t j)
-  heap-at j = getD-set (t .heap) i j (suc h) 0 ii
-
-  -- a word that i gets, and all others have
-  enters : (x z j : ℕ) → (i ≡ j → z ≡ x) → cond (eqb i j) x (unlessFree t j z) ≡ unlessFree between j z
-  unfolding unlessFree
-  enters x z j f = rw (heap-at j) (go (eqb i j) refl)
-    where
-      go : (b : Bool) → eqb i j ≡ b
-          → cond b x (cond (eqb (heapOf t j) 0) 0 z) ≡ cond (eqb (cond b (suc h) (heapOf t j)) 0) 0 z
-      go true e = rw (ne-eqb (suc h) 0 (λ q. omega arith)) (sym (f (eqb-true i j e)))
-      go false e = refl
-
-  childless : (j : ℕ) → i ≡ j → childrenOf t j ≡ []
-  childless j e = rw (← e) (free-children t D i ii fr)
-
-  -- the links of i are 0, as those of a free item
-  links : (j : ℕ) (F : List ℕ → ℕ)
-      → unlessFree t j (F (siblings t j)) ≡ cond (eqb i j) 0 (unlessFree between j (F (siblings between j)))
-  unfolding unlessFree siblings
-  links j F = rw (heap-at j) (go (eqb i j) refl)
-    where
-      go : (b : Bool) → eqb i j ≡ b
-          → cond (eqb (heapOf t j) 0) 0
-          (F (cond (eqb (parentOf t j) none) (rowOf t (heapOf t j - 1)) (childrenOf t (parentOf t j))))
-          ≡ cond b 0 (cond (eqb (cond b (suc h) (heapOf t j)) 0) 0
-          (F (cond (eqb (parentOf t j) none) (rowOf t (cond b (suc h) (heapOf t j) - 1))
-          (childrenOf t (parentOf t j)))))
-      go true e = rw (← (eqb-true i j e), fr)
-      go false e = refl
-
-  state : (j : ℕ) → cond (eqb i j) (1 + 2 * h) (stateOf (heapOf t j) (markOf t j))
-      ≡ stateOf (heapOf between j) (markOf t j)
-  unfolding stateOf
-  state j = rw (heap-at j) (go (eqb i j) refl)
-    where
-      go : (b : Bool) → eqb i j ≡ b
-          → cond b (1 + 2 * h) (stateOf (heapOf t j) (markOf t j))
-          ≡ stateOf (cond b (suc h) (heapOf t j)) (markOf t j)
-      go true e = omega (arith, ap (markOf t) (eqb-true i j e), D .free i fr .2)
-      go false e = refl
-
-  entered-word : (n : ℕ) → tableSize t ≡ n → (f : Field) (j : ℕ) → j < room n f
-      → entered h i k old f j ≡ loose i 0 0 (wordBut (count t) (minimum t) between) f j
-  unfolding entered loose wordBut word headOr lastOr
-  entered-word n e FirstTree j l = refl
-  entered-word n e LastTree j l = refl
-  entered-word n e Minimum j l = refl
-  entered-word n e Count j l = refl
-  entered-word n e Key j l = sym (getD-set (t .key) i j k 0 (omega (arith, D .keyN)))
-  entered-word n e Parent j l = refl
-  entered-word n e FirstChild j l = enters none _ j (λ q. ap (headOr none) (childless j q))
-  entered-word n e LastChild j l = enters none _ j (λ q. ap (lastOr none) (childless j q))
-  entered-word n e Next j l = links j (nextIn j)
-  entered-word n e Prev j l = links j (prevIn none j)
-  entered-word n e Rank j l = refl
-  entered-word n e State j l = state j
-
-  -- no row has a free item
-  out : (g : ℕ) → occurs i (rowOf t g) ≡ 0
-  out g = D .inRow g i ∙ rw (fr, eqb·zero-suc g)
-
-  abbrev new : Forests
-  new = insert h i k t
-
-  count-word : (g : ℕ) → cond (eqb h g) (count t h + 1) (count t g) ≡ count new g
-  unfolding insert delta
-  count-word g = go (eqb h g) refl (count-entered t new h i g ii fr refl)
-    where
-      go : (b : Bool) → eqb h g ≡ b → count new g ≡ count t g + cond b 1 0
-          → cond b (count t h + 1) (count t g) ≡ count new g
-      go true e q = omega (arith, ap (count t) (eqb-true h g e))
-      go false e q = omega arith
-
-  least-word : (g : ℕ) → cond (eqb h g) (lesser (keyOf new) (minimum t h) i) (minimum t g) ≡ minimum new g
-  unfolding minimum insert leastIn leastOf
-  least-word g =
-      rw (getD-set (t .rows) h g (rowOf t h ++ (i ∷ [])) [] (omega (arith, D .rows8))) (go (eqb h g) refl)
-    where
-      key′ : List ℕ
-      key′ = set (t .key) i k
-
-      go : (b : Bool) → eqb h g ≡ b
-          → cond b (lesser (λ j. getD key′ j 0) (leastIn (t .key) (rowOf t h)) i) (leastIn (t .key) (rowOf t g))
-          ≡ leastIn key′ (cond b (rowOf t h ++ (i ∷ [])) (rowOf t g))
-      go true e =
-          ap (λ m. lesser (λ j. getD key′ j 0) m i) (sym (least-other (t .key) i k (rowOf t h) (out h)))
-          ∙ sym (least-append (λ j. getD key′ j 0) key′ (rowOf t h) (i ∷ []) (row-none t D h)
-          (occurs-one none i ∙ delta-other none i (λ e. omega (arith, e, D .small))) (λ j _. refl))
-      go false e = sym (least-other (t .key) i k (rowOf t g) (out g))
-
-  enrolled-word : (n : ℕ) (f : Field) (j : ℕ) → j < room n f
-      → enrolled h i (wordBut (count t) (minimum t) new) f j ≡ word new f j
-  unfolding enrolled wordBut word
-  enrolled-word n FirstTree j l = refl
-  enrolled-word n LastTree j l = refl
-  enrolled-word n Minimum j l = least-word j
-  enrolled-word n Count j l = count-word j
-  enrolled-word n Key j l = refl
-  enrolled-word n Parent j l = refl
-  enrolled-word n FirstChild j l = refl
-  enrolled-word n LastChild j l = refl
-  enrolled-word n Next j l = refl
-  enrolled-word n Prev j l = refl
-  enrolled-word n Rank j l = refl
-  enrolled-word n State j l = refl
-
-  -- what the row requires of i, before it joins
-  family : (n : ℕ) → Family n between (Row h)
-  unfolding listOf ownerOf
-  family n =
-      record {
-        present = hh;
-        once = once-row t D h;
-        owned = λ y m.
-            let r = row-root t D h y m in
-            let e : heapOf between y ≡ suc h = getD-set-other (t .heap) i y (suc h) 0 (λ q. omega (arith, ap (heapOf t) q, r .0)) ∙ r .0 in
-            (λ z. omega (arith, e), rw (r .1, e) (ap Row (omega arith)));
-      }
+use Rattle.heap.proofs.InsertKinds.{enrolled-word, entered-word, family, out}
+use Rattle.heap.proofs.SoundStore.{formed, items-size, minimum-link, says-encode, sound-holds, sound-says}
 
 module _ {w : List ℕ} {n h i k : ℕ} (A : Allowed w n (Insert h i k)) where
   abbrev t : Forests

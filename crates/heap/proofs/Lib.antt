@@ -2,12 +2,16 @@ pub mod LeastOfTwo
 pub mod SoundStore
 pub mod Entering
 pub mod JoiningHeaps
+pub mod InsertKinds
 pub mod InsertWords
 pub mod RefusalWords
 pub mod MovedHeaps
 pub mod FollowedRow
+pub mod MeldLists
+pub mod MeldKinds
 pub mod MeldWords
 pub mod Answered
 pub mod CutIf
 pub mod Decreasing
 pub mod Deleting
+pub mod KeepsSound

@@ -62,7 +62,11 @@ module _ (a b g : ℕ) (n : g ≢ a) where
   one-moves false e =
       let d : b ≢ g = eqb-false b g e in
       byItem (suc b)
-      (rw (heap-moves a b, ne-eqb (suc a) (suc g) (λ q. n (omega arith)), ne-eqb (suc b) (suc g) (λ q. d (omega arith))))
+      (rw (
+        heap-moves a b,
+        ne-eqb (suc a) (suc g) (λ q. n (omega arith)),
+        ne-eqb (suc b) (suc g) (λ q. d (omega arith)),
+      ))
       (λ y m. rw (heap-stays a b y m))
 
   pub counts-move : (l : List ℕ)

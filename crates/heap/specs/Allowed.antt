@@ -4,7 +4,9 @@ use mathlib.Core.Path.{_≡_}
 use mathlib.Core.List.{List}
 use Rattle.rules.specs.declared.Call.{Call}
 use Rattle.rules.specs.Answers.{refusal}
-use Rattle.rules.specs.Calls.{Outcome}
+use Rattle.rules.specs.Forests.{Forests}
+use Rattle.rules.specs.Calls.{Outcome, extract}
+use Rattle.rules.specs.Order.{minimum}
 use Rattle.rules.specs.Words.{Sound, encode, forestsOf, itemsIn}
 use Rattle.rules.specs.declared.Tally.{Tally}
 
@@ -26,6 +28,10 @@ pub record Room (t : Tally) : Type 0 where
 pub record MayMove (w : List ℕ) (n : ℕ) (c : Call) (t : Tally) : Type 0 where
   pub allowed : Allowed w n c
   pub room : Room t
+
+-- T takes the minimum
+abbrev pub extracting : ℕ → Forests → Outcome
+extracting h t = extract h (minimum t h) t
 
 -- The words are those of the rules' next forests, and the moves of the rules are added to the tally.
 pub record Moves (o : Outcome) (t r : Tally) (w′ : List ℕ) : Type 0 where

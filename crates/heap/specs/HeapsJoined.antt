@@ -1,7 +1,7 @@
 -- Heap b joined to heap a: what that does to what the words say.
 use Prim.Native.Nat.{ℕ, _+_, _*_, _<_, _≤_}
 use mathlib.Core.List.{List}
-use mathlib.Core.Bool.{cond, _&&_}
+use mathlib.Core.Bool.{cond}
 use lib.Dec.{eqb, ltb}
 use Rattle.rules.specs.declared.Field.the-variants.{FirstTree, LastTree, Minimum, Count, Key, State}
 use Rattle.rules.specs.SetWord.{fieldNumber, setWord}

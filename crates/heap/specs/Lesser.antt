@@ -1,5 +1,5 @@
 -- The lesser of two items in the item order, by the keys of the items; `none` stands for no item.
-use Prim.Native.Nat.{ℕ, _<_}
+use Prim.Native.Nat.{ℕ}
 use mathlib.Core.List.{List}
 use mathlib.Core.Bool.{cond}
 use lib.Dec.{eqb, ltb}

@@ -2,10 +2,9 @@
 ghost use mathlib.Core.Path.{_≡_};
 ghost use Rattle.rules.specs.declared.Call.the-variants.{ExtractMin, Delete};
 ghost use Rattle.rules.specs.Calls as calls;
-ghost use Rattle.rules.specs.Order as order;
 ghost use Rattle.rules.specs.Words.{forestsOf};
 ghost use Rattle.cut.specs.Ready.{CascadeReady};
-ghost use Rattle.heap.specs.Allowed.{MayMove, Moves};
+ghost use Rattle.heap.specs.Allowed.{MayMove, Moves, extracting};
 ghost use Rattle.heap.specs.Moving.{CutsIf, DeleteOther};
 use super::decrease::heap_of;
 use consolidate::remove_root;
@@ -18,7 +17,7 @@ use store::get;
 // T: the minimum leaves, then linking follows.
 pub fn extract_min(s: &mut [u32], n: usize, h: u32, tally: Tally) -> Tally
     requires { ⌜ MayMove (now s) n (ExtractMin h) tally ⌝ }
-    ensures { λ r. ⌜ Moves (calls.extract h (order.minimum (forestsOf (now (s .entry))) h) (forestsOf (now (s .entry)))) tally r (now (s .exit)) ⌝ }
+    ensures { λ r. ⌜ Moves (extracting h (forestsOf (now (s .entry)))) tally r (now (s .exit)) ⌝ }
 {
     let taken = consolidate::extract_min(s, n, h, tally);
     taken.tally

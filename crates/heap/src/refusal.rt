@@ -35,7 +35,8 @@ fn refuse_minimum(s: &[u32], n: usize, h: u32) -> u32
     if h > 7 {
         return 7;
     }
-    if get(s, n, Field::FirstTree, h) == NONE {
+    let first = get(s, n, Field::FirstTree, h);
+    if first == NONE {
         return 12;
     }
     0

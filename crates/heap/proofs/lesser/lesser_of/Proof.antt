@@ -27,7 +27,13 @@ unfolding lesser
 returns-3 c =
     let c2 = c .before .before in
     let c4 = c2 .before .before in
-    rw (ne-eqb _ _ (c4 .if1 .left), ne-eqb _ _ (c2 .before .if2 .left), ← (c2 .get .ensures), ← (c .before .get2 .ensures), lt-ltb _ _ (c .if3 .taken))
+    rw (
+      ne-eqb _ _ (c4 .if1 .left),
+      ne-eqb _ _ (c2 .before .if2 .left),
+      ← (c2 .get .ensures),
+      ← (c .before .get2 .ensures),
+      lt-ltb _ _ (c .if3 .taken),
+    )
 
 returns-4 : tie.Need-returns-4
 unfolding lesser

@@ -19,7 +19,8 @@ lesser-of-requires c κs =
 
 add-put : tie.Need-add-put
 add-put c =
-    let c15 = c .before .before .before .before .before .before .before .before .before .before .before .before .before .before .before in
+    let c8 = c .before .before .before .before .before .before .before .before in
+    let c15 = c8 .before .before .before .before .before .before .before in
     let c17 = c15 .before .before in
     let c20 = c17 .before .before .before in
     omega (arith, c17 .get .ensures, c15 .get2 .ensures, c20 .pre .count)

@@ -2,7 +2,7 @@
 use borrow.Author.Needs.{needs}
 use Prim.Native.Nat.{_-_, _≤_}
 use native.Mathlib.Omega.{arith}
-use Rattle.store.specs.Says.{Sized, Changes}
+use Rattle.store.specs.Says.{Changes}
 use Rattle.heap.specs.HeapsJoined.{rehomedTo}
 use Rattle.heap.proofs.JoiningHeaps.{rehome-none, rehome-more, rehome-all}
 use Rattle.heap.proofs.meld.rehome.Statement.{statement}
@@ -28,8 +28,11 @@ loop-again : tie.Need-loop-again Inv-loop μ-loop
 loop-again c =
     let c2 = c .before .before in
     let c4 = c2 .before .before in
-    let c8 = c4 .before .before .before .before in
-    (rehome-more _ _ _ (omega arith) (c8 .loop .inv .0) (c4 .before .get .ensures) (c4 .moved-state .ensures) (c2 .put .ensures), omega arith)
+    let c8 = c4 .before .before .before .before in (
+      rehome-more _ _ _ (omega arith) (c8 .loop .inv .0) (c4 .before .get .ensures) (c4 .moved-state .ensures)
+          (c2 .put .ensures),
+      omega arith,
+    )
 
 pub rehome-spec : {M : Type 1} → statement M
 rehome-spec =

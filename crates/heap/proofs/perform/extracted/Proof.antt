@@ -21,7 +21,8 @@ get-requires-2 c κs =
     let A = as-find (c4 .pre .allowed) in
     record {
       sized = sound-says (A .store) .sized;
-      inside = subst (λ i. i < c4 .args .n) (sym (c .before .get .ensures ∙ minimum-at (A .store) (find-heap A))) (minimum-item A);
+      inside = subst (λ i. i < c4 .args .n) (sym (c .before .get .ensures ∙ minimum-at (A .store) (find-heap A)))
+          (minimum-item A);
     }
 
 extract-min-requires : tie.Need-extract-min-requires

@@ -20,7 +20,8 @@ perform-allowed-requires c κs =
     let c2 = c .before .before in
     let c4 = c2 .before .before in
     let c7 = c4 .before .before .before in
-    may-move (c7 .pre) (items-store (c7 .pre .sound) (c4 .items-of .ensures)) (c2 .refusal .ensures) (c .before .if1 .left)
+    may-move (c7 .pre) (items-store (c7 .pre .sound) (c4 .items-of .ensures)) (c2 .refusal .ensures)
+    (c .before .if1 .left)
 
 pub perform-spec : {M : Type 1} → statement M
 perform-spec =

@@ -1,5 +1,4 @@
 -- `heap::refusal::refuse_decrease` meets its contract.
-use native.Mathlib.Omega.{arith}
 use borrow.Author.Tests.{lt-ltb, le-ltb, le-leb, lt-leb, eq-eqb, ne-eqb}
 use Rattle.rules.specs.Answers.{refusal}
 use Rattle.heap.proofs.SoundStore.{sound-says}

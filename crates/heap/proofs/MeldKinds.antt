@@ -1,0 +1,177 @@
+-- The words of forests in which heap b was joined to heap a, kind by kind.
+use Prim.Native.Nat.{ℕ, suc, _+_, _<_}
+use mathlib.Core.Path.{_≡_, refl, sym, ap, _∙_}
+use mathlib.Core.Logic.{_≢_}
+use mathlib.Core.List.{List, [], _++_}
+use mathlib.Core.Bool.{Bool, true, false, cond}
+use native.Mathlib.Omega.{arith}
+use lib.Dec.{eqb}
+use borrow.Author.Tests.{eqb-true, eqb-false, ne-eqb}
+use Rattle.rules.specs.declared.Field.{Field}
+use Rattle.rules.specs.declared.Field.the-variants.{
+  Count,
+  FirstChild,
+  FirstTree,
+  Key,
+  LastChild,
+  LastTree,
+  Minimum,
+  Next,
+  Parent,
+  Prev,
+  Rank,
+  State,
+}
+use Rattle.rules.specs.Calls.{meld, moveHeap}
+use Rattle.rules.specs.Forests.{Forests, childrenOf, count, heapOf, keyOf, markOf, none, rowOf, tableSize}
+use Rattle.rules.specs.Lists.{occurs}
+use Rattle.rules.specs.Order.{leastIn, minimum}
+use Rattle.rules.specs.WellFormed.{Disjoint}
+use Rattle.rules.specs.Words.{headOr, lastOr, nextIn, prevIn, room, siblings, stateOf, unlessFree, word}
+use Rattle.rules.proofs.ConcatLinks.{next-behind, prev-before}
+use Rattle.rules.proofs.Counts.{count-meld}
+use Rattle.store.specs.Empty.{emptyHeap}
+use Rattle.store.specs.Siblings.{firstOf, joined, setFirst, setLast, setNext}
+use Rattle.heap.specs.HeapsJoined.{heapsJoined, movedState, poured, rehomed}
+use Rattle.heap.specs.Lesser.{lesser}
+use Rattle.heap.proofs.FollowedRow.{
+  after,
+  first-after,
+  last-after,
+  next-kept,
+  next-one,
+  plain-after,
+  prev-kept,
+  prev-two,
+}
+use Rattle.heap.proofs.LeastOfTwo.{least-append}
+use Rattle.heap.proofs.MeldLists.{
+  Where,
+  inOne,
+  inTwo,
+  stays,
+  free-at,
+  heap-at,
+  joined-list,
+  old-list,
+  row-at,
+  where-is,
+}
+use Rattle.heap.proofs.MovedHeaps.{counts-move, heap-moves, heap-stays, state-moves}
+use Rattle.heap.proofs.SoundStore.{row-none}
+
+module _ (t : Forests) (D : Disjoint t) (a b : ℕ) (o : (a < 8) × (b < 8) × (a ≢ b)) where
+  abbrev new : Forests
+  new = meld a b t
+
+  abbrev one : List ℕ
+  one = rowOf t a
+
+  abbrev two : List ℕ
+  two = rowOf t b
+
+  -- a word of the rows
+  row-word : (F : List ℕ → ℕ) (g : ℕ)
+      → cond (eqb b g) (F []) (cond (eqb a g) (F (one ++ two)) (F (rowOf t g))) ≡ F (rowOf new g)
+  row-word F g = rw (row-at t D a b o g) (go (eqb b g) (eqb a g))
+    where
+      go : (u v : Bool)
+          → cond u (F []) (cond v (F (one ++ two)) (F (rowOf t g))) ≡ F (cond u [] (cond v (one ++ two) (rowOf t g)))
+      go true v = refl
+      go false true = refl
+      go false false = refl
+
+  out-one : (j : ℕ) → heapOf t j ≡ suc b → occurs j one ≡ 0
+  out-one j e = D .inRow a j ∙ rw (e, ne-eqb (suc b) (suc a) (λ q. o .2 (omega arith)))
+
+  out-two : (j : ℕ) → heapOf t j ≡ suc a → occurs j two ≡ 0
+  out-two j e = D .inRow b j ∙ rw (e, ne-eqb (suc a) (suc b) (λ q. o .2 (omega arith)))
+
+  n₂ : occurs none two ≡ 0
+  n₂ = row-none t D b
+
+  stay-a : moveHeap a b (suc a) ≡ suc a
+  stay-a = heap-stays a b (suc a) (λ e. o .2 (omega arith))
+
+  next-word : (j : ℕ) → j ≢ none → after t a two Next j ≡ word new Next j
+  unfolding word
+  next-word j m = go (where-is t D a b o j)
+    where
+      go : Where t D a b o j → after t a two Next j ≡ unlessFree new j (nextIn j (siblings new j))
+      go (inOne h p) =
+          next-one t D a two n₂ j m (out-two j h) (old-list t D a b o j a h p (nextIn j))
+          ∙ sym (joined-list t D a b o j a h stay-a p (nextIn j))
+      go (inTwo h p) =
+          next-kept t D a two n₂ j m (out-one j h)
+          ∙ old-list t D a b o j b h p (nextIn j)
+          ∙ sym (next-behind j one two (out-one j h))
+          ∙ sym (joined-list t D a b o j b h (heap-moves a b) p (nextIn j))
+      go (stays x y e) = next-kept t D a two n₂ j m x ∙ sym (e (nextIn j))
+
+  prev-word : (j : ℕ) → j ≢ none → after t a two Prev j ≡ word new Prev j
+  unfolding word
+  prev-word j m = go (where-is t D a b o j)
+    where
+      go : Where t D a b o j → after t a two Prev j ≡ unlessFree new j (prevIn none j (siblings new j))
+      go (inOne h p) =
+          prev-kept t D a two n₂ j (out-two j h)
+          ∙ old-list t D a b o j a h p (prevIn none j)
+          ∙ sym (prev-before none j one two (out-two j h))
+          ∙ sym (joined-list t D a b o j a h stay-a p (prevIn none j))
+      go (inTwo h p) =
+          prev-two t D a two n₂ j m (out-one j h) (old-list t D a b o j b h p (prevIn none j))
+          ∙ sym (joined-list t D a b o j b h (heap-moves a b) p (prevIn none j))
+      go (stays x y e) = prev-kept t D a two n₂ j y ∙ sym (e (prevIn none j))
+
+  least-word : (g : ℕ)
+      → cond (eqb a g) (lesser (keyOf t) (minimum t a) (minimum t b)) (cond (eqb b g) none (minimum t g))
+      ≡ minimum new g
+  unfolding minimum leastIn meld
+  least-word g = go (eqb a g) (eqb b g) refl refl ∙ row-word (leastIn (t .key)) g
+    where
+      go : (u v : Bool) → eqb a g ≡ u → eqb b g ≡ v
+          → cond u (lesser (keyOf t) (leastIn (t .key) one) (leastIn (t .key) two))
+          (cond v none (leastIn (t .key) (rowOf t g)))
+          ≡ cond v none (cond u (leastIn (t .key) (one ++ two)) (leastIn (t .key) (rowOf t g)))
+      go true true e d = absurd (o .2 (eqb-true a g e ∙ sym (eqb-true b g d)))
+      go true false e d = sym (least-append (keyOf t) (t .key) one two (row-none t D a) n₂ (λ j _. refl))
+      go false v e d = refl
+
+  count-word : (g : ℕ)
+      → cond (eqb a g) (count t a + count t b) (cond (eqb b g) 0 (count t g)) ≡ count new g
+  unfolding count meld
+  count-word g = go (eqb a g) refl
+    where
+      go : (u : Bool) → eqb a g ≡ u
+          → cond u (count t a + count t b) (cond (eqb b g) 0 (count t g)) ≡ count new g
+      go true e = rw (← (eqb-true a g e)) (sym (count-meld t a b (o .2)))
+      go false e = sym (counts-move a b g (λ q. eqb-false a g e (sym q)) (t .heap))
+
+  state-word : (j : ℕ) → movedState a b (word t State j) ≡ word new State j
+  unfolding word meld
+  state-word j =
+      state-moves a b (heapOf t j) (markOf t j) (D .bit j)
+      ∙ ap (λ g. stateOf g (markOf t j)) (sym (heap-at t D a b o j))
+
+  pub melded-word : (n : ℕ) → tableSize t ≡ n → (f : Field) (j : ℕ) → j < room n f
+      → rehomed a b (heapsJoined a b (word t)) f j ≡ word new f j
+  unfolding rehomed heapsJoined poured emptyHeap word joined setLast setNext setFirst firstOf meld headOr lastOr
+  melded-word n e FirstTree j l = ap (cond (eqb b j) none) (first-after t D a two n₂ j) ∙ row-word (headOr none) j
+  melded-word n e LastTree j l = ap (cond (eqb b j) none) (last-after t D a two n₂ j) ∙ row-word (lastOr none) j
+  melded-word n e Minimum j l =
+      ap (λ x. cond (eqb a j) (lesser (keyOf t) (minimum t a) (minimum t b)) (cond (eqb b j) none x))
+      (plain-after t D a two Minimum j refl)
+      ∙ least-word j
+  melded-word n e Count j l =
+      ap (λ x. cond (eqb a j) (count t a + count t b) (cond (eqb b j) 0 x)) (plain-after t D a two Count j refl)
+      ∙ count-word j
+  melded-word n e Key j l = plain-after t D a two Key j refl
+  melded-word n e Parent j l = plain-after t D a two Parent j refl
+  melded-word n e FirstChild j l =
+      plain-after t D a two FirstChild j refl ∙ sym (free-at t D a b o j (headOr none (childrenOf t j)))
+  melded-word n e LastChild j l =
+      plain-after t D a two LastChild j refl ∙ sym (free-at t D a b o j (lastOr none (childrenOf t j)))
+  melded-word n e Next j l = next-word j (λ q. omega (arith, q, D .small))
+  melded-word n e Prev j l = prev-word j (λ q. omega (arith, q, D .small))
+  melded-word n e Rank j l = plain-after t D a two Rank j refl
+  melded-word n e State j l = ap (movedState a b) (plain-after t D a two State j refl) ∙ state-word j
