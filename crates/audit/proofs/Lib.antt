@@ -18,4 +18,3 @@ pub mod States
 pub mod Tight
 pub mod Totals
 pub mod Walks
-pub mod Within

@@ -23,7 +23,8 @@ use Rattle.audit.specs.Check.{
   sizeOf,
   soundWords,
 }
-use Rattle.audit.specs.Promises.{Sized, ifOk}
+use Rattle.store.specs.Says.{Sized}
+use Rattle.audit.specs.Promises.{ifOk}
 use Rattle.audit.proofs.Passed.{byZero}
 use Rattle.audit.proofs.Booleans.{allTo-at}
 use Rattle.audit.proofs.ItemTests.{is-member}

@@ -3,21 +3,11 @@ use Prim.Native.Nat.{ℕ, suc, _≤_, _<_}
 use mathlib.Core.Path.{_≡_}
 use mathlib.Core.List.{List}
 use mathlib.Core.Bool.{Bool, cond}
-use lib.ListN.{length, getD}
-use Rattle.rules.specs.declared.Field.{Field}
+use lib.ListN.{getD}
 use Rattle.rules.specs.declared.Field.the-variants.{State}
-use Rattle.rules.specs.Words.{storeSize, room, look}
+use Rattle.rules.specs.Words.{look}
+use Rattle.store.specs.Says.{Sized}
 use Rattle.audit.specs.Check.{allTo, rowAt, listLength, itemOk, countAt, heapOk, treesAt, ranksAt}
-
--- a store for n items
-pub record Sized (n : ℕ) (w : List ℕ) : Type 0 where
-  pub size : length w ≡ storeSize n
-  pub small : n ≤ 4096
-
--- word i of a kind is in the store
-pub record Within (n : ℕ) (w : List ℕ) (f : Field) (i : ℕ) : Type 0 where
-  pub sized : Sized n w
-  pub inside : i < room n f
 
 -- item i is in the table
 pub record Item (n : ℕ) (w : List ℕ) (i : ℕ) : Type 0 where

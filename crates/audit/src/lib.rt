@@ -2,12 +2,14 @@
 //! Its time grows with the number of items: an item passes in one list only, the one that its own words name.
 ghost use mathlib.Core.Path.{_≡_};
 ghost use Prim.Native.Nat.{suc, _<_, _≤_};
-ghost use Rattle.rules.specs.Words.{at, look, stateHeap, stateMark};
+ghost use Rattle.rules.specs.Words.{look, stateHeap, stateMark};
+ghost use Rattle.store.specs.Says.{Sized, Within};
 ghost use Rattle.audit.specs.Check.{precedesAt, linkOk, listLength, parentOk, freeOk, itemOk, minimumOk};
 ghost use Rattle.audit.specs.Check.{countAt, allOk, soundWords};
-ghost use Rattle.audit.specs.Promises.{Sized, Within, Item, InHeap, StatesLow, AtMost, Counts};
+ghost use Rattle.audit.specs.Promises.{Item, InHeap, StatesLow, AtMost, Counts};
 ghost use Rattle.audit.specs.Promises.{ranksIfOk, heapIfOk, treesIfOk};
 use rules::Field;
+use store::get;
 
 const NONE: usize = 4294967295;
 
@@ -20,35 +22,12 @@ pub struct Siblings {
     pub last: usize,
 }
 
-// Where word i of a kind lies in a store for n items.
-fn place(n: usize, field: Field, i: usize) -> usize
-    requires { ⌜ n ≤ 4096 ⌝ }
-    requires { ⌜ i ≤ 4096 ⌝ }
-    ensures { λ r. ⌜ r ≡ at n field i ⌝ }
-{
-    match field {
-        Field::FirstTree => 4 * i,
-        Field::LastTree => 4 * i + 1,
-        Field::Minimum => 4 * i + 2,
-        Field::Count => 4 * i + 3,
-        Field::Key => 32 + i,
-        Field::Parent => 32 + n + i,
-        Field::FirstChild => 32 + 2 * n + i,
-        Field::LastChild => 32 + 3 * n + i,
-        Field::Next => 32 + 4 * n + i,
-        Field::Prev => 32 + 5 * n + i,
-        Field::Rank => 32 + 6 * n + i,
-        Field::State => 32 + 7 * n + i,
-    }
-}
-
 // Word i of a kind: all words are read here.
 fn word_at(store: &[u32], n: usize, field: Field, i: usize) -> usize
     requires { ⌜ Within n (now store) field i ⌝ }
     ensures { λ r. ⌜ AtMost (look n (now (store .entry)) field i) 4294967295 r ⌝ }
 {
-    let at = place(n, field, i);
-    store[at] as usize
+    get(store, n, field, i as u32) as usize
 }
 
 // The heap that a state word names: 0 for a free item, else 1 + its number.

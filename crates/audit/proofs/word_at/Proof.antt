@@ -1,6 +1,7 @@
 -- `audit::word_at` meets its contract.
+use borrow.Author.Needs.{needs}
 use native.Mathlib.Omega.{arith}
-use Rattle.audit.proofs.Within.{within-small, within-slice}
+use Rattle.store.proofs.Says.{within-small}
 use Rattle.audit.proofs.word_at.Statement.{statement}
 use Rattle.audit.proofs.word_at.Tie as tie
 
@@ -8,11 +9,7 @@ pub word-at-spec : {M : Type 1} → statement M
 word-at-spec =
     tie.close
     (tie.spec
-    (λ c κs. (c .before .pre .sized .small, within-small (c .before .pre)))
-    (λ c. omega (arith, c .place .ensures, within-slice (c .before .before .pre)))
-    (λ c. omega (arith, c .before .place .ensures, within-slice (c .before .before .before .pre)))
-    (λ c. omega (arith, c .shared-slice-known2 .given (c .before .place .result)))
-    (λ c. record {
-      is = rw (c .before .place .ensures);
-      most = omega (arith, c .shared-slice-known2 .given (c .before .place .result));
-    }))
+    (λ c. omega (arith, within-small (c .before .pre)))
+    (λ c κs. c .before .pre)
+    (λ c. search needs)
+    (λ c. record { is = c .get .ensures; most = omega (arith, c .get .ok) }))
