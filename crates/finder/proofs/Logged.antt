@@ -1,5 +1,5 @@
--- A queue call made on the store: the log grows by it, and the store and the tally follow. What is known of them at each
--- moment of a search.
+-- A queue call made on the store: the log grows by it, and the store and the tally follow. At each moment of a search
+-- another call may be made.
 use Prim.Native.Nat.{ℕ, _+_}
 use mathlib.Core.Path.{_≡_, sym, ap, _∙_}
 use mathlib.Core.List.{List, [], _∷_, _++_}

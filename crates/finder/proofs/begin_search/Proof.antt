@@ -19,8 +19,11 @@ make-empty-requires c κs = search needs
 -- src/lib.rt:48:9
 perform-requires : tie.Need-perform-requires
 perform-requires c κs =
-    begin-ready _ _ _ _ _
-    (c .before .before .before .before .before .before .before .before .before .before .before .before .before .before .before .before .pre) _ (c .before .before .before .make-empty .ensures)
+    let at-make-empty = c .before .before .before in
+    let back-14 =
+    at-make-empty .before .before .before .before .before .before .before .before .before .before .before in
+    let start = back-14 .before .before in
+    begin-ready _ _ _ _ _ (start .pre) _ (at-make-empty .make-empty .ensures)
 
 -- src/lib.rt:50:5
 mul-best : tie.Need-mul-best
@@ -45,8 +48,13 @@ same-length-3 c = search needs
 -- src/lib.rt:40:1
 returns : tie.Need-returns
 returns c =
-    begun _ _ _ _ _
-    (c .before .before .before .before .before .before .before .before .before .before .before .before .before .before .before .before .before .before .before .before .pre) _ _ _ (c .before .before .before .before .before .before .before .before .before .before .before .before .before .before .before .fill .ensures) (c .before .before .before .before .before .before .before .before .before .before .before .fill2 .ensures) (c .before .before .before .before .before .before .before .make-empty .ensures) _ _ (c .before .before .before .perform .ensures)
+    let at-perform = c .before .before .before in
+    let at-make-empty = at-perform .before .before .before .before in
+    let at-fill2 = at-make-empty .before .before .before .before in
+    let at-fill = at-fill2 .before .before .before .before in
+    let start = at-fill .before .before .before .before .before in
+    begun _ _ _ _ _ (start .pre) _ _ _ (at-fill .fill .ensures) (at-fill2 .fill2 .ensures)
+    (at-make-empty .make-empty .ensures) _ _ (at-perform .perform .ensures)
 
 pub begin-search-spec : {M : Type 1} → statement M
 begin-search-spec =

@@ -23,9 +23,12 @@ begin-search-requires c κs =
 -- src/lib.rt:110:9
 search-requires : tie.Need-search-requires
 search-requires c κs =
+    let at-begin-search = c .before .before .before .before .before .before .before .before .before in
+    let at-if1 = at-begin-search .before .before .before .before in
+    let at-feed-code = at-if1 .before in
     begun-stands _ _ _ _ _
-    (accepted-map (mapOf _ _ _ _ _) _ _ _ _
-    (c .before .before .before .before .before .before .before .before .before .before .before .before .before .before .feed-code .ensures) (c .before .before .before .before .before .before .before .before .before .before .before .before .before .if1 .left)) _ _ _ _ (c .before .before .before .before .before .before .before .before .before .begin-search .ensures)
+    (accepted-map (mapOf _ _ _ _ _) _ _ _ _ (at-feed-code .feed-code .ensures) (at-if1 .if1 .left)) _ _ _ _
+    (at-begin-search .begin-search .ensures)
 
 -- src/lib.rt:85:1
 same-length : tie.Need-same-length
@@ -42,8 +45,12 @@ same-length-3 c = search needs
 -- src/lib.rt:85:1
 returns-2 : tie.Need-returns-2
 returns-2 c =
-    feeds-done (mapOf _ _ _ _ _) _ _ _ _
-    (c .before .before .before .before .before .before .before .before .before .before .before .before .before .before .before .before .before .before .before .before .before .before .feed-code .ensures) (c .before .before .before .before .before .before .before .before .before .before .before .before .before .before .before .before .before .before .before .before .before .if1 .left) _ _ _ _ (c .before .before .before .before .before .before .before .search .ensures)
+    let at-search = c .before .before .before .before .before .before .before in
+    let back-18 = at-search .before .before .before .before .before .before .before .before .before .before .before in
+    let at-if1 = back-18 .before .before .before in
+    let at-feed-code = at-if1 .before in
+    feeds-done (mapOf _ _ _ _ _) _ _ _ _ (at-feed-code .feed-code .ensures) (at-if1 .if1 .left) _ _ _ _
+    (at-search .search .ensures)
 
 pub feed-spec : {M : Type 1} → statement M
 feed-spec =

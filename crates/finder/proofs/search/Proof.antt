@@ -34,16 +34,15 @@ visit-next-requires c κs =
 -- src/lib.rt:78:5
 loop-less : tie.Need-loop-less Inv-loop μ-loop
 loop-less c =
-    let v = c .before .before .before .before .before .before .visit-next .ensures in
+    let at-visit-next = c .before .before .before .before .before .before in
+    let at-if1 = at-visit-next .before .before .before .before in
+    let at-loop = at-if1 .before .before in
+    let v = at-visit-next .visit-next .ensures in
     omega (
       arith,
       v .one-more,
       goes-below (mapOf _ _ _ _ _) _ _ _ _
-          (record {
-            stands =
-                c .before .before .before .before .before .before .before .before .before .before .before .before .loop .inv .0;
-            more = c .before .before .before .before .before .before .before .before .before .before .if1 .taken;
-          }),
+          (record { stands = at-loop .loop .inv .0; more = at-if1 .if1 .taken }),
     )
 
 -- src/lib.rt:78:5

@@ -1,6 +1,17 @@
 -- `finder::refusal::feed_code` meets its contract: one law for each way out.
 use Rattle.finder.specs.Map.{mapOf}
-use Rattle.finder.proofs.FeedCodes.{code-no-place, code-many, code-start, code-to, code-loss, code-long, code-best, code-last, code-store, code-spans}
+use Rattle.finder.proofs.FeedCodes.{
+  code-no-place,
+  code-many,
+  code-start,
+  code-to,
+  code-loss,
+  code-long,
+  code-best,
+  code-last,
+  code-store,
+  code-spans,
+}
 use borrow.Author.Needs.{needs}
 use Rattle.finder.proofs.refusal.feed_code.Statement.{statement}
 use Rattle.finder.proofs.refusal.feed_code.Tie as tie

@@ -31,8 +31,10 @@ same-length-3 c = search needs
 -- src/relax.rt:73:9
 returns : tie.Need-returns
 returns c =
-    offer-enters _ _ _ _ _ _ _
-    (c .before .before .before .before .before .before .before .before .before .before .before .before .before .before .before .pre) _ _ _ _ (c .before .before .before .before .before .before .before .before .before .before .if1 .taken) (c .before .before .before .before .before .before .enter .ensures)
+    let at-enter = c .before .before .before .before .before .before in
+    let at-if1 = at-enter .before .before .before .before in
+    let start = at-if1 .before .before .before .before .before in
+    offer-enters _ _ _ _ _ _ _ (start .pre) _ _ _ _ (at-if1 .if1 .taken) (at-enter .enter .ensures)
 
 -- src/relax.rt:76:9
 lower-requires : tie.Need-lower-requires
@@ -53,8 +55,12 @@ same-length-6 c = search needs
 -- src/relax.rt:76:9
 returns-2 : tie.Need-returns-2
 returns-2 c =
-    offer-lowers _ _ _ _ _ _ _
-    (c .before .before .before .before .before .before .before .before .before .before .before .before .before .before .before .before .pre) _ _ _ _ (c .before .before .before .before .before .before .before .before .before .before .before .if1 .left) (c .before .before .before .before .before .before .before .before .before .before .if2 .taken) (c .before .before .before .before .before .before .lower .ensures)
+    let at-lower = c .before .before .before .before .before .before in
+    let at-if2 = at-lower .before .before .before .before in
+    let at-if1 = at-if2 .before in
+    let start = at-if1 .before .before .before .before .before in
+    offer-lowers _ _ _ _ _ _ _ (start .pre) _ _ _ _ (at-if1 .if1 .left) (at-if2 .if2 .taken)
+    (at-lower .lower .ensures)
 
 -- src/relax.rt:79:9
 returns-3 : tie.Need-returns-3

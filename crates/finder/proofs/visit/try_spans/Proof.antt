@@ -6,7 +6,20 @@ use borrow.Author.Needs.{needs}
 use lib.ListN.{length}
 use Rattle.finder.specs.Map.{mapOf}
 use Rattle.finder.proofs.Walk.{sorted}
-use Rattle.finder.proofs.Visiting.{Walking, place-small, walking-begins, examined-small, span-small, in-to, in-loss, loss-fits, offer-ready, walking-on, visited-small, walking-ends}
+use Rattle.finder.proofs.Visiting.{
+  Walking,
+  place-small,
+  walking-begins,
+  examined-small,
+  span-small,
+  in-to,
+  in-loss,
+  loss-fits,
+  offer-ready,
+  walking-on,
+  visited-small,
+  walking-ends,
+}
 use Rattle.finder.proofs.visit.try_spans.Statement.{statement}
 use Rattle.finder.proofs.visit.try_spans.Tie as tie
 
@@ -33,7 +46,9 @@ first-span-requires c κs = sorted (mapOf _ _ _ _ _) (c .before .before .before 
 
 -- src/visit.rt:47:9
 first-span-requires-2 : tie.Need-first-span-requires-2 Inv-loop μ-loop
-first-span-requires-2 c κs = sorted (mapOf _ _ _ _ _) (c .before .before .before .before .before .before .before .pre .accepted)
+first-span-requires-2 c κs =
+    let start = c .before .before .before .before .before .before .before in
+    sorted (mapOf _ _ _ _ _) (start .pre .accepted)
 
 -- src/visit.rt:49:5
 loop-holds : tie.Need-loop-holds Inv-loop μ-loop
@@ -73,70 +88,94 @@ shared-slice-read-l c =
 -- src/visit.rt:51:17
 add-l : tie.Need-add-l Inv-loop μ-loop
 add-l c =
+    let at-loop-test = c .before .before in
+    let at-loop = at-loop-test .before in
+    let start = at-loop .before .before .before .before .before .before .before .before .before in
     omega (
       arith,
-      loss-fits (mapOf _ _ _ _ _) (λ _. refl) _ _ _ _ _ _
-          (c .before .before .before .before .before .before .before .before .before .before .before .before .pre) _ _ _ _
-          _ _ (c .before .before .before .loop .inv .0) (c .before .before .loop-test .taken),
+      loss-fits (mapOf _ _ _ _ _) (λ _. refl) _ _ _ _ _ _ (start .pre) _ _ _ _ _ _
+          (at-loop .loop .inv .0) (at-loop-test .loop-test .taken),
     )
 
 -- src/visit.rt:52:41
 mul-offered : tie.Need-mul-offered Inv-loop μ-loop
 mul-offered c =
+    let at-loop-test = c .before .before .before .before .before in
+    let at-loop = at-loop-test .before in
+    let start = at-loop .before .before .before .before .before .before .before .before .before in
     omega (
       arith,
-      span-small (mapOf _ _ _ _ _) (λ _. refl) _ _ _ _ _ _
-          (c .before .before .before .before .before .before .before .before .before .before .before .before .before .before .before .pre) _ _ _ _ _ _ (c .before .before .before .before .before .before .loop .inv .0) (c .before .before .before .before .before .loop-test .taken),
+      span-small (mapOf _ _ _ _ _) (λ _. refl) _ _ _ _ _ _ (start .pre) _ _ _ _ _ _
+          (at-loop .loop .inv .0) (at-loop-test .loop-test .taken),
     )
 
 -- src/visit.rt:52:41
 shared-slice-read-offered : tie.Need-shared-slice-read-offered Inv-loop μ-loop
 shared-slice-read-offered c =
-    in-to (mapOf _ _ _ _ _) (λ _. refl) _ _ _ _ _ _
-    (c .before .before .before .before .before .before .before .before .before .before .before .before .before .before .before .before .pre) _ _ _ _ _ _ (c .before .before .before .before .before .before .before .loop .inv .0) (c .before .before .before .before .before .before .loop-test .taken)
+    let at-loop-test = c .before .before .before .before .before .before in
+    let at-loop = at-loop-test .before in
+    let start = at-loop .before .before .before .before .before .before .before .before .before in
+    in-to (mapOf _ _ _ _ _) (λ _. refl) _ _ _ _ _ _ (start .pre) _ _ _ _ _ _ (at-loop .loop .inv .0)
+    (at-loop-test .loop-test .taken)
 
 -- src/visit.rt:52:51
 cast-offered : tie.Need-cast-offered Inv-loop μ-loop
 cast-offered c =
+    let at-loop-test = c .before .before .before .before .before .before in
+    let at-loop = at-loop-test .before in
+    let start = at-loop .before .before .before .before .before .before .before .before .before in
     omega (
       arith,
-      span-small (mapOf _ _ _ _ _) (λ _. refl) _ _ _ _ _ _
-          (c .before .before .before .before .before .before .before .before .before .before .before .before .before .before .before .before .pre) _ _ _ _ _ _ (c .before .before .before .before .before .before .before .loop .inv .0) (c .before .before .before .before .before .before .loop-test .taken),
+      span-small (mapOf _ _ _ _ _) (λ _. refl) _ _ _ _ _ _ (start .pre) _ _ _ _ _ _
+          (at-loop .loop .inv .0) (at-loop-test .loop-test .taken),
     )
 
 -- src/visit.rt:52:9
 offered-requires : tie.Need-offered-requires Inv-loop μ-loop
 offered-requires c κs =
-    rw (c .before .before .before .before .before .examine .ensures)
-    (offer-ready (mapOf _ _ _ _ _) (λ _. refl) _ _ _ _ _ _
-    (c .before .before .before .before .before .before .before .before .before .before .before .before .before .before .before .before .pre) _ _ _ _ _ _ (c .before .before .before .before .before .before .before .loop .inv .0) (c .before .before .before .before .before .before .loop-test .taken))
+    let at-examine = c .before .before .before .before .before in
+    let at-loop-test = at-examine .before in
+    let at-loop = at-loop-test .before in
+    let start = at-loop .before .before .before .before .before .before .before .before .before in
+    rw (at-examine .examine .ensures)
+    (offer-ready (mapOf _ _ _ _ _) (λ _. refl) _ _ _ _ _ _ (start .pre) _ _ _ _ _ _ (at-loop .loop .inv .0)
+    (at-loop-test .loop-test .taken))
 
 -- src/visit.rt:53:9
 add-e : tie.Need-add-e Inv-loop μ-loop
 add-e c =
+    let back-11 = c .before .before .before .before .before .before .before .before .before .before .before in
+    let at-loop-test = back-11 .before .before in
+    let at-loop = at-loop-test .before in
+    let start = at-loop .before .before .before .before .before .before .before .before .before in
     omega (
       arith,
-      span-small (mapOf _ _ _ _ _) (λ _. refl) _ _ _ _ _ _
-          (c .before .before .before .before .before .before .before .before .before .before .before .before .before .before .before .before .before .before .before .before .before .before .before .pre) _ _ _ _ _ _ (c .before .before .before .before .before .before .before .before .before .before .before .before .before .before .loop .inv .0) (c .before .before .before .before .before .before .before .before .before .before .before .before .before .loop-test .taken),
+      span-small (mapOf _ _ _ _ _) (λ _. refl) _ _ _ _ _ _ (start .pre) _ _ _ _ _ _
+          (at-loop .loop .inv .0) (at-loop-test .loop-test .taken),
     )
 
 -- src/visit.rt:49:5
 loop-less : tie.Need-loop-less Inv-loop μ-loop
 loop-less c =
-    omega (
-      arith,
-      c .before .before .before .before .before .before .before .before .before .before .before .before .before .loop-test .taken,
-    )
+    let back-11 = c .before .before .before .before .before .before .before .before .before .before .before in
+    let at-loop-test = back-11 .before .before in
+    omega (arith, at-loop-test .loop-test .taken)
 
 -- src/visit.rt:49:5
 loop-again : tie.Need-loop-again Inv-loop μ-loop
-loop-again c = (
-  walking-on (mapOf _ _ _ _ _) (λ _. refl) _ _ _ _ _ _
-      (c .before .before .before .before .before .before .before .before .before .before .before .before .before .before .before .before .before .before .before .before .before .before .before .pre) _ _ _ _ _ _ (c .before .before .before .before .before .before .before .before .before .before .before .before .before .before .loop .inv .0) (c .before .before .before .before .before .before .before .before .before .before .before .before .before .loop-test .taken) _ _ _ _ (rw (c .before .before .before .before .before .before .before .before .before .before .before .before .examine .ensures) at (c .before .before .before .before .before .before .offered .ensures)),
-  search needs,
-  search needs,
-  search needs,
-)
+loop-again c =
+    let at-offered = c .before .before .before .before .before .before in
+    let at-examine = at-offered .before .before .before .before .before .before in
+    let at-loop-test = at-examine .before in
+    let at-loop = at-loop-test .before in
+    let start = at-loop .before .before .before .before .before .before .before .before .before in (
+      walking-on (mapOf _ _ _ _ _) (λ _. refl) _ _ _ _ _ _ (start .pre) _ _ _ _ _ _ (at-loop .loop .inv .0)
+          (at-loop-test .loop-test .taken) _ _ _ _
+          (rw (at-examine .examine .ensures) at (at-offered .offered .ensures)),
+      search needs,
+      search needs,
+      search needs,
+    )
 
 -- src/visit.rt:55:5
 visit-requires : tie.Need-visit-requires Inv-loop μ-loop

@@ -12,8 +12,9 @@ perform-requires c κs =
 -- src/visit.rt:83:5
 try-spans-requires : tie.Need-try-spans-requires
 try-spans-requires c κs =
-    taken _ _ _ _ _
-    (c .before .before .before .before .before .before .before .before .before .before .before .before .before .before .before .pre) _ _ (c .before .before .before .before .before .before .perform .ensures)
+    let at-perform = c .before .before .before .before .before .before in
+    let start = at-perform .before .before .before .before .before .before .before .before .before in
+    taken _ _ _ _ _ (start .pre) _ _ (at-perform .perform .ensures)
 
 -- src/visit.rt:59:1
 same-length : tie.Need-same-length

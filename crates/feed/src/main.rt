@@ -1,0 +1,160 @@
+// Reads a map on standard input and prints its feed table for at most 1,024 places and 4,096 spans, or the code of the
+// refusal alone.
+ghost use mathlib.Core.Path.{_≡_};
+ghost use mathlib.Core.List.{[], _∷_};
+ghost use Prim.Native.Nat.{_+_, _≤_};
+ghost use lib.ListN.{length};
+ghost use Rattle.text.specs.Decimal.{row};
+ghost use Rattle.text.specs.Output.{Wrote};
+ghost use Rattle.finder.specs.Map.{mapOf};
+ghost use Rattle.finder.specs.Feed.{feedResult};
+ghost use Rattle.feed.specs.Shown.{wordField, entryRow, Roomy, WroteRow, TableReady, TableWrote, ShowsFeed};
+ghost use Rattle.feed.specs.Shown.{fedBy, MapReady, ShowsMap};
+ghost use Rattle.mapfile.specs.Read.{readMap};
+use libc::STDIN_FILENO;
+use libc::STDOUT_FILENO;
+use text::output::put_byte;
+use text::output::put_field;
+
+const NONE: u32 = 4294967295;
+
+// Writes a word of the table and the byte that ends it.
+fn put_word(out: &mut [u8], at: usize, word: u32, end: u8) -> usize
+    requires { ⌜ at + 11 ≤ length (now out) ⌝ }
+    ensures { λ r. ⌜ Wrote (now (out .entry)) at (wordField word end) (now (out .exit)) r ⌝ }
+{
+    if word == NONE {
+        let next = put_byte(out, at, b'-');
+        return put_byte(out, next, end);
+    }
+    put_field(out, at, word, end)
+}
+
+// Writes the row of a place.
+fn put_entry(out: &mut [u8], at: usize, place: u32, loss: u32, span: u32) -> usize
+    requires { ⌜ at + 33 ≤ length (now out) ⌝ }
+    ensures { λ r. ⌜ WroteRow (now (out .entry)) at (entryRow place loss span) (now (out .exit)) r ⌝ }
+{
+    let second = put_field(out, at, place, b',');
+    let third = put_word(out, second, loss, b',');
+    put_word(out, third, span, b'\n')
+}
+
+// Writes the rows of all places.
+fn put_table(out: &mut [u8], best: &[u32], last: &[u32]) -> usize
+    requires { ⌜ TableReady (now best) (now last) (now out) ⌝ }
+    ensures { λ r. ⌜ TableWrote (now (best .entry)) (now (last .entry)) (now (out .entry)) r (now (out .exit)) ⌝ }
+{
+    let mut at = 0;
+    let mut p = 0;
+    while p < best.len() {
+        at = put_entry(out, at, p as u32, best[p], last[p]);
+        p += 1;
+    }
+    at
+}
+
+// Writes the three figures of a call that is done.
+fn put_figures(out: &mut [u8], at: usize, links: u32, cuts: u32, examined: u32) -> usize
+    requires { ⌜ at + 33 ≤ length (now out) ⌝ }
+    ensures { λ r. ⌜ WroteRow (now (out .entry)) at (row (links ∷ cuts ∷ examined ∷ [])) (now (out .exit)) r ⌝ }
+{
+    let second = put_field(out, at, links, b',');
+    let third = put_field(out, second, cuts, b',');
+    put_field(out, third, examined, b'\n')
+}
+
+// Leaves in `out` what is printed of a feed call, and returns the number of its bytes.
+fn answer_feed(
+    places: u32,
+    start: u32,
+    from: &[u32],
+    to: &[u32],
+    loss: &[u32],
+    best: &mut [u32],
+    last: &mut [u32],
+    store: &mut [u32],
+    out: &mut [u8],
+) -> usize
+    requires { ⌜ places ≤ 1024 ⌝ }
+    requires { ⌜ Roomy (now out) ⌝ }
+    ensures { λ r. ⌜ ShowsFeed (mapOf places start (now (from .entry)) (now (to .entry)) (now (loss .entry)))
+        (feedResult (mapOf places start (now (from .entry)) (now (to .entry)) (now (loss .entry)))
+        (now (best .entry)) (now (last .entry)) (now (store .entry)))
+        (now (out .entry)) r (now (out .exit)) ⌝ }
+{
+    let fed = finder::feed(places, start, from, to, loss, best, last, store);
+    let code = fed.code;
+    if code != 0 {
+        return put_field(out, 0, code, b'\n');
+    }
+    let at = put_table(out, best, last);
+    put_figures(out, at, fed.links, fed.cuts, fed.examined)
+}
+
+// Leaves in `out` what is printed of a map text, and returns the number of its bytes.
+fn answer_map(
+    text: &[u8],
+    from: &mut [u32],
+    to: &mut [u32],
+    loss: &mut [u32],
+    best: &mut [u32],
+    last: &mut [u32],
+    store: &mut [u32],
+    out: &mut [u8],
+) -> usize
+    requires { ⌜ MapReady (now best) (now last) (now store) (now out) ⌝ }
+    ensures { λ r. ⌜ ShowsMap
+        (readMap (now (text .entry)) (now (from .entry)) (now (to .entry)) (now (loss .entry)))
+        (fedBy (readMap (now (text .entry)) (now (from .entry)) (now (to .entry)) (now (loss .entry)))
+        (now (best .entry)) (now (last .entry)) (now (store .entry)))
+        (now (out .entry)) r (now (out .exit)) ⌝ }
+{
+    let map = mapfile::read(text, from, to, loss);
+    let code = map.code;
+    if code != 0 {
+        return put_field(out, 0, code, b'\n');
+    }
+    let places = map.places;
+    if places > 1024 {
+        return put_field(out, 0, 14, b'\n');
+    }
+    let n = places as usize;
+    let e = map.spans as usize;
+    let words = 32 + 8 * n;
+    answer_feed(
+        places,
+        map.start,
+        &from[..e],
+        &to[..e],
+        &loss[..e],
+        &mut best[..n],
+        &mut last[..n],
+        &mut store[..words],
+        out,
+    )
+}
+
+// 8,224 words are a store for 1,024 places; a text of 60,001 bytes is one byte too long.
+fn main() {
+    let mut text = [0u8; 60001];
+    let read = io::read_full(STDIN_FILENO, &mut text);
+    let mut from = [0u32; 4096];
+    let mut to = [0u32; 4096];
+    let mut loss = [0u32; 4096];
+    let mut best = [0u32; 1024];
+    let mut last = [0u32; 1024];
+    let mut store = [0u32; 8224];
+    let mut out = [0u8; 40000];
+    let bytes = answer_map(
+        &text[..read],
+        &mut from,
+        &mut to,
+        &mut loss,
+        &mut best,
+        &mut last,
+        &mut store,
+        &mut out,
+    );
+    io::write_all(STDOUT_FILENO, &out[..bytes]);
+}
