@@ -1,0 +1,90 @@
+// The scope paper's runs (b) to (h) on the words of a store for nine items. Of each run: its name, the answers of its
+// lines, the row of heap 0, and all words.
+ghost use mathlib.Core.Path.{_≡_};
+ghost use lib.ListN.{length};
+use libc::STDOUT_FILENO;
+use rules::Field;
+use store::get;
+
+// A number, and a byte after it.
+fn print(x: u32, end: u8) {
+    io::print_decimal(STDOUT_FILENO, x as u64);
+    let after = [end];
+    io::write_all(STDOUT_FILENO, &after);
+}
+
+// The row of heap 0, on a line of its own.
+fn show_row(s: &[u32])
+    requires { ⌜ length (now s) ≡ 104 ⌝ }
+{
+    let mut x = get(s, 9, Field::FirstTree, 0);
+    let mut left: u32 = 9;
+    while left > 0 {
+        if x >= 9 {
+            break;
+        }
+        print(x, b' ');
+        x = get(s, 9, Field::Next, x);
+        left -= 1;
+    }
+    io::write_all(STDOUT_FILENO, b"\n");
+}
+
+// All words, eight to a line.
+fn show_words(s: &[u32]) {
+    let mut i = 0;
+    while i < s.len() {
+        let x = s[i];
+        if i % 8 == 7 {
+            print(x, b'\n');
+        } else {
+            print(x, b' ');
+        }
+        i += 1;
+    }
+}
+
+// A fresh run of a sheet, and what it leaves.
+fn show_run(name: u8, sheet: &[u8], store: &mut [u32], out: &mut [u8])
+    requires { ⌜ length (now store) ≡ 104 ⌝ }
+{
+    let line = [name, b'\n'];
+    io::write_all(STDOUT_FILENO, &line);
+    let ran = sheet::run_fresh(store, sheet, out);
+    let bytes = ran.bytes as usize;
+    if bytes <= out.len() {
+        io::write_all(STDOUT_FILENO, &out[..bytes]);
+    }
+    show_row(store);
+    show_words(store);
+}
+
+fn main() {
+    let mut store = [0u32; 104];
+    let mut out = [0u8; 512];
+    let b = b"I,0,0,5\nI,0,1,3\nI,0,2,8\nI,0,3,1\nT,0\n";
+    let c = b"I,0,0,5\nI,0,1,3\nI,0,2,8\nI,0,3,1\nT,0\nD,0,4\n";
+    let d = b"I,0,0,5\nI,0,1,3\nI,0,2,8\nI,0,3,1\nT,0\nD,0,3\n";
+    let e =
+        b"I,0,0,0\nI,0,1,10\nI,0,2,20\nI,0,3,30\nI,0,4,40\nI,0,5,50\nI,0,6,60\nI,0,7,70\nI,0,8,80\nT,0\n";
+    show_run(b'b', b, &mut store, &mut out);
+    show_run(b'c', c, &mut store, &mut out);
+    show_run(b'd', d, &mut store, &mut out);
+    show_run(b'e', e, &mut store, &mut out);
+    show_later(&mut store, &mut out);
+}
+
+// (f), (g) and (h), each with the lines of those before it.
+fn show_later(store: &mut [u32], out: &mut [u8])
+    requires { ⌜ length (now store) ≡ 104 ⌝ }
+{
+    let f =
+        b"I,0,0,0\nI,0,1,10\nI,0,2,20\nI,0,3,30\nI,0,4,40\nI,0,5,50\nI,0,6,60\nI,0,7,70\nI,0,8,80\nT,0\nD,8,5\nD,6,4\nD,7,3\n";
+    let g =
+        b"I,0,0,0\nI,0,1,10\nI,0,2,20\nI,0,3,30\nI,0,4,40\nI,0,5,50\nI,0,6,60\nI,0,7,70\nI,0,8,80\nT,0\nD,8,5\nD,6,4\nD,7,3\nX,3\n";
+    let h =
+        b"I,0,0,0\nI,0,1,10\nI,0,2,20\nI,0,3,30\nI,0,4,40\nI,0,5,50\nI,0,6,60\nI,0,7,70\nI,0,8,80\nT,0\nD,8,5\nD,6,4\nD,7,3\nX,3\nT,0\n";
+    show_run(b'f', f, store, out);
+    show_run(b'g', g, store, out);
+    show_run(b'h', h, store, out);
+}
