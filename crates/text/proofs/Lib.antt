@@ -5,6 +5,7 @@ pub mod Rule
 pub mod NumberAt
 pub mod Lines
 pub mod LineEnd
+pub mod LineRest
 pub mod LineFeeds
 pub mod LineCount
 pub mod Decimal

@@ -6,7 +6,7 @@ use mathlib.Core.List.{List}
 use lib.ListN.{length, getD, drop}
 use lib.Dec.{leb, eqb}
 use Rattle.text.specs.Numbers.{largest, digitRun, valueFrom, wellFormed, numberOf, numberAt, NumberFits}
-use Rattle.text.specs.Fields.{comma, fieldAt, threeFrom, twoFrom, numbersFrom, NumbersFit}
+use Rattle.text.specs.Fields.{comma, endsAt, fieldAt, threeFrom, twoFrom, numbersFrom, NumbersFit}
 use Rattle.text.specs.declared.Number.{Number}
 use Rattle.text.specs.declared.Number.the-variants.{Value, Nothing}
 use Rattle.text.proofs.Cases.{le-or-lt, by-cond}
@@ -38,7 +38,7 @@ field-in-range s at = by-cond NumberFits (eqb (getD s at 0) comma) (number-in-ra
 three-in-range :
     (s : List ℕ) (x y : ℕ) → x ≤ largest → y ≤ largest → (n : Number) → NumberFits n → NumbersFit (threeFrom s x y n)
 unfolding threeFrom NumbersFit NumberFits
-three-in-range s x y p q (Value z at) r = by-cond NumbersFit (eqb at (length s)) (p, q, r) tt
+three-in-range s x y p q (Value z at) r = by-cond NumbersFit (endsAt s at) (p, q, r) tt
 three-in-range s x y p q Nothing r = tt
 
 two-in-range : (s : List ℕ) (x : ℕ) → x ≤ largest → (n : Number) → NumberFits n → NumbersFit (twoFrom s x n)
@@ -46,7 +46,7 @@ unfolding twoFrom NumbersFit NumberFits
 two-in-range s x p (Value y at) q =
     by-cond
     NumbersFit
-    (eqb at (length s))
+    (endsAt s at)
     (p, q)
     (three-in-range s x y p q (fieldAt s at) (field-in-range s at))
 two-in-range s x p Nothing q = tt
@@ -54,5 +54,5 @@ two-in-range s x p Nothing q = tt
 pub numbers-in-range : (s : List ℕ) (n : Number) → NumberFits n → NumbersFit (numbersFrom s n)
 unfolding numbersFrom NumbersFit NumberFits
 numbers-in-range s (Value x at) p =
-    by-cond NumbersFit (eqb at (length s)) p (two-in-range s x p (fieldAt s at) (field-in-range s at))
+    by-cond NumbersFit (endsAt s at) p (two-in-range s x p (fieldAt s at) (field-in-range s at))
 numbers-in-range s Nothing p = tt

@@ -3,7 +3,8 @@ ghost use mathlib.Core.Path.{_≡_};
 ghost use Prim.Native.Nat.{_+_, _≤_};
 ghost use lib.ListN.{length, drop};
 ghost use Rattle.text.specs.Numbers.{numberAt, digitRun, wellFormed, DigitsRead};
-ghost use Rattle.text.specs.Fields.{fieldAt, numbersFrom, twoFrom, threeFrom};
+ghost use Rattle.text.specs.declared.Numbers.the-variants.{Other};
+ghost use Rattle.text.specs.Fields.{fieldAt, endsAt, numbersFrom, twoFrom, threeFrom, FieldsRead};
 ghost use Rattle.text.specs.Lines.{lines, lineEnd, lineFeeds};
 
 pub mod output;
@@ -83,6 +84,12 @@ pub enum Numbers {
     Other,
 }
 
+// The numbers of a line, and where it ends; no end is given beside Other.
+pub struct LineRead {
+    pub numbers: Numbers,
+    pub end: usize,
+}
+
 // The number after the comma at a position.
 pub fn field_at(s: &[u8], at: usize) -> Number
     ensures { λ r. ⌜ r ≡ fieldAt (now (s .entry)) at ⌝ }
@@ -95,39 +102,69 @@ pub fn field_at(s: &[u8], at: usize) -> Number
     Number::Nothing
 }
 
-fn three_from(s: &[u8], x: u32, y: u32, third: Number) -> Numbers
-    ensures { λ r. ⌜ r ≡ threeFrom (now (s .entry)) x y third ⌝ }
+// Whether a line ends at a position.
+fn ends_at(s: &[u8], at: usize) -> bool
+    ensures { λ r. ⌜ r ≡ endsAt (now (s .entry)) at ⌝ }
 {
-    let Number::Value(z, at) = third else {
-        return Numbers::Other;
-    };
-    if at == s.len() {
-        return Numbers::Three(x, y, z);
+    if at < s.len() {
+        return s[at] == b'\n';
     }
-    Numbers::Other
+    true
 }
 
-fn two_from(s: &[u8], x: u32, second: Number) -> Numbers
-    ensures { λ r. ⌜ r ≡ twoFrom (now (s .entry)) x second ⌝ }
+// No line of one to three numbers.
+fn no_fields() -> LineRead
+    ensures { λ r. ⌜ r .numbers ≡ Other ⌝ }
+{
+    LineRead {
+        numbers: Numbers::Other,
+        end: 0,
+    }
+}
+
+fn three_from(s: &[u8], x: u32, y: u32, third: Number) -> LineRead
+    ensures { λ r. ⌜ FieldsRead (now (s .entry)) third (threeFrom (now (s .entry)) x y third) r ⌝ }
+{
+    let Number::Value(z, at) = third else {
+        return no_fields();
+    };
+    if ends_at(s, at) {
+        return LineRead {
+            numbers: Numbers::Three(x, y, z),
+            end: at,
+        };
+    }
+    no_fields()
+}
+
+fn two_from(s: &[u8], x: u32, second: Number) -> LineRead
+    ensures { λ r. ⌜ FieldsRead (now (s .entry)) second (twoFrom (now (s .entry)) x second) r ⌝ }
 {
     let Number::Value(y, at) = second else {
-        return Numbers::Other;
+        return no_fields();
     };
-    if at == s.len() {
-        return Numbers::Two(x, y);
+    if ends_at(s, at) {
+        return LineRead {
+            numbers: Numbers::Two(x, y),
+            end: at,
+        };
     }
     three_from(s, x, y, field_at(s, at))
 }
 
-// One to three numbers up to the end of the line s, the first of which the caller has read.
-pub fn numbers_from(s: &[u8], first: Number) -> Numbers
-    ensures { λ r. ⌜ r ≡ numbersFrom (now (s .entry)) first ⌝ }
+// One to three numbers up to the end of the first line of s, the first of which the caller has read. The text is
+// not searched for that end: it is where the numbers end.
+pub fn numbers_from(s: &[u8], first: Number) -> LineRead
+    ensures { λ r. ⌜ FieldsRead (now (s .entry)) first (numbersFrom (now (s .entry)) first) r ⌝ }
 {
     let Number::Value(x, at) = first else {
-        return Numbers::Other;
+        return no_fields();
     };
-    if at == s.len() {
-        return Numbers::One(x);
+    if ends_at(s, at) {
+        return LineRead {
+            numbers: Numbers::One(x),
+            end: at,
+        };
     }
     two_from(s, x, field_at(s, at))
 }

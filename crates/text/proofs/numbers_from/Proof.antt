@@ -1,5 +1,5 @@
 -- `numbers_from` meets its contract.
-use mathlib.Core.Path.{sym}
+use mathlib.Core.Path.{refl, sym, _∙_}
 use Rattle.text.proofs.Fields.{numbers-none, numbers-end, numbers-on}
 use borrow.Author.Needs.{needs}
 use Rattle.text.proofs.numbers_from.Statement.{statement}
@@ -11,11 +11,17 @@ enum-known-first c = search needs
 enum-told : tie.Need-enum-told
 enum-told c = search needs
 
+no-fields-requires : tie.Need-no-fields-requires
+no-fields-requires c κs = search needs
+
 returns : tie.Need-returns
-returns c = sym (numbers-none _ (c .enum-told .given .1))
+returns c = numbers-none _ (c .before .enum-told .given .1) (c .no-fields .ensures)
+
+ends-at-requires : tie.Need-ends-at-requires
+ends-at-requires c κs = search needs
 
 returns-2 : tie.Need-returns-2
-returns-2 c = sym (numbers-end _ (c .before .before .first .given .1) (c .if1 .taken))
+returns-2 c = numbers-end _ (c .before .before .before .first .given .1) (sym (c .before .ends-at .ensures) ∙ c .if1 .taken) refl refl
 
 field-at-requires : tie.Need-field-at-requires
 field-at-requires c κs = search needs
@@ -24,9 +30,10 @@ two-from-requires : tie.Need-two-from-requires
 two-from-requires c κs = search needs
 
 returns-3 : tie.Need-returns-3
-returns-3 c =
-    let first = c .before .before .before .before .first .given .1 in
-    rw (numbers-on _ first (c .before .before .if1 .left), ← c .before .field-at .ensures) (c .two-from .ensures)
+returns-3 c = 
+    let tested = c .before .before .before in
+    numbers-on _ (tested .before .before .first .given .1) (sym (tested .ends-at .ensures) ∙ c .before .before .if1 .left)
+    (rw (← c .before .field-at .ensures) (c .two-from .ensures))
 
 pub numbers-from-spec : {M : Type 1} → statement M
 numbers-from-spec =
@@ -34,7 +41,9 @@ numbers-from-spec =
     (tie.spec
     enum-known-first
     enum-told
+    no-fields-requires
     returns
+    ends-at-requires
     returns-2
     field-at-requires
     two-from-requires

@@ -1,5 +1,5 @@
 -- `three_from` meets its contract.
-use mathlib.Core.Path.{sym}
+use mathlib.Core.Path.{refl, sym, _∙_}
 use Rattle.text.proofs.Fields.{three-none, three-end, three-on}
 use borrow.Author.Needs.{needs}
 use Rattle.text.proofs.three_from.Statement.{statement}
@@ -11,14 +11,36 @@ enum-known-third c = search needs
 enum-told : tie.Need-enum-told
 enum-told c = search needs
 
+no-fields-requires : tie.Need-no-fields-requires
+no-fields-requires c κs = search needs
+
 returns : tie.Need-returns
-returns c = sym (three-none _ _ _ (c .enum-told .given .1))
+returns c = three-none _ _ _ (c .before .enum-told .given .1) (c .no-fields .ensures)
+
+ends-at-requires : tie.Need-ends-at-requires
+ends-at-requires c κs = search needs
 
 returns-2 : tie.Need-returns-2
-returns-2 c = sym (three-end _ (c .before .before .third .given .1) (c .if1 .taken) _ _)
+returns-2 c = three-end _ (c .before .before .before .third .given .1) _ _ (sym (c .before .ends-at .ensures) ∙ c .if1 .taken) refl refl
+
+no-fields-requires-2 : tie.Need-no-fields-requires-2
+no-fields-requires-2 c κs = search needs
 
 returns-3 : tie.Need-returns-3
-returns-3 c = sym (three-on _ (c .before .before .third .given .1) (c .if1 .left) _ _)
+returns-3 c = 
+    let tested = c .before .before in
+    three-on _ (tested .before .before .third .given .1) _ _ (sym (tested .ends-at .ensures) ∙ c .before .if1 .left)
+    (c .no-fields2 .ensures)
 
 pub three-from-spec : {M : Type 1} → statement M
-three-from-spec = tie.close (tie.spec enum-known-third enum-told returns returns-2 returns-3)
+three-from-spec =
+    tie.close
+    (tie.spec
+    enum-known-third
+    enum-told
+    no-fields-requires
+    returns
+    ends-at-requires
+    returns-2
+    no-fields-requires-2
+    returns-3)
