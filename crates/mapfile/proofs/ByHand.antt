@@ -1,8 +1,8 @@
 -- The map texts worked by hand, by computation.
 use mathlib.Core.Path.{refl}
 use Rattle.text.specs.Numbers.{isDigit, digitRun, valueFrom, wellFormed, numberOf, numberAt}
-use Rattle.text.specs.Fields.{fieldAt, numbersFrom, twoFrom, threeFrom}
-use Rattle.text.specs.Lines.{ahead, lines}
+use Rattle.text.specs.Fields.{endsAt, fieldAt, numbersFrom, twoFrom, threeFrom}
+use Rattle.text.specs.Lines.{ahead, lineLength, lines}
 use Rattle.mapfile.specs.Lines.{numbersOf, spanFrom, isThree, allSpans, countOf, column}
 use Rattle.mapfile.specs.Read.{
   firstLine,
@@ -20,5 +20,5 @@ use Rattle.mapfile.specs.ByHand.{paperText, readOnto, malformed, WorkedT
 pub workedTexts : WorkedTexts
 unfolding readOnto paperText malformed readMap headRead spansOnto countRead filled refused refusal spanLines firstLine
     column countOf allSpans isThree spanFrom numbersOf lines ahead numbersFrom twoFrom threeFrom fieldAt numberAt
-    numberOf digitRun isDigit wellFormed valueFrom
+    numberOf digitRun isDigit wellFormed valueFrom endsAt lineLength
 workedTexts = record { paper = refl; short = refl; uneven = refl; refusals = refl }

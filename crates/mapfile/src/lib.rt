@@ -34,7 +34,8 @@ pub enum Spans {
 fn line_numbers(line: &[u8]) -> Numbers
     ensures { λ r. ⌜ r ≡ numbersOf (now (line .entry)) ⌝ }
 {
-    numbers_from(line, number_at(line, 0))
+    let read = numbers_from(line, number_at(line, 0));
+    read.numbers
 }
 
 fn is_span(line: &[u8]) -> bool

@@ -16,9 +16,7 @@ use Rattle.heap.specs.declared.Reply.{Reply}
 use Rattle.heap.specs.Performed.{Performed, Ready}
 use Rattle.text.specs.Output.{Wrote}
 use Rattle.sheet.specs.Promises.{Answerable, Answered}
-use Rattle.sheet.specs.Parse.{lineOf}
 use Rattle.sheet.specs.Print.{answerRow}
-use Rattle.sheet.proofs.InRange.{line-range}
 use Rattle.sheet.proofs.Printed.{row-32}
 
 abbrev pub six : Answer
@@ -36,41 +34,39 @@ reply-is {w} {w′} {c} {p} P =
     let cuts : p .tally .cuts ≡ (answer (forestsOf w) (Yields c)) .reply .cuts = omega (arith, P .cuts) in
     rw (P .code, P .item, P .key, links, cuts)
 
-module _ {w out : List ℕ} {at : ℕ} (A : Answerable w out at) where
+module _ {w out : List ℕ} {at : ℕ} {line : Line} (A : Answerable w out at line) where
   pub ready : Ready w (record { links = 0; cuts = 0 })
   ready = record { sound = A .sound; links = omega arith; cuts = omega arith }
 
-  module _ (line : List ℕ) where
-    abbrev reply : Answer
-    reply = (answer (forestsOf w) (lineOf line)) .reply
+  abbrev reply : Answer
+  reply = (answer (forestsOf w) line) .reply
 
-    -- an answer has room
-    pub fits : (a : Answer) → a ≡ reply → at + length (answerRow a) ≤ length out
-    fits a e =
-        let short : length (answerRow reply) ≤ 32 =
-        row-32 reply (answer-small (forestsOf w) (sound-forests w (A .sound)) (lineOf line) (line-range line)) in
-        rw e (omega (arith, A .room))
+  -- an answer has room
+  pub fits : (a : Answer) → a ≡ reply → at + length (answerRow a) ≤ length out
+  fits a e =
+      let short : length (answerRow reply) ≤ 32 =
+      row-32 reply (answer-small (forestsOf w) (sound-forests w (A .sound)) line (A .range)) in
+      rw e (omega (arith, A .room))
 
-    module _ (e : lineOf line ≡ NoCall) where
-      pub six-reply : six ≡ reply
-      unfolding answer refused
-      six-reply = ap (λ (l : Line). (answer (forestsOf w) l) .reply) (sym e)
+  module _ (e : line ≡ NoCall) where
+    pub six-reply : six ≡ reply
+    unfolding answer refused
+    six-reply = ap (λ (l : Line). (answer (forestsOf w) l) .reply) (sym e)
 
-      -- and the forests stay
-      none-next : (answer (forestsOf w) (lineOf line)) .next ≡ forestsOf w
-      unfolding answer refused
-      none-next = rw e
+    -- and the forests stay
+    none-next : (answer (forestsOf w) line) .next ≡ forestsOf w
+    unfolding answer refused
+    none-next = rw e
 
-      pub answered-none : {out′ : List ℕ} {r : ℕ} → Wrote out at (answerRow six) out′ r
-          → Answered w out at line r w out′
-      answered-none v =
-          record { words = sound-words w (A .sound) ∙ ap encode (sym none-next); wrote = rw (← six-reply) v }
+    pub answered-none : {out′ : List ℕ} {r : ℕ} → Wrote out at (answerRow six) out′ r → Answered w out at line r w out′
+    answered-none v =
+        record { words = sound-words w (A .sound) ∙ ap encode (sym none-next); wrote = rw (← six-reply) v }
 
-    module _ {w′ : List ℕ} {c : Call} {p : Reply} (e : lineOf line ≡ Yields c)
-        (P : Performed w c (record { links = 0; cuts = 0 }) p w′) where
-      pub call-reply : answerOf p ≡ reply
-      call-reply = reply-is P ∙ ap (λ (l : Line). (answer (forestsOf w) l) .reply) (sym e)
+  module _ {w′ : List ℕ} {c : Call} {p : Reply} (e : line ≡ Yields c)
+      (P : Performed w c (record { links = 0; cuts = 0 }) p w′) where
+    pub call-reply : answerOf p ≡ reply
+    call-reply = reply-is P ∙ ap (λ (l : Line). (answer (forestsOf w) l) .reply) (sym e)
 
-      pub answered-call : {out′ : List ℕ} {r : ℕ} → Wrote out at (answerRow (answerOf p)) out′ r
-          → Answered w out at line r w′ out′
-      answered-call v = record { words = rw e (P .words); wrote = rw (← call-reply) v }
+    pub answered-call : {out′ : List ℕ} {r : ℕ} → Wrote out at (answerRow (answerOf p)) out′ r
+        → Answered w out at line r w′ out′
+    answered-call v = record { words = rw e (P .words); wrote = rw (← call-reply) v }

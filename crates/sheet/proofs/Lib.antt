@@ -2,7 +2,7 @@ pub mod Booleans
 pub mod Accepted
 pub mod InRange
 pub mod Printed
-pub mod EmptyLine
+pub mod Parsing
 pub mod RowRoom
 pub mod Answered
 pub mod LineFound

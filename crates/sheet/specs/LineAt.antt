@@ -1,12 +1,25 @@
 -- The line at a position of a sheet, as the reader answers it.
 use Prim.Native.Nat.{ℕ}
+use mathlib.Core.Path.{_≡_}
 use mathlib.Core.List.{List}
 use mathlib.Core.Bool.{cond}
-use lib.ListN.{length}
+use lib.ListN.{length, take, drop}
 use lib.Dec.{ltb}
-use Rattle.text.specs.Lines.{lineEnd}
+use Rattle.rules.specs.declared.Line.{Line}
+use Rattle.text.specs.Lines.{lineLength, lineEnd}
+use Rattle.sheet.specs.declared.calls.Parsed.{Parsed}
 use Rattle.sheet.specs.declared.reader.Next.{Next}
-use Rattle.sheet.specs.declared.reader.Next.the-variants.{EndsAt, NoMore}
+use Rattle.sheet.specs.declared.reader.Next.the-variants.{Found, NoMore}
+use Rattle.sheet.specs.Parse.{lineOf}
+
+-- the call of the first line of a text
+unfoldable pub firstOf : List ℕ → Line
+firstOf text = lineOf (take (lineLength text) text)
+
+-- the call of the first line, and its length
+pub record Parses (text : List ℕ) (r : Parsed) : Type 0 where
+  pub call : r .line ≡ firstOf text
+  pub length : r .bytes ≡ lineLength text
 
 unfoldable pub lineAt : List ℕ → ℕ → Next
-lineAt sheet at = cond (ltb at (length sheet)) (EndsAt (lineEnd sheet at)) NoMore
+lineAt sheet at = cond (ltb at (length sheet)) (Found (firstOf (drop at sheet)) (lineEnd sheet at)) NoMore

@@ -3,24 +3,27 @@ use Prim.Native.Nat.{ℕ, _+_, _*_, _≤_}
 use mathlib.Core.Path.{_≡_}
 use mathlib.Core.List.{List}
 use lib.ListN.{length}
+use Rattle.rules.specs.declared.Line.{Line}
 use Rattle.rules.specs.Answers.{answer, answers, after}
+use Rattle.rules.specs.Theorems.{InRange}
 use Rattle.rules.specs.Words.{Sound, encode, forestsOf, itemsIn}
 use Rattle.text.specs.Lines.{lines}
 use Rattle.text.specs.Output.{Wrote}
 use Rattle.sheet.specs.declared.Checked.{Checked}
-use Rattle.sheet.specs.Parse.{lineOf, linesOf}
+use Rattle.sheet.specs.Parse.{linesOf}
 use Rattle.sheet.specs.Print.{answerRow, printed}
 use Rattle.sheet.specs.Runs.{limitCode}
 
--- a sound store, and room for a line of output
-pub record Answerable (w out : List ℕ) (at : ℕ) : Type 0 where
+-- a sound store, room for a line of output, and a call whose numbers are words
+pub record Answerable (w out : List ℕ) (at : ℕ) (line : Line) : Type 0 where
   pub sound : Sound w
   pub room : at + 32 ≤ length out
+  pub range : InRange line
 
 -- the words of the forests after the line, and its answer in the output
-pub record Answered (w out : List ℕ) (at : ℕ) (line : List ℕ) (r : ℕ) (w′ out′ : List ℕ) : Type 0 where
-  pub words : w′ ≡ encode ((answer (forestsOf w) (lineOf line)) .next)
-  pub wrote : Wrote out at (answerRow ((answer (forestsOf w) (lineOf line)) .reply)) out′ r
+pub record Answered (w out : List ℕ) (at : ℕ) (line : Line) (r : ℕ) (w′ out′ : List ℕ) : Type 0 where
+  pub words : w′ ≡ encode ((answer (forestsOf w) line) .next)
+  pub wrote : Wrote out at (answerRow ((answer (forestsOf w) line) .reply)) out′ r
 
 -- A sound store, and an output with room for every line.
 pub record Runnable (w sheet out : List ℕ) : Type 0 where

@@ -1,6 +1,9 @@
 // The call that a line yields: a letter and its numbers.
 ghost use mathlib.Core.Path.{_≡_};
-ghost use Rattle.sheet.specs.Parse.{ofOne, ofTwo, ofThree, callOf, lineOf};
+ghost use Rattle.rules.specs.declared.Line.the-variants.{NoCall};
+ghost use Rattle.text.specs.Lines.{lineLength};
+ghost use Rattle.sheet.specs.Parse.{ofOne, ofTwo, ofThree, callOf};
+ghost use Rattle.sheet.specs.LineAt.{Parses};
 use rules::Call;
 use rules::Line;
 use text::Numbers;
@@ -56,13 +59,40 @@ fn call_of(letter: u8, numbers: Numbers) -> Line
     }
 }
 
-// The call that the bytes of a line yield.
-pub fn parse(line: &[u8]) -> Line
-    ensures { λ r. ⌜ r ≡ lineOf (now (line .entry)) ⌝ }
+// The call that a line yields, and how many bytes the line has.
+pub struct Parsed {
+    pub line: Line,
+    pub bytes: usize,
+}
+
+// A line that yields no call: only then the text is searched for its end.
+fn no_call(text: &[u8]) -> Parsed
+    ensures { λ r. ⌜ (r .line ≡ NoCall) × (r .bytes ≡ lineLength (now (text .entry))) ⌝ }
 {
-    if line.len() == 0 {
-        return Line::NoCall;
+    Parsed {
+        line: Line::NoCall,
+        bytes: text::line_end(text, 0),
     }
-    let letter = line[0];
-    call_of(letter, text::numbers_from(line, text::field_at(line, 1)))
+}
+
+// The call that the first line of a text yields. One pass: the line ends where its last number does.
+pub fn parse(text: &[u8]) -> Parsed
+    ensures { λ r. ⌜ Parses (now (text .entry)) r ⌝ }
+{
+    if text.len() == 0 {
+        return no_call(text);
+    }
+    let letter = text[0];
+    if letter == b'\n' {
+        return no_call(text);
+    }
+    let read = text::numbers_from(text, text::field_at(text, 1));
+    let numbers = read.numbers;
+    let Line::Yields(call) = call_of(letter, numbers) else {
+        return no_call(text);
+    };
+    Parsed {
+        line: Line::Yields(call),
+        bytes: read.end,
+    }
 }

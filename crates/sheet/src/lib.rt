@@ -4,7 +4,6 @@ ghost use Rattle.sheet.specs.Promises.{Answerable, Answered, Runnable, R
 ghost use Rattle.sheet.specs.Runs.{isStore, freshRun, keptRun, Leaves};
 use answers::put_answer;
 use audit::sound;
-use calls::parse;
 use heap::perform::perform;
 use reader::Next;
 use reader::read_line;
@@ -20,12 +19,12 @@ pub mod reader;
 // ---- the lines of a sheet
 
 // Answers a line on a sound store: writes the answer from `at` on, and returns the position after it.
-fn answer_line(store: &mut [u32], out: &mut [u8], at: usize, line: &[u8]) -> usize
-    requires { ⌜ Answerable (now store) (now out) at ⌝ }
-    ensures { λ r. ⌜ Answered (now (store .entry)) (now (out .entry)) at (now (line .entry)) r
+fn answer_line(store: &mut [u32], out: &mut [u8], at: usize, line: Line) -> usize
+    requires { ⌜ Answerable (now store) (now out) at line ⌝ }
+    ensures { λ r. ⌜ Answered (now (store .entry)) (now (out .entry)) at line r
         (now (store .exit)) (now (out .exit)) ⌝ }
 {
-    let Line::Yields(call) = parse(line) else {
+    let Line::Yields(call) = line else {
         return put_answer(
             out,
             at,
@@ -59,10 +58,10 @@ fn run_lines(store: &mut [u32], sheet: &[u8], out: &mut [u8]) -> usize
     let mut at = 0;
     let mut to = 0;
     loop {
-        let Next::EndsAt(end) = read_line(sheet, at) else {
+        let Next::Found(line, end) = read_line(sheet, at) else {
             break;
         };
-        to = answer_line(store, out, to, &sheet[at..end]);
+        to = answer_line(store, out, to, line);
         at = end + 1;
     }
     to

@@ -2,15 +2,17 @@
 // over it are few and thin; the work is in `line_at`, on the bytes and the position.
 ghost use mathlib.Core.Path.{_≡_};
 ghost use Rattle.sheet.specs.LineAt.{lineAt};
+use super::calls::parse;
+use rules::Line;
 
 pub struct LineReader<'a> {
     pub sheet: &'a [u8],
     pub at: usize,
 }
 
-// The line at a position: where it ends, or that no line is left.
+// The line at a position: its call and where it ends, or that no line is left.
 pub enum Next {
-    EndsAt(usize),
+    Found(Line, usize),
     NoMore,
 }
 
@@ -18,7 +20,9 @@ fn line_at(sheet: &[u8], at: usize) -> Next
     ensures { λ r. ⌜ r ≡ lineAt (now (sheet .entry)) at ⌝ }
 {
     if at < sheet.len() {
-        return Next::EndsAt(text::line_end(sheet, at));
+        let parsed = parse(&sheet[at..]);
+        let line = parsed.line;
+        return Next::Found(line, at + parsed.bytes);
     }
     Next::NoMore
 }

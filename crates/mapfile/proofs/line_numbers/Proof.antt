@@ -16,7 +16,7 @@ numbers-from-requires c κs = search needs
 
 returns : tie.Need-returns
 unfolding numbersOf
-returns c = rw (← c .before .number-at .ensures) (c .numbers-from .ensures)
+returns c = rw (← c .before .number-at .ensures) (c .numbers-from .ensures .same)
 
 pub line-numbers-spec : {M : Type 1} → statement M
 line-numbers-spec = tie.close (tie.spec number-at-requires numbers-from-requires returns)

@@ -1,35 +1,28 @@
 -- `answer_line` meets its contract: code 6 where the line yields no call, else the reply of its call.
-use mathlib.Core.Path.{sym, _∙_}
 use Rattle.sheet.proofs.Answered.{fits, six, six-reply, answered-none, call-reply, answered-call}
 use borrow.Author.Needs.{needs}
 use Rattle.sheet.proofs.answer_line.Statement.{statement}
 use Rattle.sheet.proofs.answer_line.Tie as tie
 
-parse-requires : tie.Need-parse-requires
-parse-requires c κs = search needs
-
-enum-known-call : tie.Need-enum-known-call
-enum-known-call c = search needs
+enum-known-line : tie.Need-enum-known-line
+enum-known-line c = search needs
 
 enum-told : tie.Need-enum-told
 enum-told c = search needs
 
 put-answer-requires : tie.Need-put-answer-requires
 put-answer-requires c κs =
-    let parsed = c .before .before .before in
-    let start = parsed .before .before .before .before in
-    let none = sym (parsed .parse .ensures) ∙ c .before .enum-told .given .1 in
-    fits (start .pre) _ six (six-reply (start .pre) _ none)
+    let start = c .before .before .before .before .before in
+    fits (start .pre) six (six-reply (start .pre) (c .before .enum-told .given .1))
 
 same-length : tie.Need-same-length
 same-length c = search needs
 
 returns : tie.Need-returns
 returns c =
-    let parsed = c .before .before .before .before .before .before in
-    let start = parsed .before .before .before .before in
-    let none = sym (parsed .parse .ensures) ∙ c .before .before .before .before .enum-told .given .1 in
-    answered-none (start .pre) _ none (c .before .before .put-answer .ensures)
+    let told = c .before .before .before .before in
+    answered-none (told .before .before .before .before .pre) (told .enum-told .given .1)
+    (c .before .before .put-answer .ensures)
 
 perform-requires : tie.Need-perform-requires
 perform-requires c κs = search needs
@@ -38,10 +31,8 @@ put-answer-requires-2 : tie.Need-put-answer-requires-2
 put-answer-requires-2 c κs =
     let performed = c .before .before .before .before in
     let yields = performed .before .before .before in
-    let parsed = yields .before .before in
-    let start = parsed .before .before .before .before in
-    let call = sym (parsed .parse .ensures) ∙ yields .call .given .1 in
-    fits (start .pre) _ _ (call-reply (start .pre) _ call (performed .perform .ensures))
+    let start = yields .before .before .before .before in
+    fits (start .pre) _ (call-reply (start .pre) (yields .line .given .1) (performed .perform .ensures))
 
 same-length-2 : tie.Need-same-length-2
 same-length-2 c = search needs
@@ -54,17 +45,14 @@ returns-2 c =
     let put = c .before .before in
     let performed = put .before .before .before .before .before in
     let yields = performed .before .before .before in
-    let parsed = yields .before .before in
-    let start = parsed .before .before .before .before in
-    let call = sym (parsed .parse .ensures) ∙ yields .call .given .1 in
-    answered-call (start .pre) _ call (performed .perform .ensures) (put .put-answer2 .ensures)
+    answered-call (yields .before .before .before .before .pre) (yields .line .given .1) (performed .perform .ensures)
+    (put .put-answer2 .ensures)
 
 pub answer-line-spec : {M : Type 1} → statement M
 answer-line-spec =
     tie.close
     (tie.spec
-    parse-requires
-    enum-known-call
+    enum-known-line
     enum-told
     put-answer-requires
     same-length

@@ -22,49 +22,34 @@ loop-holds c = none-done (c .before .before .before .pre)
 read-line-requires : tie.Need-read-line-requires Inv-loop μ-loop
 read-line-requires c κs = search needs
 
-enum-known-end : tie.Need-enum-known-end Inv-loop μ-loop
-enum-known-end c = search needs
+enum-known-line : tie.Need-enum-known-line Inv-loop μ-loop
+enum-known-line c = search needs
 
 enum-told : tie.Need-enum-told Inv-loop μ-loop
 enum-told c = search needs
 
-sub-answer-line : tie.Need-sub-answer-line Inv-loop μ-loop
-sub-answer-line c =
-    let line = c .before .before .before in
-    omega (arith, found _ _ _ (sym (line .before .before .read-line .ensures) ∙ line .end .given .1))
-
-part-answer-line-start : tie.Need-part-answer-line-start Inv-loop μ-loop
-part-answer-line-start c =
-    let line = c .before .before .before in
-    omega (arith, found _ _ _ (sym (line .before .before .read-line .ensures) ∙ line .end .given .1))
-
-part-answer-line-end : tie.Need-part-answer-line-end Inv-loop μ-loop
-part-answer-line-end c =
-    let line = c .before .before .before in
-    omega (arith, found _ _ _ (sym (line .before .before .read-line .ensures) ∙ line .end .given .1))
-
 answer-line-requires : tie.Need-answer-line-requires Inv-loop μ-loop
 answer-line-requires c κs =
-    let line = c .before .before .before .before in
+    let line = c .before .before .before in
     let read = line .before .before in
-    answerable (read .before .loop .inv) _ (sym (read .read-line .ensures) ∙ line .end .given .1)
+    answerable (read .before .loop .inv) _ _ (sym (read .read-line .ensures) ∙ line .line .given .1)
 
 add-at : tie.Need-add-at Inv-loop μ-loop
 add-at c =
-    let line = c .before .before .before .before .before .before .before .before .before in
-    omega (arith, found _ _ _ (sym (line .before .before .read-line .ensures) ∙ line .end .given .1))
+    let line = c .before .before .before .before .before .before .before .before in
+    omega (arith, found _ _ _ _ (sym (line .before .before .read-line .ensures) ∙ line .line .given .1))
 
 loop-less : tie.Need-loop-less Inv-loop μ-loop
 loop-less c =
-    let line = c .before .before .before .before .before .before .before .before .before in
-    omega (arith, found _ _ _ (sym (line .before .before .read-line .ensures) ∙ line .end .given .1))
+    let line = c .before .before .before .before .before .before .before .before in
+    omega (arith, found _ _ _ _ (sym (line .before .before .read-line .ensures) ∙ line .line .given .1))
 
 loop-again : tie.Need-loop-again Inv-loop μ-loop
 loop-again c =
     let answer = c .before .before .before .before .answer-line in
-    let line = c .before .before .before .before .before .before .before .before .before in
+    let line = c .before .before .before .before .before .before .before .before in
     let read = line .before .before in
-    one-more (read .before .loop .inv) _ (sym (read .read-line .ensures) ∙ line .end .given .1)
+    one-more (read .before .loop .inv) _ _ (sym (read .read-line .ensures) ∙ line .line .given .1)
     (answer .kept .0) (answer .ensures)
 
 same-length : tie.Need-same-length Inv-loop μ-loop
@@ -86,11 +71,8 @@ run-lines-spec =
     μ-loop
     loop-holds
     read-line-requires
-    enum-known-end
+    enum-known-line
     enum-told
-    sub-answer-line
-    part-answer-line-start
-    part-answer-line-end
     answer-line-requires
     add-at
     loop-less

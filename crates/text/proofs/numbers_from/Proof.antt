@@ -30,7 +30,7 @@ two-from-requires : tie.Need-two-from-requires
 two-from-requires c κs = search needs
 
 returns-3 : tie.Need-returns-3
-returns-3 c = 
+returns-3 c =
     let tested = c .before .before .before in
     numbers-on _ (tested .before .before .first .given .1) (sym (tested .ends-at .ensures) ∙ c .before .before .if1 .left)
     (rw (← c .before .field-at .ensures) (c .two-from .ensures))

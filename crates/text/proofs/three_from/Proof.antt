@@ -27,7 +27,7 @@ no-fields-requires-2 : tie.Need-no-fields-requires-2
 no-fields-requires-2 c κs = search needs
 
 returns-3 : tie.Need-returns-3
-returns-3 c = 
+returns-3 c =
     let tested = c .before .before in
     three-on _ (tested .before .before .third .given .1) _ _ (sym (tested .ends-at .ensures) ∙ c .before .if1 .left)
     (c .no-fields2 .ensures)

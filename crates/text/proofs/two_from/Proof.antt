@@ -30,7 +30,7 @@ three-from-requires : tie.Need-three-from-requires
 three-from-requires c κs = search needs
 
 returns-3 : tie.Need-returns-3
-returns-3 c = 
+returns-3 c =
     let tested = c .before .before .before in
     two-on _ (tested .before .before .second .given .1) _ (sym (tested .ends-at .ensures) ∙ c .before .before .if1 .left)
     (rw (← c .before .field-at .ensures) (c .three-from .ensures))
