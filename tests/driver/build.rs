@@ -19,7 +19,7 @@ fn plain() {
     let manifest = PathBuf::from(env::var_os("CARGO_MANIFEST_DIR").expect("set by cargo"));
     let out = PathBuf::from(env::var_os("OUT_DIR").expect("set by cargo"));
     let bench = manifest.join("../../bench");
-    for file in ["plain.c", "plain.h"] {
+    for file in ["plain.c", "plain.h", "rules.h", "sheet.h", "sizes.h", "store.h", "text.h"] {
         println!("cargo:rerun-if-changed={}", bench.join(file).display());
     }
     let (object, archive) = (out.join("plain.o"), out.join("libplain.a"));

@@ -1,0 +1,285 @@
+/* The queue rules in plain C on the words of a store: no index is tested, nothing is proved. */
+#ifndef RULES_H
+#define RULES_H
+
+#include "store.h"
+#include "text.h"
+
+static void make_empty(const store *s)
+{
+    for (int h = 0; h < HEAPS; h++)
+        s->heap[h] = (heap_words){ NONE, NONE, NONE, 0 };
+    memset(s->key, 0, (size_t)s->items * ITEM_WORDS * sizeof *s->key);
+}
+
+static inline void free_item(const store *s, uint32_t item)
+{
+    s->key[item] = s->parent[item] = s->first_child[item] = s->last_child[item] = 0;
+    s->next[item] = s->previous[item] = s->rank[item] = s->state[item] = 0;
+}
+
+/* Puts a tree at the end of a row, unmarked. */
+static inline void append_root(const store *s, uint32_t h, uint32_t item)
+{
+    heap_words *heap = &s->heap[h];
+    s->parent[item] = NONE;
+    s->next[item] = NONE;
+    s->previous[item] = heap->last;
+    s->state[item] = unmarked(h);
+    if (heap->last == NONE)
+        heap->first = item;
+    else
+        s->next[heap->last] = item;
+    heap->last = item;
+}
+
+/* Takes an item out of its sibling list, whose ends are given. */
+static inline void unlink_sibling(const store *s, uint32_t item, uint32_t *first, uint32_t *last)
+{
+    uint32_t next = s->next[item], previous = s->previous[item];
+    if (previous == NONE)
+        *first = next;
+    else
+        s->next[previous] = next;
+    if (next == NONE)
+        *last = previous;
+    else
+        s->previous[next] = previous;
+}
+
+/* Makes loser the last child of winner; the links of rows are not kept up meanwhile. */
+static inline void link_under(const store *s, uint32_t loser, uint32_t winner)
+{
+    uint32_t last = s->last_child[winner];
+    s->parent[loser] = winner;
+    s->previous[loser] = last;
+    s->next[loser] = NONE;
+    if (last == NONE)
+        s->first_child[winner] = loser;
+    else
+        s->next[last] = loser;
+    s->last_child[winner] = loser;
+    s->rank[winner]++;
+}
+
+/* Gives a tree a place of its rank, linking it with each holder on the way. */
+static inline uint32_t climb(const store *s, uint32_t place[RANKS], uint32_t tree)
+{
+    uint32_t links = 0, rank = s->rank[tree];
+    while (place[rank] != NONE) {
+        uint32_t holder = place[rank];
+        place[rank] = NONE;
+        if (precedes(s, tree, holder)) {
+            link_under(s, holder, tree);
+        } else {
+            link_under(s, tree, holder);
+            tree = holder;
+        }
+        links++;
+        rank++;
+    }
+    place[rank] = tree;
+    return links;
+}
+
+/* Makes the row anew from the places, by ascending rank, and finds its minimum. */
+static inline void row_from_places(const store *s, uint32_t h, const uint32_t place[RANKS])
+{
+    heap_words *heap = &s->heap[h];
+    uint32_t last = NONE, minimum = NONE;
+    heap->first = NONE;
+    for (int rank = 0; rank < RANKS; rank++) {
+        uint32_t tree = place[rank];
+        if (tree == NONE)
+            continue;
+        s->parent[tree] = NONE;
+        s->previous[tree] = last;
+        if (last == NONE)
+            heap->first = tree;
+        else
+            s->next[last] = tree;
+        last = tree;
+        if (minimum == NONE || precedes(s, tree, minimum))
+            minimum = tree;
+    }
+    if (last != NONE)
+        s->next[last] = NONE;
+    heap->last = last;
+    heap->minimum = minimum;
+}
+
+/* Removes the minimum and links the rest of the row and then the children of the minimum. */
+static uint32_t extract_min(const store *s, uint32_t h)
+{
+    heap_words *heap = &s->heap[h];
+    uint32_t place[RANKS], links = 0, taken = heap->minimum, next;
+    for (int rank = 0; rank < RANKS; rank++)
+        place[rank] = NONE;
+    for (uint32_t tree = heap->first; tree != NONE; tree = next) {
+        next = s->next[tree];
+        if (tree != taken)
+            links += climb(s, place, tree);
+    }
+    for (uint32_t tree = s->first_child[taken]; tree != NONE; tree = next) {
+        next = s->next[tree];
+        s->state[tree] = unmarked(h);
+        links += climb(s, place, tree);
+    }
+    row_from_places(s, h, place);
+    heap->count--;
+    free_item(s, taken);
+    return links;
+}
+
+static inline void insert(const store *s, uint32_t h, uint32_t item, uint32_t key)
+{
+    heap_words *heap = &s->heap[h];
+    s->key[item] = key;
+    s->first_child[item] = s->last_child[item] = NONE;
+    s->rank[item] = 0;
+    append_root(s, h, item);
+    if (heap->minimum == NONE || precedes(s, item, heap->minimum))
+        heap->minimum = item;
+    heap->count++;
+}
+
+/* Cuts an item from its parent, then every marked ancestor in turn. */
+static inline uint32_t cascading_cut(const store *s, uint32_t h, uint32_t item)
+{
+    uint32_t cuts = 0, parent = s->parent[item];
+    for (;;) {
+        unlink_sibling(s, item, &s->first_child[parent], &s->last_child[parent]);
+        s->rank[parent]--;
+        append_root(s, h, item);
+        cuts++;
+        uint32_t above = s->parent[parent];
+        if (above == NONE)
+            return cuts;
+        if (!is_marked(s, parent)) {
+            s->state[parent]++;
+            return cuts;
+        }
+        item = parent;
+        parent = above;
+    }
+}
+
+static inline uint32_t decrease_key(const store *s, uint32_t item, uint32_t key)
+{
+    uint32_t h = heap_of(s, item), parent = s->parent[item], cuts = 0;
+    s->key[item] = key;
+    if (parent != NONE && precedes(s, item, parent))
+        cuts = cascading_cut(s, h, item);
+    if (precedes(s, item, s->heap[h].minimum))
+        s->heap[h].minimum = item;
+    return cuts;
+}
+
+/* Removes an item that is not its heap's minimum; its children join the row, nothing is linked. */
+static uint32_t delete_other(const store *s, uint32_t h, uint32_t item)
+{
+    heap_words *heap = &s->heap[h];
+    uint32_t cuts = 0, next;
+    if (s->parent[item] != NONE)
+        cuts = cascading_cut(s, h, item);
+    unlink_sibling(s, item, &heap->first, &heap->last);
+    for (uint32_t child = s->first_child[item]; child != NONE; child = next) {
+        next = s->next[child];
+        append_root(s, h, child);
+    }
+    heap->count--;
+    free_item(s, item);
+    return cuts;
+}
+
+static void meld(const store *s, uint32_t into, uint32_t from)
+{
+    heap_words *a = &s->heap[into], *b = &s->heap[from];
+    if (b->count == 0)
+        return;
+    uint32_t turn = 2 * into - 2 * from;
+    for (uint32_t item = 0; item < s->items; item++)
+        if (s->state[item] != 0 && heap_of(s, item) == from)
+            s->state[item] += turn;
+    if (a->count == 0) {
+        *a = *b;
+    } else {
+        s->next[a->last] = b->first;
+        s->previous[b->first] = a->last;
+        a->last = b->last;
+        if (precedes(s, b->minimum, a->minimum))
+            a->minimum = b->minimum;
+        a->count += b->count;
+    }
+    *b = (heap_words){ NONE, NONE, NONE, 0 };
+}
+
+/* One call each: refusals in the order of their codes, then the work. */
+
+static inline answer call_insert(const store *s, uint32_t h, uint32_t item, uint32_t key)
+{
+    if (h >= HEAPS)
+        return refused(7);
+    if (item >= s->items)
+        return refused(8);
+    if (s->state[item] != 0)
+        return refused(9);
+    insert(s, h, item, key);
+    return done(item, key, 0, 0);
+}
+
+static inline answer call_find_min(const store *s, uint32_t h)
+{
+    if (h >= HEAPS)
+        return refused(7);
+    uint32_t item = s->heap[h].minimum;
+    if (item == NONE)
+        return refused(12);
+    return done(item, s->key[item], 0, 0);
+}
+
+static inline answer call_extract_min(const store *s, uint32_t h)
+{
+    answer first = call_find_min(s, h);
+    if (first.code == 0)
+        first.links = extract_min(s, h);
+    return first;
+}
+
+static inline answer call_decrease_key(const store *s, uint32_t item, uint32_t key)
+{
+    if (item >= s->items)
+        return refused(8);
+    if (s->state[item] == 0)
+        return refused(10);
+    if (key > s->key[item])
+        return refused(11);
+    return done(item, key, 0, decrease_key(s, item, key));
+}
+
+static inline answer call_delete(const store *s, uint32_t item)
+{
+    if (item >= s->items)
+        return refused(8);
+    if (s->state[item] == 0)
+        return refused(10);
+    uint32_t h = heap_of(s, item);
+    answer a = done(item, s->key[item], 0, 0);
+    if (s->heap[h].minimum == item)
+        a.links = extract_min(s, h);
+    else
+        a.cuts = delete_other(s, h, item);
+    return a;
+}
+
+static inline answer call_meld(const store *s, uint32_t into, uint32_t from)
+{
+    if (into >= HEAPS || from >= HEAPS)
+        return refused(7);
+    if (into == from)
+        return refused(13);
+    meld(s, into, from);
+    return done(into, s->heap[into].count, 0, 0);
+}
+
+#endif

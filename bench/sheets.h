@@ -1,0 +1,27 @@
+/* The sheets that are measured, all of MAX_LINES lines and the same in every run. */
+#ifndef SHEETS_H
+#define SHEETS_H
+
+#include "sizes.h"
+
+#include <stddef.h>
+#include <stdint.h>
+
+typedef struct {
+    uint8_t text[MAX_BYTES];
+    size_t len;
+} sheet_text;
+
+/* Half of the 256 items inserted, then 30 % insertions, 20 % takings, 40 % lowerings, 5 % deletions, 5 % shows. */
+void make_busy_sheet(sheet_text *sheet);
+
+/* Half of the items inserted, then 30 % insertions, 30 % takings, 40 % lowerings; keys of one or two digits. */
+void make_calls_sheet(sheet_text *sheet);
+
+/* Long numbers in and out and next to no work in the queue: one item lowered to the key that it has. */
+void make_text_sheet(sheet_text *sheet);
+
+/* Lines of every kind, with every refusal among them; each number gives another sheet. */
+void make_mixed_sheet(sheet_text *sheet, uint32_t number);
+
+#endif

@@ -1,0 +1,43 @@
+/* The words of a store, and what single words say. */
+#ifndef STORE_H
+#define STORE_H
+
+#include "sizes.h"
+
+#include <stdbool.h>
+#include <stdint.h>
+
+#define NONE UINT32_MAX
+
+/* The four words of a heap. */
+typedef struct {
+    uint32_t first, last, minimum, count;
+} heap_words;
+
+/* The blocks of a store. */
+typedef struct {
+    uint32_t items;
+    heap_words *heap;
+    uint32_t *key, *parent, *first_child, *last_child, *next, *previous, *rank, *state;
+} store;
+
+static inline store store_at(uint32_t *words, uint32_t items)
+{
+    uint32_t *block = words + HEAP_WORDS;
+    return (store){ items, (heap_words *)words,
+                    block, block + items, block + 2 * items, block + 3 * items,
+                    block + 4 * items, block + 5 * items, block + 6 * items, block + 7 * items };
+}
+
+/* Item order: the smaller key, then the smaller number, in one comparison. */
+static inline bool precedes(const store *s, uint32_t a, uint32_t b)
+{
+    uint64_t order_a = (uint64_t)s->key[a] << 32 | a, order_b = (uint64_t)s->key[b] << 32 | b;
+    return order_a < order_b;
+}
+
+static inline uint32_t unmarked(uint32_t heap) { return 1 + 2 * heap; }
+static inline uint32_t heap_of(const store *s, uint32_t item) { return (s->state[item] - 1) >> 1; }
+static inline bool is_marked(const store *s, uint32_t item) { return (s->state[item] & 1) == 0; }
+
+#endif
