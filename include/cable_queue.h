@@ -1,7 +1,32 @@
-/* The C interface of the queue engine.
+/* The C interface of the queue engine: libmodem.a has queue_run, libhost.a all the others.
  *
  * A lent area is two arguments: a pointer, then the number of its elements. Pointers are never NULL, not even with the
- * number 0, and areas of one call do not overlap. */
+ * number 0, and areas of one call do not overlap. Nothing else is asked of a caller: every call returns, and refuses
+ * under a code what it can't accept. A refused call changes nothing but its figures, where it has any. Nothing is
+ * allocated and nothing is kept between calls.
+ *
+ * A store for N items, N from 0 to 4,096, is 32 + 8N words, and its length says what N is.
+ *
+ * Codes of a run, of a feed call and of the map reader, the first whose condition is met; 0 is done:
+ *    1  the store is not 32 + 8N words
+ *    2  the sheet is over 60,000 bytes
+ *    3  the sheet has over 2,000 lines
+ *    4  the output has fewer than 32 bytes a line
+ *    5  the kept store is not sound
+ *   14  no places, or over 4,096
+ *   15  the start is not a place
+ *   16  the three span lists differ in length, or are over 16,384 long (feed_table) or too short (read_map)
+ *   17  a result list is not one word a place, or the store is not 32 + 8 words a place
+ *   18  a span names no place
+ *   19  a span's loss is not from 1 to 1,000,000
+ *   20  a span comes from a smaller place than the span before it
+ *   21  the map text is over 60,000 bytes, or malformed
+ *
+ * Codes of a line, which stand in its answer:
+ *    6  not a call             10  the item is in no heap
+ *    7  heap above 7           11  the key is larger than before
+ *    8  item N or above        12  the heap is empty
+ *    9  the item is in a heap  13  a heap is joined to itself */
 #ifndef CABLE_QUEUE_H
 #define CABLE_QUEUE_H
 
@@ -15,10 +40,40 @@ extern "C" {
 /* Added to the code of a refused run. */
 #define CABLE_QUEUE_REFUSED 100000
 
-/* libmodem.a: runs a sheet fresh on 256 items, in 2,080 words of its own on the stack. Returns the number of bytes
- * written to out, or CABLE_QUEUE_REFUSED + code, and out is then as it was: 2 for a sheet over 60,000 bytes, 3 for more
- * than 2,000 lines, 4 for an output of fewer than 32 bytes a line. Output beyond the bytes written stays as it was. */
+/* A word that names no place or span in a feed table, and no item in a store's links. */
+#define CABLE_QUEUE_NONE UINT32_MAX
+
+/* Runs a sheet fresh on 256 items, in 2,080 words of its own on the stack. Returns the number of bytes written to out, or
+ * CABLE_QUEUE_REFUSED + code, with a code from 2 to 4. Output beyond the bytes written stays as it was. */
 uint32_t queue_run(const uint8_t *sheet, size_t sheet_len, uint8_t *out, size_t out_len);
+
+/* Makes the store empty, whatever its words, and runs a sheet on it. Returns the number of bytes written to out, or
+ * CABLE_QUEUE_REFUSED + code, with a code from 1 to 4. Output beyond the bytes written stays as it was. */
+uint32_t fresh_run(uint32_t *store, size_t store_len, const uint8_t *sheet, size_t sheet_len, uint8_t *out,
+                   size_t out_len);
+
+/* Runs a sheet on the store as an earlier run left it. Returns as fresh_run does, with a code from 1 to 5. */
+uint32_t kept_run(uint32_t *store, size_t store_len, const uint8_t *sheet, size_t sheet_len, uint8_t *out,
+                  size_t out_len);
+
+/* Returns 1 if the words, any number of them, are those of a sound store, else 0. */
+uint32_t store_sound(const uint32_t *store, size_t store_len);
+
+/* The feed table of a map: span e leads from place from[e] to place to[e] at loss[e]. Returns 0, or a code from 14 to 20.
+ *
+ * When it is done, best[p] is the least loss from the start to place p, and last[p] the lowest-numbered span that ends a
+ * chain of that loss. Both are CABLE_QUEUE_NONE where no chain leads; at the start they are 0 and CABLE_QUEUE_NONE. The
+ * store is made empty, used and left empty. The figures are links, cuts and spans examined, three zeros after a
+ * refusal. */
+uint32_t feed_table(uint32_t places, uint32_t start, const uint32_t *from, size_t from_len, const uint32_t *to,
+                    size_t to_len, const uint32_t *loss, size_t loss_len, uint32_t *best, size_t best_len,
+                    uint32_t *last, size_t last_len, uint32_t *store, size_t store_len, uint32_t figures[3]);
+
+/* Reads a map text into three span lists. Returns 0, 16 or 21; 21 comes before 16. The figures are places, start and
+ * number of spans, three zeros after a refusal; the numbers read are not tested. List words beyond the spans stay as they
+ * were. */
+uint32_t read_map(const uint8_t *text, size_t text_len, uint32_t *from, size_t from_len, uint32_t *to, size_t to_len,
+                  uint32_t *loss, size_t loss_len, uint32_t figures[3]);
 
 #ifdef __cplusplus
 }

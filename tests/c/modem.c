@@ -1,30 +1,13 @@
 /* queue_run through the C header: the worked sheet, every refusal at its limit, output beyond untouched. */
 #include "cable_queue.h"
-
-#include <stdio.h>
-#include <stdlib.h>
-#include <string.h>
+#include "check.h"
 
 #define LINES 2000
 #define ROOM (32 * LINES)
 #define LARGEST_SHEET 60000
 
-static const char worked_sheet[] =
-    "I,0,0,5\nI,0,1,3\nI,0,2,8\nI,0,3,1\nT,0\nD,0,2\nM,0\nT,1\n";
-static const char worked_answers[] =
-    "0,0,5,0,0\n0,1,3,0,0\n0,2,8,0,0\n0,3,1,0,0\n0,3,1,1,0\n0,0,2,0,1\n0,0,2,0,0\n12,0,0,0,0\n";
-
 static uint8_t sheet[LARGEST_SHEET + 1];
 static uint8_t out[ROOM + 1];
-static int tried, failed;
-
-static void expect(const char *what, int holds) {
-    tried++;
-    if (!holds) {
-        failed++;
-        printf("modem: wrong: %s\n", what);
-    }
-}
 
 /* Every byte of out from a place on is still '#'. */
 static int untouched(size_t from) {
@@ -73,6 +56,5 @@ int main(void) {
     expect("60,000 bytes in one line", answered("6,0,0,0,0\n", run(LARGEST_SHEET, 32)));
     expect("60,001 bytes in one line: 2", run(LARGEST_SHEET + 1, 32) == CABLE_QUEUE_REFUSED + 2 && untouched(0));
 
-    printf("modem: %d tried, %d failed\n", tried, failed);
-    return failed == 0 ? EXIT_SUCCESS : EXIT_FAILURE;
+    return finish("modem");
 }

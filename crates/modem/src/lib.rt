@@ -8,9 +8,5 @@ pub extern "C" fn queue_run(sheet: &[u8], out: &mut [u8]) -> u32
 {
     let mut store = [0u32; 2080];
     let ran = sheet::run_fresh(&mut store, sheet, out);
-    let code = ran.code;
-    if code == 0 {
-        return ran.bytes;
-    }
-    100000 + code
+    sheet::result_number(ran.code, ran.bytes)
 }

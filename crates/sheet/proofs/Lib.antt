@@ -11,5 +11,6 @@ pub mod Limits
 pub mod Runs
 pub mod Leaves
 pub mod FreshRuns
+pub mod Returned
 pub mod Continuation
 pub mod Histories

@@ -1,7 +1,8 @@
 // Sheets of queue calls: each line is read and answered, in fresh and in kept runs.
 ghost use mathlib.Core.Path.{_≡_};
+ghost use Prim.Native.Nat.{_≤_};
 ghost use Rattle.sheet.specs.Promises.{Answerable, Answered, Runnable, RanLines, Limited};
-ghost use Rattle.sheet.specs.Runs.{isStore, freshRun, keptRun, Leaves};
+ghost use Rattle.sheet.specs.Runs.{isStore, freshRun, keptRun, Leaves, resultNumber};
 use answers::put_answer;
 use audit::sound;
 use heap::perform::perform;
@@ -180,4 +181,15 @@ pub fn run_kept(store: &mut [u32], sheet: &[u8], out: &mut [u8]) -> Ran
         lines: within.lines,
         bytes: bytes as u32,
     }
+}
+
+// The number that C gets of a run: the bytes written, or 100,000 and the code.
+pub fn result_number(code: u32, bytes: u32) -> u32
+    requires { ⌜ code ≤ 5 ⌝ }
+    ensures { λ r. ⌜ r ≡ resultNumber code bytes ⌝ }
+{
+    if code == 0 {
+        return bytes;
+    }
+    100000 + code
 }

@@ -1,0 +1,39 @@
+-- What the entries for hosts in C return and leave, on any input. A library's answer is a struct; C gets it as a number,
+-- or as the code and three figures.
+use Prim.Native.Nat.{ℕ}
+use mathlib.Core.Path.{_≡_}
+use mathlib.Core.List.{List, [], _∷_}
+use mathlib.Core.Bool.{cond}
+use Rattle.audit.specs.Check.{soundWords}
+use Rattle.sheet.specs.Runs.{Run, returned}
+use Rattle.finder.specs.declared.Fed.{Fed}
+use Rattle.finder.specs.Map.{Map}
+use Rattle.finder.specs.Feed.{Feed}
+use Rattle.finder.specs.Promise.{Feeds}
+use Rattle.mapfile.specs.Read.{Reading}
+
+-- the number returned, the store and the output are those of the run
+pub record RunReturns (run : Run) (r : ℕ) (store out : List ℕ) : Type 0 where
+  pub sameNumber : r ≡ returned run
+  pub sameStore : store ≡ run .store
+  pub sameOut : out ≡ run .out
+
+-- 1 for sound words, 0 for any others
+unfoldable pub soundNumber : List ℕ → ℕ
+soundNumber words = cond (soundWords words) 1 0
+
+-- The code and the figures are those of an answer `fed`, and `Feeds` says that this answer, the lists and the store are
+-- those of w, but for the count of examined spans in a call that is done.
+pub record FeedReturns (m : Map) (w : Feed) (r : ℕ) (best last store figures : List ℕ) : Type 0 where
+  pub fed : Fed
+  pub sameCode : r ≡ fed .code
+  pub sameFigures : figures ≡ fed .links ∷ fed .cuts ∷ fed .examined ∷ []
+  pub feeds : Feeds m w fed best last store
+
+-- code, figures and lists are those of the reading
+pub record ReadReturns (w : Reading) (r : ℕ) (from to loss figures : List ℕ) : Type 0 where
+  pub sameCode : r ≡ w .answer .code
+  pub sameFigures : figures ≡ w .answer .places ∷ w .answer .start ∷ w .answer .spans ∷ []
+  pub sameFrom : from ≡ w .from
+  pub sameTo : to ≡ w .to
+  pub sameLoss : loss ≡ w .loss

@@ -1,0 +1,79 @@
+// The entries for hosts in C, all but the modem's own run.
+ghost use mathlib.Core.Path.{_≡_};
+ghost use Rattle.sheet.specs.Runs.{freshRun, keptRun};
+ghost use Rattle.finder.specs.Map.{mapOf};
+ghost use Rattle.finder.specs.Feed.{feedResult};
+ghost use Rattle.mapfile.specs.Read.{readMap};
+ghost use Rattle.host.specs.Entries.{RunReturns, soundNumber, FeedReturns, ReadReturns};
+
+// A fresh run: the bytes written to `out`, or 100,000 and the code of the refusal.
+#[no_mangle]
+pub extern "C" fn fresh_run(store: &mut [u32], sheet: &[u8], out: &mut [u8]) -> u32
+    ensures { λ r. ⌜ RunReturns (freshRun (now (store .entry)) (now (sheet .entry)) (now (out .entry))) r
+        (now (store .exit)) (now (out .exit)) ⌝ }
+{
+    let fresh = sheet::run_fresh(store, sheet, out);
+    sheet::result_number(fresh.code, fresh.bytes)
+}
+
+// A kept run: the same, on the store as it is.
+#[no_mangle]
+pub extern "C" fn kept_run(store: &mut [u32], sheet: &[u8], out: &mut [u8]) -> u32
+    ensures { λ r. ⌜ RunReturns (keptRun (now (store .entry)) (now (sheet .entry)) (now (out .entry))) r
+        (now (store .exit)) (now (out .exit)) ⌝ }
+{
+    let kept = sheet::run_kept(store, sheet, out);
+    sheet::result_number(kept.code, kept.bytes)
+}
+
+// 1 if the words are those of a sound store, else 0.
+#[no_mangle]
+pub extern "C" fn store_sound(store: &[u32]) -> u32
+    ensures { λ r. ⌜ r ≡ soundNumber (now (store .entry)) ⌝ }
+{
+    if audit::sound(store) {
+        return 1;
+    }
+    0
+}
+
+// The feed table of a map. Returns the code; the figures are links, cuts and spans examined.
+#[no_mangle]
+pub extern "C" fn feed_table(
+    places: u32,
+    start: u32,
+    from: &[u32],
+    to: &[u32],
+    loss: &[u32],
+    best: &mut [u32],
+    last: &mut [u32],
+    store: &mut [u32],
+    figures: &mut [u32; 3],
+) -> u32
+    ensures { λ r. ⌜ FeedReturns (mapOf places start (now (from .entry)) (now (to .entry)) (now (loss .entry)))
+        (feedResult (mapOf places start (now (from .entry)) (now (to .entry)) (now (loss .entry)))
+        (now (best .entry)) (now (last .entry)) (now (store .entry)))
+        r (now (best .exit)) (now (last .exit)) (now (store .exit)) (now (figures .exit)) ⌝ }
+{
+    let fed = finder::feed(places, start, from, to, loss, best, last, store);
+    *figures = [fed.links, fed.cuts, fed.examined];
+    fed.code
+}
+
+// Reads a map text into span lists. Returns the code; the figures are places, start and number of spans.
+#[no_mangle]
+pub extern "C" fn read_map(
+    text: &[u8],
+    from: &mut [u32],
+    to: &mut [u32],
+    loss: &mut [u32],
+    figures: &mut [u32; 3],
+) -> u32
+    ensures { λ r. ⌜ ReadReturns
+        (readMap (now (text .entry)) (now (from .entry)) (now (to .entry)) (now (loss .entry)))
+        r (now (from .exit)) (now (to .exit)) (now (loss .exit)) (now (figures .exit)) ⌝ }
+{
+    let map = mapfile::read(text, from, to, loss);
+    *figures = [map.places, map.start, map.spans];
+    map.code
+}

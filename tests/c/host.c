@@ -1,0 +1,261 @@
+/* The entries of libhost.a through the C header: the scope paper's worked runs, and every refusal with everything lent
+ * left as it was. Each lent area is a heap block of its exact size, so that valgrind sees any access beyond it. */
+#include "cable_queue.h"
+#include "check.h"
+
+#define ITEMS 16
+#define STORE(items) (32 + 8 * (items))
+#define COUNT_OF_HEAP_0 3 /* the word */
+#define FILL 0xA5A5A5A5u
+
+typedef struct {
+    uint8_t *at;
+    size_t len;
+} bytes;
+
+typedef struct {
+    uint32_t *at;
+    size_t len;
+} words;
+
+static void *block(size_t size) {
+    void *at = malloc(size);
+    if (at == NULL) abort();
+    return at;
+}
+
+static bytes filled_bytes(size_t len, int byte) {
+    bytes b = { (uint8_t *)block(len), len };
+    memset(b.at, byte, len);
+    return b;
+}
+
+static bytes copy_text(const char *text) {
+    bytes b = filled_bytes(strlen(text), 0);
+    memcpy(b.at, text, b.len);
+    return b;
+}
+
+static words copy_words(const uint32_t *from, size_t len) {
+    words w = { (uint32_t *)block(4 * len), len };
+    if (len > 0) memcpy(w.at, from, 4 * len);
+    return w;
+}
+
+static words filled(size_t len) {
+    words w = { (uint32_t *)block(4 * len), len };
+    for (size_t i = 0; i < len; i++) w.at[i] = FILL;
+    return w;
+}
+
+static int same_words(words a, words b) {
+    return a.len == b.len && memcmp(a.at, b.at, 4 * a.len) == 0;
+}
+
+/* Every word from a place on is still as filled. */
+static int untouched(words w, size_t from) {
+    for (size_t i = from; i < w.len; i++)
+        if (w.at[i] != FILL) return 0;
+    return 1;
+}
+
+static int all_hashes(bytes b, size_t from) {
+    for (size_t i = from; i < b.len; i++)
+        if (b.at[i] != '#') return 0;
+    return 1;
+}
+
+static int are(const uint32_t *figures, uint32_t a, uint32_t b, uint32_t c) {
+    return figures[0] == a && figures[1] == b && figures[2] == c;
+}
+
+/* Runs. */
+
+typedef uint32_t run_entry(uint32_t *, size_t, const uint8_t *, size_t, uint8_t *, size_t);
+
+/* The run gives these answers, and leaves the output beyond them. */
+static int answers(run_entry *run, words store, const char *sheet, const char *expected) {
+    bytes in = copy_text(sheet), out = filled_bytes(32 * strlen(sheet), '#');
+    size_t len = strlen(expected);
+    uint32_t n = run(store.at, store.len, in.at, in.len, out.at, out.len);
+    int same = n == len && memcmp(out.at, expected, len) == 0 && all_hashes(out, len);
+    free(in.at);
+    free(out.at);
+    return same;
+}
+
+/* The run of a sheet of LFs is refused, and leaves store and output. */
+static int refused(run_entry *run, uint32_t code, words store, size_t lines, size_t out_len) {
+    bytes in = filled_bytes(lines, '\n'), out = filled_bytes(out_len, '#');
+    words before = copy_words(store.at, store.len);
+    uint32_t n = run(store.at, store.len, in.at, in.len, out.at, out.len);
+    int same = n == CABLE_QUEUE_REFUSED + code && all_hashes(out, 0) && same_words(store, before);
+    free(in.at);
+    free(out.at);
+    free(before.at);
+    return same;
+}
+
+/* The worked sheet, cut at each line's end: a fresh and a kept run give the answers and the store of one run. */
+static int same_at_every_cut(words whole) {
+    int same = 1;
+    for (size_t cut = 0; cut < sizeof worked_sheet; cut++) {
+        if (cut > 0 && worked_sheet[cut - 1] != '\n') continue;
+        words store = filled(whole.len);
+        bytes a = copy_text(worked_sheet), b = copy_text(worked_sheet + cut), out = filled_bytes(16 * 32, '#');
+        uint32_t n = fresh_run(store.at, store.len, a.at, cut, out.at, out.len);
+        uint32_t m = kept_run(store.at, store.len, b.at, b.len, out.at + n, out.len - n);
+        same &= n + m == strlen(worked_answers) && memcmp(out.at, worked_answers, n + m) == 0;
+        same &= all_hashes(out, n + m) && same_words(store, whole);
+        free(store.at);
+        free(a.at);
+        free(b.at);
+        free(out.at);
+    }
+    return same;
+}
+
+static void try_worked_runs(void) {
+    words store = filled(STORE(ITEMS));
+    expect("the worked sheet", answers(fresh_run, store, worked_sheet, worked_answers));
+    expect("the worked sheet, cut at every line", same_at_every_cut(store));
+    expect("run (b)", answers(fresh_run, store, "I,0,0,5\nI,0,1,3\nI,0,2,8\nI,0,3,1\nT,0\n",
+                              "0,0,5,0,0\n0,1,3,0,0\n0,2,8,0,0\n0,3,1,0,0\n0,3,1,1,0\n"));
+    words other = copy_words(store.at, store.len);
+    expect("run (c), kept on (b)", answers(kept_run, store, "D,0,4\n", "0,0,4,0,0\n"));
+    expect("run (d), kept on (b)", answers(kept_run, other, "D,0,3\n", "0,0,3,0,1\n"));
+    expect("runs (e) to (g)",
+           answers(fresh_run, store,
+                   "I,0,0,0\nI,0,1,10\nI,0,2,20\nI,0,3,30\nI,0,4,40\nI,0,5,50\nI,0,6,60\nI,0,7,70\nI,0,8,80\nT,0\n"
+                   "D,8,5\nD,6,4\nD,7,3\nX,3\n",
+                   "0,0,0,0,0\n0,1,10,0,0\n0,2,20,0,0\n0,3,30,0,0\n0,4,40,0,0\n0,5,50,0,0\n0,6,60,0,0\n0,7,70,0,0\n"
+                   "0,8,80,0,0\n0,0,0,7,0\n0,8,5,0,1\n0,6,4,0,1\n0,7,3,0,2\n0,3,30,0,1\n"));
+    expect("run (h), kept on (g)", answers(kept_run, store, "T,0\n", "0,7,3,3,0\n"));
+    expect("every code of a line",
+           answers(fresh_run, store, "T,07\nJ,9,9\nX,16\nI,0,1,5\nI,0,1,5\nX,0\nD,1,6\nT,1\nJ,2,2\n",
+                   "6,0,0,0,0\n7,0,0,0,0\n8,0,0,0,0\n0,1,5,0,0\n9,0,0,0,0\n10,0,0,0,0\n11,0,0,0,0\n12,0,0,0,0\n"
+                   "13,0,0,0,0\n"));
+    free(store.at);
+    free(other.at);
+}
+
+static void try_refused_runs(void) {
+    words store = filled(STORE(ITEMS)), odd = filled(33);
+    expect("words of no store: 5", refused(kept_run, 5, store, 1, 32));
+    expect("words of no store: not sound", store_sound(store.at, store.len) == 0);
+    expect("33 words: not sound", store_sound(odd.at, odd.len) == 0);
+    expect("no words: not sound", store_sound(odd.at, 0) == 0);
+    expect("a fresh run", answers(fresh_run, store, worked_sheet, worked_answers));
+    expect("its store: sound", store_sound(store.at, store.len) == 1);
+
+    expect("33 words: 1, before 2", refused(fresh_run, 1, odd, 60001, 0) && refused(kept_run, 1, odd, 60001, 0));
+    expect("60,001 bytes: 2, before 3", refused(fresh_run, 2, store, 60001, 0) && refused(kept_run, 2, store, 60001, 0));
+    expect("2,001 lines: 3, before 4", refused(fresh_run, 3, store, 2001, 0) && refused(kept_run, 3, store, 2001, 0));
+    expect("31 bytes: 4", refused(fresh_run, 4, store, 1, 31) && refused(kept_run, 4, store, 1, 31));
+
+    expect("an empty fresh run", answers(fresh_run, store, "", "") && store_sound(store.at, store.len) == 1);
+    store.at[COUNT_OF_HEAP_0] = 1;
+    expect("item count 1, all free: not sound", store_sound(store.at, store.len) == 0);
+    expect("item count 1, all free: 5, after 4", refused(kept_run, 5, store, 0, 0) && refused(kept_run, 4, store, 1, 0));
+    free(store.at);
+    free(odd.at);
+}
+
+/* The feed table. */
+
+typedef struct {
+    uint32_t places, start, from[3], to[3], loss[3];
+    size_t from_len, to_len, loss_len, best_len, last_len, store_len;
+} feed_call;
+
+static const feed_call worked_map = { 3, 0, { 0, 0, 1 }, { 1, 2, 2 }, { 7, 20, 5 }, 3, 3, 3, 3, 3, STORE(3) };
+
+/* The call returns the code. Done, it leaves the worked table and an empty store; refused, zeros and nothing else. */
+static int feeds(feed_call call, uint32_t code) {
+    words from = copy_words(call.from, call.from_len), to = copy_words(call.to, call.to_len);
+    words loss = copy_words(call.loss, call.loss_len);
+    words best = filled(call.best_len), last = filled(call.last_len), store = filled(call.store_len);
+    words figures = filled(3);
+    int same = code == feed_table(call.places, call.start, from.at, from.len, to.at, to.len, loss.at, loss.len, best.at,
+                                  best.len, last.at, last.len, store.at, store.len, figures.at);
+    if (code == 0) {
+        words empty = filled(STORE(3));
+        same &= answers(fresh_run, empty, "", "") && same_words(store, empty);
+        same &= are(best.at, 0, 7, 12) && are(last.at, CABLE_QUEUE_NONE, 0, 2) && are(figures.at, 0, 0, 3);
+        free(empty.at);
+    } else {
+        same &= untouched(best, 0) && untouched(last, 0) && untouched(store, 0) && are(figures.at, 0, 0, 0);
+    }
+    words lent[] = { from, to, loss, best, last, store, figures };
+    for (size_t i = 0; i < sizeof lent / sizeof *lent; i++) free(lent[i].at);
+    return same;
+}
+
+/* The worked map with one of its numbers changed. */
+#define CHANGED(what, field, value, code)                                                                               \
+    do {                                                                                                                \
+        feed_call call = worked_map;                                                                                    \
+        call.field = value;                                                                                             \
+        expect(what, feeds(call, code));                                                                                \
+    } while (0)
+
+static void try_feeds(void) {
+    expect("the worked map", feeds(worked_map, 0));
+    CHANGED("no places: 14", places, 0, 14);
+    CHANGED("4,097 places: 14", places, 4097, 14);
+    CHANGED("start 3 of 3: 15", start, 3, 15);
+    CHANGED("from list of 2: 16", from_len, 2, 16);
+    CHANGED("to list of 2: 16", to_len, 2, 16);
+    CHANGED("loss list of 2: 16", loss_len, 2, 16);
+    CHANGED("2 words of losses, 3 places: 17", best_len, 2, 17);
+    CHANGED("2 words of spans, 3 places: 17", last_len, 2, 17);
+    CHANGED("a store for 2, 3 places: 17", store_len, STORE(2), 17);
+    CHANGED("from 3 of 3: 18", from[2], 3, 18);
+    CHANGED("to 3 of 3: 18", to[2], 3, 18);
+    CHANGED("loss 0: 19", loss[1], 0, 19);
+    CHANGED("loss 1,000,001: 19", loss[1], 1000001, 19);
+    CHANGED("from 1 then 0: 20", from[0], 1, 20);
+}
+
+/* The map reader. */
+
+static const char worked_text[] = "3,0\n0,1,7\n0,2,20\n1,2,5\n";
+
+/* Reading into lists so long returns the code. Done, it leaves the worked spans; refused, zeros and nothing else. */
+static int reads(const char *text, size_t from_len, size_t to_len, size_t loss_len, uint32_t code) {
+    bytes in = copy_text(text);
+    words from = filled(from_len), to = filled(to_len), loss = filled(loss_len), figures = filled(3);
+    int same = code == read_map(in.at, in.len, from.at, from.len, to.at, to.len, loss.at, loss.len, figures.at);
+    size_t spans = code == 0 ? 3 : 0;
+    if (code == 0) same &= are(from.at, 0, 0, 1) && are(to.at, 1, 2, 2) && are(loss.at, 7, 20, 5);
+    same &= untouched(from, spans) && untouched(to, spans) && untouched(loss, spans);
+    same &= code == 0 ? are(figures.at, 3, 0, 3) : are(figures.at, 0, 0, 0);
+    words lent[] = { from, to, loss, figures };
+    for (size_t i = 0; i < sizeof lent / sizeof *lent; i++) free(lent[i].at);
+    free(in.at);
+    return same;
+}
+
+static void try_readings(void) {
+    expect("the worked text", reads(worked_text, 3, 3, 3, 0));
+    expect("longer lists", reads(worked_text, 5, 5, 5, 0));
+    expect("no LF at the end", reads("3,0\n0,1,7\n0,2,20\n1,2,5", 3, 3, 3, 0));
+    expect("lists run out: 16", reads(worked_text, 2, 2, 2, 16) && reads(worked_text, 0, 0, 0, 16));
+    expect("lists differ: 16",
+           reads(worked_text, 4, 3, 3, 16) && reads(worked_text, 3, 4, 3, 16) && reads(worked_text, 3, 3, 4, 16));
+    expect("0,1 as a span: 21", reads("3,0\n0,1,7\n0,1\n", 3, 3, 3, 21));
+    expect("an empty text or line: 21", reads("", 3, 3, 3, 21) && reads("3,0\n\n", 3, 3, 3, 21));
+    expect("21 before 16", reads("3,0\n0,1\n", 0, 1, 2, 21));
+    bytes longest = filled_bytes(60002, '0');
+    longest.at[60001] = 0;
+    expect("60,001 bytes: 21", reads((const char *)longest.at, 3, 3, 3, 21));
+    free(longest.at);
+}
+
+int main(void) {
+    try_worked_runs();
+    try_refused_runs();
+    try_feeds();
+    try_readings();
+    return finish("host");
+}
