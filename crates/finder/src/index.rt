@@ -2,6 +2,9 @@
 ghost use Prim.Native.Nat.{_+_};
 ghost use Rattle.finder.specs.Range.{Sorted, FirstSpan, Indexable, Index};
 
+// A word for each of at most 4,096 places, and one that ends the spans of the last.
+pub type Index = [u32; 4097];
+
 // The number of the first span that leaves a place higher than u; `first` is that of u or a higher place.
 fn pass_spans(from: &[u32], u: u32, first: usize) -> usize
     requires { ⌜ Sorted (now from) ⌝ }
@@ -19,7 +22,7 @@ fn pass_spans(from: &[u32], u: u32, first: usize) -> usize
 }
 
 // For each place u, and for u = places, the number of the first span that leaves place u or a higher one.
-pub fn index_spans(places: u32, from: &[u32], index: &mut [u32; 4097])
+pub fn index_spans(places: u32, from: &[u32], index: &mut Index)
     requires { ⌜ Indexable places (now from) (now index) ⌝ }
     ensures { λ _. ⌜ Index places (now (from .entry)) (now (index .exit)) ⌝ }
 {

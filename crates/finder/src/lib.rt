@@ -7,6 +7,7 @@ ghost use Rattle.finder.specs.Feed.{feedResult};
 ghost use Rattle.finder.specs.Progress.{BeginReady, Begun, Stands, Found};
 ghost use Rattle.finder.specs.Promise.{Feeds};
 use heap::perform::perform;
+use index::Index;
 use index::index_spans;
 use refusal::feed_code;
 use relax::NONE;
@@ -93,7 +94,7 @@ fn search(
         → Found (mapOf places start (now (from .entry)) (now (to .entry)) (now (loss .entry)))
         (now (best .exit)) (now (last .exit)) (now (store .exit)) r) ⌝ }
 {
-    let mut index = [0u32; 4097];
+    let mut index: Index = [0; 4097];
     index_spans(places, from, &mut index);
     let mut go = begun;
     while go.visited < go.met {

@@ -1,6 +1,8 @@
-// A place is taken from the queue, and its spans are tried.
+// A place is taken from the queue, and its spans are tried. The map is no argument: the contracts hold for any whose
+// lists these are.
 ghost use Rattle.finder.specs.Map.{Map};
 ghost use Rattle.finder.specs.Progress.{Taken, Goes, Visits};
+use super::index::Index;
 use super::relax::Progress;
 use super::relax::offered;
 use heap::perform::perform;
@@ -8,7 +10,7 @@ use rules::Call;
 
 // The spans of place u, which was taken with loss d, are tried in list order.
 fn try_spans(
-    index: &[u32; 4097],
+    index: &Index,
     to: &[u32],
     loss: &[u32],
     best: &mut [u32],
@@ -38,7 +40,7 @@ fn try_spans(
 
 // The place that comes next is taken, and its spans are tried.
 pub fn visit_next(
-    index: &[u32; 4097],
+    index: &Index,
     to: &[u32],
     loss: &[u32],
     best: &mut [u32],
