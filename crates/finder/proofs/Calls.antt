@@ -124,7 +124,7 @@ module _ (s : Forests) (hs ks : List ℕ) (eh : s .heap ≡ hs) (ek : s .key ≡
 
 -- ---- all items free
 
-pub no-member : (l : List ℕ) → ((z : ℕ) → occurs z l ≡ 0) → l ≡ []
+no-member : (l : List ℕ) → ((z : ℕ) → occurs z l ≡ 0) → l ≡ []
 unfolding occurs sumBy
 no-member [] f = refl
 no-member (y ∷ ys) f = absurd (omega (arith, f y, delta-self y))

@@ -14,7 +14,6 @@ pub mod Table
 pub mod Calls
 pub mod Log
 pub mod Served
-pub mod Extracts
 pub mod Settling
 pub mod Examined
 pub mod Costs

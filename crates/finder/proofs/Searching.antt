@@ -19,6 +19,7 @@ use Rattle.heap.specs.declared.Reply.{Reply}
 use Rattle.heap.specs.Performed.{Ready, Performed}
 use Rattle.finder.specs.declared.relax.Progress.{Progress}
 use Rattle.finder.specs.Map.{Map, mapOf, Accepted}
+use Rattle.finder.specs.Range.{Index}
 use Rattle.finder.specs.Queue.{Queue, Next, halts, takes, next}
 use Rattle.finder.specs.Search.{Search, begin, turns, never, bestAt}
 use Rattle.finder.specs.Feed.{linksOf, cutsOf}
@@ -85,11 +86,11 @@ no-turn : (m : Map) (k : ℕ) → k ≡ 0 → (best last store : List ℕ) (r : 
 unfolding turns
 no-turn m k z best last store r H = rw z H
 
-pub begun-stands : (places start : ℕ) (from to loss : List ℕ) → Accepted (mapOf places start from to loss)
-    → (best last store : List ℕ) (r : Progress) → Begun places start best last store r
+pub begun-stands : {places start : ℕ} {from to loss : List ℕ} → Accepted (mapOf places start from to loss)
+    → {best last store : List ℕ} {r : Progress} → Begun places start best last store r
     → Stands (mapOf places start from to loss) best last store r
 unfolding begin
-begun-stands places start from to loss A best last store r G =
+begun-stands {places} {start} {from} {to} {loss} A {best} {last} {store} {r} G =
     record {
       accepted = A;
       few = omega (arith, G .visited-is);
@@ -131,7 +132,19 @@ module _ (q : Queue) where
 
 -- ---- a place is taken
 
-module _ (m : Map) (best last store : List ℕ) (go : Progress) (G : Goes m best last store go) where
+pub goes-on : {places start : ℕ} {from to loss index best last store : List ℕ} {go : Progress}
+    → Index places from index → Stands (mapOf places start from to loss) best last store go → go .visited < go .met
+    → Goes (mapOf places start from to loss) index to loss best last store go
+goes-on I S h =
+    record {
+      lists = record { indexed = I; to-is = refl; loss-is = refl; free = λ _. refl };
+      stands = S;
+      more = h;
+    }
+
+module _
+    {m : Map} {index to loss best last store : List ℕ} {go : Progress}
+    (G : Goes m index to loss best last store go) where
   abbrev s : Search
   s = turns never m (go .visited)
 
@@ -139,10 +152,10 @@ module _ (m : Map) (best last store : List ℕ) (go : Progress) (G : Goes m best
   extract-ready =
       logged-ready m (G .stands .accepted) s (between (go .visited)) store (go .tally) (G .stands .holds .logged)
 
-  pub taken : (reply : Reply) (store′ : List ℕ) → Performed store (ExtractMin 0) (go .tally) reply store′
-      → Taken m (reply .item) (reply .key) best last store′
+  pub taken : {reply : Reply} {store′ : List ℕ} → Performed store (ExtractMin 0) (go .tally) reply store′
+      → Taken m index to loss (reply .item) (reply .key) best last store′
       (record { visited = go .visited; met = go .met; examined = go .examined; tally = reply .tally })
-  taken reply store′ P =
+  taken {reply} {store′} P =
       let A = G .stands .accepted in
       let H = G .stands .holds in
       let S = turns-keep never m A (ServedOf m) (served never m A) (go .visited) in
@@ -157,6 +170,7 @@ module _ (m : Map) (best last store : List ℕ) (go : Progress) (G : Goes m best
       let w : getD (s .queue .waits) u 0 ≢ 0 = next-takes never (s .queue) u (N .1) .inside in
       let B = turns-between never m A (go .visited) in
       record {
+        lists = G .lists;
         accepted = A;
         next-is = rw item (N .1);
         loss-is = rw item key;

@@ -6,12 +6,12 @@ use mathlib.Core.List.{List}
 use native.Mathlib.Nat.{le-refl}
 use native.Mathlib.Omega.{arith}
 use native.Mathlib.Numerals.{add-one}
-use lib.ListN.{length}
+use lib.ListN.{length, getD}
 use lib.Dec.{ltb}
 use borrow.Author.Tests.{eq-eqb, ltb-true, ltb-false}
 use Rattle.rules.specs.Forests.{none}
 use Rattle.finder.specs.declared.relax.Progress.{Progress}
-use Rattle.finder.specs.Map.{Map, spans, fromOf, toOf, lossOf}
+use Rattle.finder.specs.Map.{Map, spans, fromOf, toOf}
 use Rattle.finder.specs.Search.{
   Search,
   offer,
@@ -69,8 +69,8 @@ pub record Walking (m : Map) (k u end e : ℕ) (best last store : List ℕ) (go 
   pub holds : Holds (m .places) (suc k) (at m k u e) best last store go
 
 module _
-    (m : Map) (free : (e : ℕ) → m .usable e ≡ true) (u d : ℕ) (best₀ last₀ store₀ : List ℕ) (taken : Progress)
-    (K : Taken m u d best₀ last₀ store₀ taken) where
+    {m : Map} {index to loss : List ℕ} {u d : ℕ} {best₀ last₀ store₀ : List ℕ} {taken : Progress}
+    (K : Taken m index to loss u d best₀ last₀ store₀ taken) where
   abbrev k : ℕ
   k = taken .visited
 
@@ -97,19 +97,33 @@ module _
       trying-keeps never m (K .accepted) (ServedOf m) (served never m (K .accepted)) k u (K .next-is)
       (turns-keep never m (K .accepted) (ServedOf m) (served never m (K .accepted)) k) e h
 
-  -- the place taken is one of few
-  pub place-small : u < 4096
-  place-small =
+  place-in : u < m .places
+  place-in =
       omega (
         arith,
-        K .accepted .few,
         B .invariant .waitsN,
         waits-below (before .queue .waits) u (next-takes never (before .queue) u (K .next-is) .inside),
       )
 
-  pub walking-begins : (first end : ℕ) → FirstSpan (m .from) u first → FirstSpan (m .from) (u + 1) end
-      → Walking m k u end first best₀ last₀ store₀ taken
-  walking-begins first end F E =
+  -- the place taken is one of few
+  pub place-small : u < 4096
+  place-small = omega (arith, K .accepted .few, place-in)
+
+  F : FirstSpan (m .from) u (getD index u 0)
+  F = K .lists .indexed .first u (omega (arith, place-in))
+
+  E : FirstSpan (m .from) (u + 1) (getD index (u + 1) 0)
+  E = K .lists .indexed .first (u + 1) (omega (arith, place-in))
+
+  -- a word of the index is the number of a span, or the number of the spans
+  pub first-small : getD index u 0 ≤ 16384
+  first-small = omega (arith, F .within, K .accepted .short)
+
+  pub end-small : getD index (u + 1) 0 ≤ 16384
+  end-small = omega (arith, E .within, K .accepted .short)
+
+  pub walking-begins : Walking m k u (getD index (u + 1) 0) (getD index u 0) best₀ last₀ store₀ taken
+  walking-begins =
       record {
         visited-is = refl;
         ordered = ordered;
@@ -120,6 +134,12 @@ module _
         holds = rw (walk-begins m u (bestAt before u) (extracted u before) first (F .below)) (K .holds);
       }
     where
+      first : ℕ
+      first = getD index u 0
+
+      end : ℕ
+      end = getD index (u + 1) 0
+
       ordered : first ≤ end
       ordered = go (ltb end first) refl
         where
@@ -129,7 +149,7 @@ module _
               let h = ltb-true end first q in
               absurd (omega (arith, F .below end h, E .above end (le-refl _) (omega (arith, h, F .within))))
 
-  module _ (end e : ℕ) (best last store : List ℕ) (go : Progress) (W : Walking m k u end e best last store go) where
+  module _ {end e : ℕ} {best last store : List ℕ} {go : Progress} (W : Walking m k u end e best last store go) where
     -- span e is one of u's
     module _ (j : e < end) where
       h : e < spans m
@@ -153,22 +173,20 @@ module _
       pub span-small : e < 16384
       span-small = omega (arith, h, K .accepted .short)
 
-      pub in-from : e < length (m .from)
-      in-from = h
+      pub in-to : e < length to
+      in-to = omega (arith, h, K .accepted .toN, ap length (K .lists .to-is))
 
-      pub in-to : e < length (m .to)
-      in-to = omega (arith, h, K .accepted .toN)
+      pub in-loss : e < length loss
+      in-loss = omega (arith, h, K .accepted .lossN, ap length (K .lists .loss-is))
 
-      pub in-loss : e < length (m .loss)
-      in-loss = omega (arith, h, K .accepted .lossN)
-
-      pub loss-fits : d + lossOf m e < none
+      pub loss-fits : d + getD loss e 0 < none
       loss-fits =
-          omega (
+          rw (K .lists .loss-is)
+          (omega (
             arith,
             K .loss-is,
-            sum-fits m (K .accepted) u (bestAt before u) e left (at m k u e) T (h, free e) f,
-          )
+            sum-fits m (K .accepted) u (bestAt before u) e left (at m k u e) T (h, K .lists .free e) f,
+          ))
 
       offerable : Offerable (m .places) (toOf m e) (examine (at m k u e))
       offerable =
@@ -177,20 +195,21 @@ module _
             inside = omega (arith, T .invariant .waitsN, K .accepted .toIn e h);
             apart =
                 λ z.
-                out-of-queue m (K .accepted) u (bestAt before u) e left (at m k u e) T (h, free e) f z;
+                out-of-queue m (K .accepted) u (bestAt before u) e left (at m k u e) T (h, K .lists .free e) f z;
           }
 
-      pub offer-ready : OfferReady (toOf m e) best last store (examineOne go)
+      pub offer-ready : OfferReady (getD to e 0) best last store (examineOne go)
       unfolding examineOne unsettled
       offer-ready =
-          record {
+          rw (K .lists .to-is)
+          (record {
             inBest = omega (arith, ap length (W .holds .best-is), T .invariant .bestN, K .accepted .toIn e h);
             inLast = omega (arith, ap length (W .holds .last-is), T .invariant .lastN, K .accepted .toIn e h);
             ready =
                 logged-ready m (K .accepted) (at m k u e) (trying k u e (K .next-is) (omega (arith, h))) store
                 (go .tally) (W .holds .logged);
             room = omega (arith, W .holds .met-is, T .left, left-is, K .accepted .few);
-          }
+          })
 
       examined-holds : Holds (m .places) (suc k) (examine (at m k u e)) best last store (examineOne go)
       unfolding examineOne
@@ -203,12 +222,13 @@ module _
             met-is = W .holds .met-is;
           }
 
-      pub walking-on : (best′ last′ store′ : List ℕ) (r : Progress)
-          → Moves (toOf m e) (offer (toOf m e) (d + lossOf m e) e) best last store
+      pub walking-on : {best′ last′ store′ : List ℕ} {r : Progress}
+          → Moves (getD to e 0) (offer (getD to e 0) (d + getD loss e 0) e) best last store
           (examineOne go) best′ last′ store′ r
           → Walking m k u end (e + 1) best′ last′ store′ r
       unfolding examineOne tried try
-      walking-on best′ last′ store′ r M =
+      walking-on M₀ =
+          let M = rw (K .lists .to-is, K .lists .loss-is, K .loss-is) at M₀ in
           record {
             visited-is = M .visited-is ∙ W .visited-is;
             ordered = omega arith;
@@ -216,8 +236,8 @@ module _
             own = λ i a b. W .own i (omega arith) b;
             beyond = W .beyond;
             holds =
-                rw (add-one, eq-eqb (fromOf m e) u f, free e)
-                (rw (K .loss-is) at (M .holds (m .places) (suc k) (examine (at m k u e)) offerable examined-holds));
+                rw (add-one, eq-eqb (fromOf m e) u f, K .lists .free e)
+                (M .holds (m .places) (suc k) (examine (at m k u e)) offerable examined-holds);
           }
 
     pub visited-small : go .visited < 4294967295

@@ -1,6 +1,7 @@
 -- Where the code stands in a search: what its contracts say of the result lists, the store and the progress.
 use Prim.Native.Nat.{ℕ, suc, _+_, _<_, _≤_}
 use mathlib.Core.Path.{_≡_}
+use mathlib.Core.Bool.{true}
 use mathlib.Core.List.{List, []}
 use lib.ListN.{length, getD}
 use Rattle.rules.specs.declared.Line.{Line}
@@ -14,6 +15,7 @@ use Rattle.rules.specs.declared.Tally.{Tally}
 use Rattle.heap.specs.Performed.{Ready}
 use Rattle.finder.specs.declared.relax.Progress.{Progress}
 use Rattle.finder.specs.Map.{Map, mapOf, Accepted}
+use Rattle.finder.specs.Range.{Index}
 use Rattle.finder.specs.Queue.{takes, next}
 use Rattle.finder.specs.Search.{Search, extracted, begin, turns, never, find, bestAt}
 use Rattle.finder.specs.Feed.{linksOf, cutsOf}
@@ -68,8 +70,16 @@ pub record Moves (p : ℕ) (g : Search → Search) (best last store : List ℕ) 
 
 -- ---- one place
 
+-- The lists that the code reads are those of the map, all of whose spans are usable.
+pub record ListsOf (m : Map) (index to loss : List ℕ) : Type 0 where
+  pub indexed : Index (m .places) (m .from) index
+  pub to-is : to ≡ m .to
+  pub loss-is : loss ≡ m .loss
+  pub free : (e : ℕ) → m .usable e ≡ true
+
 -- Place u was taken, with loss d, and none of its spans is tried yet.
-pub record Taken (m : Map) (u d : ℕ) (best last store : List ℕ) (go : Progress) : Type 0 where
+pub record Taken (m : Map) (index to loss : List ℕ) (u d : ℕ) (best last store : List ℕ) (go : Progress) : Type 0 where
+  pub lists : ListsOf m index to loss
   pub accepted : Accepted m
   pub next-is : next never ((turns never m (go .visited)) .queue) ≡ takes u
   pub loss-is : d ≡ bestAt (turns never m (go .visited)) u
@@ -82,7 +92,8 @@ pub record Stands (m : Map) (best last store : List ℕ) (go : Progress) : Type 
   pub holds : Holds (m .places) (go .visited) (turns never m (go .visited)) best last store go
 
 -- A place that was met is not visited yet: it waits.
-pub record Goes (m : Map) (best last store : List ℕ) (go : Progress) : Type 0 where
+pub record Goes (m : Map) (index to loss best last store : List ℕ) (go : Progress) : Type 0 where
+  pub lists : ListsOf m index to loss
   pub stands : Stands m best last store go
   pub more : go .visited < go .met
 

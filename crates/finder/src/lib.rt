@@ -1,11 +1,14 @@
 // The feed finder: the least losses from a start (shortest paths), found over the queues.
 ghost use mathlib.Core.Path.{_≡_};
+ghost use Prim.Native.Nat.{ℕ};
 ghost use lib.ListN.{length, replicate};
 ghost use Rattle.finder.specs.Map.{mapOf};
 ghost use Rattle.finder.specs.Feed.{feedResult};
 ghost use Rattle.finder.specs.Progress.{BeginReady, Begun, Stands, Found};
 ghost use Rattle.finder.specs.Promise.{Feeds};
 use heap::perform::perform;
+use index::Index;
+use index::index_spans;
 use refusal::feed_code;
 use relax::NONE;
 use relax::Progress;
@@ -14,6 +17,7 @@ use rules::Tally;
 use store::make_empty;
 use visit::visit_next;
 
+mod index;
 mod refusal;
 mod relax;
 mod visit;
@@ -74,7 +78,6 @@ fn begin_search(
 // Places are visited until each that was met is.
 fn search(
     places: u32,
-    start: u32,
     from: &[u32],
     to: &[u32],
     loss: &[u32],
@@ -83,14 +86,19 @@ fn search(
     store: &mut [u32],
     begun: Progress,
 ) -> Progress
-    requires { ⌜ Stands (mapOf places start (now from) (now to) (now loss))
-        (now best) (now last) (now store) begun ⌝ }
-    ensures { λ r. ⌜ Found (mapOf places start (now (from .entry)) (now (to .entry)) (now (loss .entry)))
-        (now (best .exit)) (now (last .exit)) (now (store .exit)) r ⌝ }
+    requires { ⌜ ((start : ℕ) × Stands (mapOf places start (now from) (now to) (now loss))
+        (now best) (now last) (now store) begun) ⌝ }
+    ensures { λ r. ⌜ ((start : ℕ)
+        → Stands (mapOf places start (now (from .entry)) (now (to .entry)) (now (loss .entry)))
+        (now (best .entry)) (now (last .entry)) (now (store .entry)) begun
+        → Found (mapOf places start (now (from .entry)) (now (to .entry)) (now (loss .entry)))
+        (now (best .exit)) (now (last .exit)) (now (store .exit)) r) ⌝ }
 {
+    let mut index: Index = [0; 4097];
+    index_spans(places, from, &mut index);
     let mut go = begun;
     while go.visited < go.met {
-        go = visit_next(places, start, from, to, loss, best, last, store, go);
+        go = visit_next(&index, to, loss, best, last, store, go);
     }
     go
 }
@@ -130,7 +138,7 @@ pub fn feed(
         };
     }
     let begun = begin_search(places, start, best, last, store);
-    let found = search(places, start, from, to, loss, best, last, store, begun);
+    let found = search(places, from, to, loss, best, last, store, begun);
     let tally = found.tally;
     Fed {
         code: 0,

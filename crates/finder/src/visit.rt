@@ -1,36 +1,16 @@
-// A place is taken from the queue, and its spans are tried.
-ghost use Prim.Native.Nat.{_+_};
-ghost use Rattle.finder.specs.Map.{mapOf};
-ghost use Rattle.finder.specs.Range.{Sorted, FirstSpan};
+// A place is taken from the queue, and its spans are tried. The map is no argument: the contracts hold for any whose
+// lists these are.
+ghost use Rattle.finder.specs.Map.{Map};
 ghost use Rattle.finder.specs.Progress.{Taken, Goes, Visits};
+use super::index::Index;
 use super::relax::Progress;
 use super::relax::offered;
 use heap::perform::perform;
 use rules::Call;
 
-// The number of the first span that leaves place u or a higher one, by halving.
-fn first_span(from: &[u32], u: u32) -> usize
-    requires { ⌜ Sorted (now from) ⌝ }
-    ensures { λ r. ⌜ FirstSpan (now (from .entry)) u r ⌝ }
-{
-    let mut low = 0;
-    let mut high = from.len();
-    while low < high {
-        let middle = low + (high - low) / 2;
-        if from[middle] < u {
-            low = middle + 1;
-        } else {
-            high = middle;
-        }
-    }
-    low
-}
-
 // The spans of place u, which was taken with loss d, are tried in list order.
 fn try_spans(
-    places: u32,
-    start: u32,
-    from: &[u32],
+    index: &Index,
     to: &[u32],
     loss: &[u32],
     best: &mut [u32],
@@ -40,13 +20,14 @@ fn try_spans(
     d: u32,
     taken: Progress,
 ) -> Progress
-    requires { ⌜ Taken (mapOf places start (now from) (now to) (now loss)) u d
-        (now best) (now last) (now store) taken ⌝ }
-    ensures { λ r. ⌜ Visits (mapOf places start (now (from .entry)) (now (to .entry)) (now (loss .entry))) taken
-        (now (best .exit)) (now (last .exit)) (now (store .exit)) r ⌝ }
+    requires { ⌜ ((m : Map) × Taken m (now index) (now to) (now loss) u d (now best) (now last) (now store) taken) ⌝ }
+    ensures { λ r. ⌜ ((m : Map) → Taken m (now (index .entry)) (now (to .entry)) (now (loss .entry)) u d
+        (now (best .entry)) (now (last .entry)) (now (store .entry)) taken
+        → Visits m taken (now (best .exit)) (now (last .exit)) (now (store .exit)) r) ⌝ }
 {
-    let end = first_span(from, u + 1);
-    let mut e = first_span(from, u);
+    let i = u as usize;
+    let end = index[i + 1] as usize;
+    let mut e = index[i] as usize;
     let mut go = taken;
     while e < end {
         let seen = go.examine();
@@ -59,9 +40,7 @@ fn try_spans(
 
 // The place that comes next is taken, and its spans are tried.
 pub fn visit_next(
-    places: u32,
-    start: u32,
-    from: &[u32],
+    index: &Index,
     to: &[u32],
     loss: &[u32],
     best: &mut [u32],
@@ -69,9 +48,10 @@ pub fn visit_next(
     store: &mut [u32],
     go: Progress,
 ) -> Progress
-    requires { ⌜ Goes (mapOf places start (now from) (now to) (now loss)) (now best) (now last) (now store) go ⌝ }
-    ensures { λ r. ⌜ Visits (mapOf places start (now (from .entry)) (now (to .entry)) (now (loss .entry))) go
-        (now (best .exit)) (now (last .exit)) (now (store .exit)) r ⌝ }
+    requires { ⌜ ((m : Map) × Goes m (now index) (now to) (now loss) (now best) (now last) (now store) go) ⌝ }
+    ensures { λ r. ⌜ ((m : Map) → Goes m (now (index .entry)) (now (to .entry)) (now (loss .entry))
+        (now (best .entry)) (now (last .entry)) (now (store .entry)) go
+        → Visits m go (now (best .exit)) (now (last .exit)) (now (store .exit)) r) ⌝ }
 {
     let before = go.tally;
     let reply = perform(store, Call::ExtractMin { heap: 0 }, before);
@@ -83,9 +63,7 @@ pub fn visit_next(
         tally,
     };
     try_spans(
-        places,
-        start,
-        from,
+        index,
         to,
         loss,
         best,

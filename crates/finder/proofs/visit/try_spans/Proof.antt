@@ -1,14 +1,16 @@
 -- `finder::visit::try_spans` meets its contract. The invariant: the spans of u below e are tried.
-use Prim.Native.Nat.{_-_}
+use Prim.Native.Nat.{_+_, _-_, _<_}
 use mathlib.Core.Path.{_≡_, refl}
 use native.Mathlib.Omega.{arith}
 use borrow.Author.Needs.{needs}
-use lib.ListN.{length}
-use Rattle.finder.specs.Map.{mapOf}
-use Rattle.finder.proofs.Walk.{sorted}
+use lib.ListN.{length, getD}
+use Rattle.finder.specs.Map.{Map}
+use Rattle.finder.specs.Progress.{Taken}
 use Rattle.finder.proofs.Visiting.{
   Walking,
   place-small,
+  first-small,
+  end-small,
   walking-begins,
   examined-small,
   span-small,
@@ -24,185 +26,124 @@ use Rattle.finder.proofs.visit.try_spans.Statement.{statement}
 use Rattle.finder.proofs.visit.try_spans.Tie as tie
 
 abbrev Inv-loop : tie.InvT-loop
-Inv-loop places start from to loss best₀ last₀ store₀ u d end e₀ go₀ best last store e go =
-    Walking (mapOf places start from to loss) (go₀ .visited) u end e best last store go
+Inv-loop index to loss best₀ last₀ store₀ u d i end e₀ go₀ best last store e go =
+    ((m : Map) → Taken m index to loss u d best₀ last₀ store₀ go₀
+    → Walking m (go₀ .visited) u end e best last store go)
     × (length best ≡ length best₀) × (length last ≡ length last₀) × (length store ≡ length store₀)
 
 abbrev μ-loop : tie.MeasureT-loop
-μ-loop places start from to loss best₀ last₀ store₀ u d end e₀ go₀ best last store e go = end - e
+μ-loop index to loss best₀ last₀ store₀ u d i end e₀ go₀ best last store e go = end - e
 
--- src/visit.rt:46:32
-add-first-span : tie.Need-add-first-span Inv-loop μ-loop
-add-first-span c =
-    omega (
-      arith,
-      place-small (mapOf _ _ _ _ _) (λ _. refl) _ _ _ _ _ _
-          (c .before .before .before .before .before .before .pre),
-    )
+abbrev start : tie.At-loop Inv-loop μ-loop → tie.Start Inv-loop μ-loop
+start c = c .before .before .before .before .before .before .before .before
 
--- src/visit.rt:46:9
-first-span-requires : tie.Need-first-span-requires Inv-loop μ-loop
-first-span-requires c κs = sorted (mapOf _ _ _ _ _) (c .before .before .before .before .before .before .pre .accepted)
+-- the walk at the loop's head, on the map that the caller has
+here : (c : tie.At-loop Inv-loop μ-loop) →
+    let a = start c .args in
+    Walking (start c .pre .0) (a .taken .visited) (a .u) (getD (a .index .now) (a .u + 1) 0) (c .loop .e)
+    (c .loop .best) (c .loop .last) (c .loop .store) (c .loop .go)
+here c = c .loop .inv .0 _ (start c .pre .1)
 
--- src/visit.rt:47:9
-first-span-requires-2 : tie.Need-first-span-requires-2 Inv-loop μ-loop
-first-span-requires-2 c κs =
-    let start = c .before .before .before .before .before .before .before in
-    sorted (mapOf _ _ _ _ _) (start .pre .accepted)
+add-end : tie.Need-add-end Inv-loop μ-loop
+add-end c = omega (arith, place-small (c .before .before .before .before .before .pre .1))
 
--- src/visit.rt:49:5
+mul-end : tie.Need-mul-end Inv-loop μ-loop
+mul-end c = omega (arith, place-small (c .before .before .before .before .before .pre .1))
+
+element-copy-out-end : tie.Need-element-copy-out-end Inv-loop μ-loop
+element-copy-out-end c = omega (arith, place-small (c .before .before .before .before .before .pre .1))
+
+cast-end : tie.Need-cast-end Inv-loop μ-loop
+cast-end c = omega (arith, end-small (c .before .before .before .before .before .before .pre .1))
+
+mul-e : tie.Need-mul-e Inv-loop μ-loop
+mul-e c = omega (arith, place-small (c .before .before .before .before .before .before .pre .1))
+
+element-copy-out-e : tie.Need-element-copy-out-e Inv-loop μ-loop
+element-copy-out-e c = omega (arith, place-small (c .before .before .before .before .before .before .pre .1))
+
+cast-e : tie.Need-cast-e Inv-loop μ-loop
+cast-e c = omega (arith, first-small (c .before .before .before .before .before .before .before .pre .1))
+
 loop-holds : tie.Need-loop-holds Inv-loop μ-loop
-loop-holds c = (
-  walking-begins (mapOf _ _ _ _ _) (λ _. refl) _ _ _ _ _ _
-      (c .before .before .before .before .before .before .before .before .pre) _ _ (c .first-span2 .ensures)
-      (c .before .first-span .ensures),
-  refl,
-  refl,
-  refl,
-)
+loop-holds c = (λ m K. walking-begins K, refl, refl, refl)
 
--- src/visit.rt:50:13
+-- the number of a span is small
+small : (c : tie.In-loop Inv-loop μ-loop) → c .before .loop .e < 16384
+small c = span-small (start (c .before) .pre .1) (here (c .before)) (c .loop-test .taken)
+
 examine-requires : tie.Need-examine-requires Inv-loop μ-loop
-examine-requires c κs =
-    examined-small (mapOf _ _ _ _ _) (λ _. refl) _ _ _ _ _ _
-    (c .before .before .before .before .before .before .before .before .before .before .pre) _ _ _ _ _ _
-    (c .before .loop .inv .0) (c .loop-test .taken)
+examine-requires c κs = examined-small (start (c .before) .pre .1) (here (c .before)) (c .loop-test .taken)
 
--- src/visit.rt:51:21
 mul-l : tie.Need-mul-l Inv-loop μ-loop
-mul-l c =
-    omega (
-      arith,
-      span-small (mapOf _ _ _ _ _) (λ _. refl) _ _ _ _ _ _
-          (c .before .before .before .before .before .before .before .before .before .before .before .pre) _ _ _ _ _ _
-          (c .before .before .loop .inv .0) (c .before .loop-test .taken),
-    )
+mul-l c = omega (arith, small (c .before))
 
--- src/visit.rt:51:21
 shared-slice-read-l : tie.Need-shared-slice-read-l Inv-loop μ-loop
 shared-slice-read-l c =
-    in-loss (mapOf _ _ _ _ _) (λ _. refl) _ _ _ _ _ _
-    (c .before .before .before .before .before .before .before .before .before .before .before .before .pre) _ _ _ _
-    _ _ (c .before .before .before .loop .inv .0) (c .before .before .loop-test .taken)
+    let t = c .before .before in
+    in-loss (start (t .before) .pre .1) (here (t .before)) (t .loop-test .taken)
 
--- src/visit.rt:51:17
 add-l : tie.Need-add-l Inv-loop μ-loop
 add-l c =
-    let at-loop-test = c .before .before in
-    let at-loop = at-loop-test .before in
-    let start = at-loop .before .before .before .before .before .before .before .before .before in
-    omega (
-      arith,
-      loss-fits (mapOf _ _ _ _ _) (λ _. refl) _ _ _ _ _ _ (start .pre) _ _ _ _ _ _
-          (at-loop .loop .inv .0) (at-loop-test .loop-test .taken),
-    )
+    let t = c .before .before in
+    omega (arith, loss-fits (start (t .before) .pre .1) (here (t .before)) (t .loop-test .taken))
 
--- src/visit.rt:52:41
 mul-offered : tie.Need-mul-offered Inv-loop μ-loop
-mul-offered c =
-    let at-loop-test = c .before .before .before .before .before in
-    let at-loop = at-loop-test .before in
-    let start = at-loop .before .before .before .before .before .before .before .before .before in
-    omega (
-      arith,
-      span-small (mapOf _ _ _ _ _) (λ _. refl) _ _ _ _ _ _ (start .pre) _ _ _ _ _ _
-          (at-loop .loop .inv .0) (at-loop-test .loop-test .taken),
-    )
+mul-offered c = omega (arith, small (c .before .before .before .before .before))
 
--- src/visit.rt:52:41
 shared-slice-read-offered : tie.Need-shared-slice-read-offered Inv-loop μ-loop
 shared-slice-read-offered c =
-    let at-loop-test = c .before .before .before .before .before .before in
-    let at-loop = at-loop-test .before in
-    let start = at-loop .before .before .before .before .before .before .before .before .before in
-    in-to (mapOf _ _ _ _ _) (λ _. refl) _ _ _ _ _ _ (start .pre) _ _ _ _ _ _ (at-loop .loop .inv .0)
-    (at-loop-test .loop-test .taken)
+    let t = c .before .before .before .before .before .before in
+    in-to (start (t .before) .pre .1) (here (t .before)) (t .loop-test .taken)
 
--- src/visit.rt:52:51
 cast-offered : tie.Need-cast-offered Inv-loop μ-loop
-cast-offered c =
-    let at-loop-test = c .before .before .before .before .before .before in
-    let at-loop = at-loop-test .before in
-    let start = at-loop .before .before .before .before .before .before .before .before .before in
-    omega (
-      arith,
-      span-small (mapOf _ _ _ _ _) (λ _. refl) _ _ _ _ _ _ (start .pre) _ _ _ _ _ _
-          (at-loop .loop .inv .0) (at-loop-test .loop-test .taken),
-    )
+cast-offered c = omega (arith, small (c .before .before .before .before .before .before))
 
--- src/visit.rt:52:9
 offered-requires : tie.Need-offered-requires Inv-loop μ-loop
 offered-requires c κs =
-    let at-examine = c .before .before .before .before .before in
-    let at-loop-test = at-examine .before in
-    let at-loop = at-loop-test .before in
-    let start = at-loop .before .before .before .before .before .before .before .before .before in
-    rw (at-examine .examine .ensures)
-    (offer-ready (mapOf _ _ _ _ _) (λ _. refl) _ _ _ _ _ _ (start .pre) _ _ _ _ _ _ (at-loop .loop .inv .0)
-    (at-loop-test .loop-test .taken))
+    let x = c .before .before .before .before .before in
+    let t = x .before in
+    rw (x .examine .ensures)
+    (offer-ready (start (t .before) .pre .1) (here (t .before)) (t .loop-test .taken))
 
--- src/visit.rt:53:9
 add-e : tie.Need-add-e Inv-loop μ-loop
 add-e c =
-    let back-11 = c .before .before .before .before .before .before .before .before .before .before .before in
-    let at-loop-test = back-11 .before .before in
-    let at-loop = at-loop-test .before in
-    let start = at-loop .before .before .before .before .before .before .before .before .before in
-    omega (
-      arith,
-      span-small (mapOf _ _ _ _ _) (λ _. refl) _ _ _ _ _ _ (start .pre) _ _ _ _ _ _
-          (at-loop .loop .inv .0) (at-loop-test .loop-test .taken),
-    )
+    let x = c .before .before .before .before .before .before .before .before .before .before .before in
+    omega (arith, small (x .before .before))
 
--- src/visit.rt:49:5
 loop-less : tie.Need-loop-less Inv-loop μ-loop
 loop-less c =
-    let back-11 = c .before .before .before .before .before .before .before .before .before .before .before in
-    let at-loop-test = back-11 .before .before in
-    omega (arith, at-loop-test .loop-test .taken)
+    let x = c .before .before .before .before .before .before .before .before .before .before .before in
+    omega (arith, x .before .before .loop-test .taken)
 
--- src/visit.rt:49:5
 loop-again : tie.Need-loop-again Inv-loop μ-loop
 loop-again c =
-    let at-offered = c .before .before .before .before .before .before in
-    let at-examine = at-offered .before .before .before .before .before .before in
-    let at-loop-test = at-examine .before in
-    let at-loop = at-loop-test .before in
-    let start = at-loop .before .before .before .before .before .before .before .before .before in (
-      walking-on (mapOf _ _ _ _ _) (λ _. refl) _ _ _ _ _ _ (start .pre) _ _ _ _ _ _ (at-loop .loop .inv .0)
-          (at-loop-test .loop-test .taken) _ _ _ _
-          (rw (at-examine .examine .ensures) at (at-offered .offered .ensures)),
+    let o = c .before .before .before .before .before .before in
+    let x = o .before .before .before .before .before .before in
+    let t = x .before in (
+      λ m K.
+          walking-on K (t .before .loop .inv .0 m K) (t .loop-test .taken)
+          (rw (x .examine .ensures) at (o .offered .ensures)),
       search needs,
       search needs,
       search needs,
     )
 
--- src/visit.rt:55:5
 visit-requires : tie.Need-visit-requires Inv-loop μ-loop
-visit-requires c κs =
-    visited-small (mapOf _ _ _ _ _) (λ _. refl) _ _ _ _ _ _
-    (c .before .before .before .before .before .before .before .before .before .before .pre) _ _ _ _ _ _
-    (c .before .loop .inv .0)
+visit-requires c κs = visited-small (start (c .before) .pre .1) (here (c .before))
 
--- src/visit.rt:28:1
 same-length : tie.Need-same-length Inv-loop μ-loop
 same-length c = c .before .before .loop .inv .1
 
--- src/visit.rt:28:1
 same-length-2 : tie.Need-same-length-2 Inv-loop μ-loop
 same-length-2 c = c .before .before .loop .inv .2
 
--- src/visit.rt:28:1
 same-length-3 : tie.Need-same-length-3 Inv-loop μ-loop
 same-length-3 c = c .before .before .loop .inv .3
 
--- src/visit.rt:28:1
 returns : tie.Need-returns Inv-loop μ-loop
-returns c =
-    rw (c .visit .ensures)
-    (walking-ends (mapOf _ _ _ _ _) (λ _. refl) _ _ _ _ _ _
-    (c .before .before .before .before .before .before .before .before .before .before .before .pre) _ _ _ _ _ _
-    (c .before .before .loop .inv .0) (c .before .loop-test .left))
+returns c = λ m K.
+    rw (c .visit .ensures) (walking-ends K (c .before .before .loop .inv .0 m K) (c .before .loop-test .left))
 
 pub try-spans-spec : {M : Type 1} → statement M
 try-spans-spec =
@@ -210,9 +151,13 @@ try-spans-spec =
     (tie.spec
     Inv-loop
     μ-loop
-    add-first-span
-    first-span-requires
-    first-span-requires-2
+    add-end
+    mul-end
+    element-copy-out-end
+    cast-end
+    mul-e
+    element-copy-out-e
+    cast-e
     loop-holds
     examine-requires
     mul-l

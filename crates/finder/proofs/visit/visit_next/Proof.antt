@@ -4,33 +4,30 @@ use borrow.Author.Needs.{needs}
 use Rattle.finder.proofs.visit.visit_next.Statement.{statement}
 use Rattle.finder.proofs.visit.visit_next.Tie as tie
 
--- src/visit.rt:75:9
 perform-requires : tie.Need-perform-requires
-perform-requires c κs =
-    extract-ready _ _ _ _ _ (c .before .before .before .before .before .before .before .before .pre)
+perform-requires c κs = extract-ready (c .before .before .before .before .before .before .before .pre .1)
 
--- src/visit.rt:83:5
 try-spans-requires : tie.Need-try-spans-requires
 try-spans-requires c κs =
-    let at-perform = c .before .before .before .before .before .before in
-    let start = at-perform .before .before .before .before .before .before .before .before .before in
-    taken _ _ _ _ _ (start .pre) _ _ (at-perform .perform .ensures)
+    let p = c .before .before .before .before .before .before in
+    let start = p .before .before .before .before .before .before .before .before in
+    (_, taken (start .pre .1) (p .perform .ensures))
 
--- src/visit.rt:59:1
 same-length : tie.Need-same-length
 same-length c = search needs
 
--- src/visit.rt:59:1
 same-length-2 : tie.Need-same-length-2
 same-length-2 c = search needs
 
--- src/visit.rt:59:1
 same-length-3 : tie.Need-same-length-3
 same-length-3 c = search needs
 
--- src/visit.rt:59:1
 returns : tie.Need-returns
-returns c = search needs
+returns c =
+    let t = c .before .before .before .before .before .before in
+    let p = t .before .before .before .before .before .before .before in λ m G.
+    let v = t .try-spans .ensures m (taken G (p .perform .ensures)) in
+    record { stands = v .stands; one-more = v .one-more }
 
 pub visit-next-spec : {M : Type 1} → statement M
 visit-next-spec =
