@@ -4,6 +4,9 @@ use Rattle.rules.specs.Forests.{count}
 use Rattle.rules.specs.Lists.{sumBy, sumTo}
 use Rattle.rules.specs.Order.{precedes, leastOf, leastIn, minimum}
 use Rattle.rules.specs.Words.{
+  storeSize,
+  itemsIn,
+  isStore,
   headOr,
   lastOr,
   nextIn,
@@ -41,7 +44,6 @@ use Rattle.audit.specs.Check.{
   ranksAt,
   membersAt,
   allOk,
-  sizeOf,
   soundWords,
 }
 use Rattle.audit.specs.Examples.{
@@ -57,7 +59,7 @@ use Rattle.audit.specs.Examples.{
 }
 
 pub examplesHold : ExamplesHold
-unfolding ExamplesHold examples byCheck but sample full small ownParent threeTrees soundWords sizeOf allOk membersAt
+unfolding ExamplesHold examples byCheck but sample full small ownParent threeTrees soundWords isStore itemsIn storeSize allOk membersAt
     ranksAt treesAt heapOk countAt minimumOk leastOk itemOk freeOk memberOk parentOk childOk rootOk listLength
     lengthFrom linkOk precedesAt markAt heapAt allTo encode wordsOf storeFields storeField word stateMark stateHeap
     stateOf unlessFree siblings prevIn nextIn lastOr headOr minimum leastIn leastOf precedes sumTo sumBy count

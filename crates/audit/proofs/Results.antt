@@ -1,15 +1,14 @@
 -- What the answers of the code's functions say: 0 where a test failed, else one more than a number.
-use Prim.Native.Nat.{ℕ, suc, _+_, _-_, _/_, _≤_, _<_}
+use Prim.Native.Nat.{ℕ, suc, _+_, _-_, _≤_, _<_}
 use mathlib.Core.Path.{_≡_, refl}
 use mathlib.Core.Logic.{_≢_}
 use mathlib.Core.List.{List}
-use mathlib.Core.Bool.{Bool, true, false, cond, not, _&&_, _||_, true≢false, false≢true}
+use mathlib.Core.Bool.{Bool, true, false, cond, not, _&&_}
 use native.Mathlib.Omega.{arith}
-use lib.ListN.{length}
-use lib.Dec.{eqb, ltb, leb}
-use borrow.Author.Tests.{eqb-true, eq-eqb, ne-eqb, ltb-true, ltb-false, le-leb, lt-leb}
+use lib.Dec.{eqb}
+use borrow.Author.Tests.{eqb-true}
 use Rattle.rules.specs.declared.Field.the-variants.{Count, State}
-use Rattle.rules.specs.Words.{storeSize, look}
+use Rattle.rules.specs.Words.{itemsIn, isStore, look}
 use Rattle.rules.proofs.Occurs.{and-false}
 use Rattle.audit.specs.Check.{
   allTo,
@@ -20,10 +19,8 @@ use Rattle.audit.specs.Check.{
   countAt,
   heapOk,
   allOk,
-  sizeOf,
   soundWords,
 }
-use Rattle.store.specs.Says.{Sized}
 use Rattle.audit.specs.Promises.{ifOk}
 use Rattle.audit.proofs.Passed.{byZero}
 use Rattle.audit.proofs.Booleans.{allTo-at}
@@ -86,44 +83,11 @@ pub states-low : (n : ℕ) (w : List ℕ) → allTo n (itemOk n w) ≡ true → 
 states-low n w e i k =
     byZero (look n w State i) (λ z. omega arith) (λ m. is-member n w i (allTo-at n (itemOk n w) e i k) m .state)
 
--- the lengths of no store
-pub sound-short : (w : List ℕ) → length w < 32 → false ≡ soundWords w
-unfolding soundWords sizeOf
-sound-short w h = rw (ne-eqb (length w) (storeSize ((length w - 32) / 8)) (λ e. omega arith))
-
--- the test of the length, as the code makes it
-abbrev pub wrongSize : List ℕ → Bool
-wrongSize w = ltb 4096 (sizeOf (length w)) || not (eqb (length w) (storeSize (sizeOf (length w))))
-
-pub sound-wrong : (w : List ℕ) → wrongSize w ≡ true → false ≡ soundWords w
+-- no store, and a store
+pub sound-wrong : (w : List ℕ) → isStore w ≡ false → false ≡ soundWords w
 unfolding soundWords
-sound-wrong w e = go (ltb 4096 n) (eqb (length w) (storeSize n)) refl refl e
-  where
-    n : ℕ
-    n = sizeOf (length w)
+sound-wrong w e = rw e
 
-    go : (a b : Bool) → ltb 4096 n ≡ a → eqb (length w) (storeSize n) ≡ b → (a || not b) ≡ true
-        → false ≡ (b && (leb n 4096 && allOk n w))
-    go a false p q e = refl
-    go true true p q e = rw (lt-leb n 4096 (ltb-true 4096 n p))
-    go false true p q e = absurd (false≢true e)
-
-pub sound-sized : (w : List ℕ) → wrongSize w ≡ false → Sized (sizeOf (length w)) w
-sound-sized w e = go (ltb 4096 n) (eqb (length w) (storeSize n)) refl refl e
-  where
-    n : ℕ
-    n = sizeOf (length w)
-
-    go : (a b : Bool) → ltb 4096 n ≡ a → eqb (length w) (storeSize n) ≡ b → (a || not b) ≡ false → Sized n w
-    go true b p q e = absurd (true≢false e)
-    go false false p q e = absurd (true≢false e)
-    go false true p q e =
-        record { size = eqb-true (length w) (storeSize n) q; small = ltb-false 4096 n p }
-
-pub sound-all : (w : List ℕ) → Sized (sizeOf (length w)) w → allOk (sizeOf (length w)) w ≡ soundWords w
+pub sound-all : (w : List ℕ) → isStore w ≡ true → (n : ℕ) → n ≡ itemsIn w → allOk n w ≡ soundWords w
 unfolding soundWords
-sound-all w S =
-    rw (
-      eq-eqb (length w) (storeSize (sizeOf (length w))) (S .size),
-      le-leb (sizeOf (length w)) 4096 (S .small),
-    )
+sound-all w e n q = rw (e, q)

@@ -1,9 +1,8 @@
 -- The check of a kept store: tests on its words alone (scope paper, Store, "Sound", and code 5). A word is read by its
 -- kind and number; where it lies is not said here.
-use Prim.Native.Nat.{ℕ, zero, suc, _+_, _-_, _/_}
+use Prim.Native.Nat.{ℕ, zero, suc, _+_, _-_}
 use mathlib.Core.List.{List}
 use mathlib.Core.Bool.{Bool, true, cond, not, _&&_, _||_}
-use lib.ListN.{length}
 use lib.Dec.{eqb, ltb, leb}
 use Rattle.rules.specs.declared.Field.the-variants.{
   FirstTree,
@@ -22,7 +21,7 @@ use Rattle.rules.specs.declared.Field.the-variants.{
 use Rattle.audit.specs.declared.Siblings.{Siblings}
 use Rattle.rules.specs.Lists.{indicator, sumTo}
 use Rattle.rules.specs.Forests.{none}
-use Rattle.rules.specs.Words.{storeSize, look, stateHeap, stateMark}
+use Rattle.rules.specs.Words.{itemsIn, isStore, look, stateHeap, stateMark}
 
 -- f holds of 0 to n - 1
 unfoldable pub allTo : ℕ → (ℕ → Bool) → Bool
@@ -140,12 +139,6 @@ unfoldable pub allOk : ℕ → List ℕ → Bool
 allOk n w =
     allTo n (itemOk n w) && (allTo 8 (heapOk n w) && eqb (treesAt n w + ranksAt n w) (membersAt n w))
 
--- N, which the length sets
-unfoldable pub sizeOf : ℕ → ℕ
-sizeOf words = (words - 32) / 8
-
 -- The check, for any words.
 unfoldable pub soundWords : List ℕ → Bool
-soundWords w =
-    let n = sizeOf (length w) in
-    eqb (length w) (storeSize n) && (leb n 4096 && allOk n w)
+soundWords w = isStore w && allOk (itemsIn w) w

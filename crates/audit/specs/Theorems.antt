@@ -5,11 +5,10 @@ use mathlib.Core.Path.{_≡_}
 use mathlib.Core.Logic.{_↔_, _≢_}
 use mathlib.Core.List.{List}
 use mathlib.Core.Bool.{true, false}
-use lib.ListN.{length}
 use Rattle.rules.specs.Forests.{Forests}
 use Rattle.rules.specs.WellFormed.{WellFormed}
-use Rattle.rules.specs.Words.{Sound, encode, decode}
-use Rattle.audit.specs.Check.{sizeOf, soundWords}
+use Rattle.rules.specs.Words.{Sound, encode, forestsOf}
+use Rattle.audit.specs.Check.{soundWords}
 
 -- The check says yes of the words of well-formed forests, and of no others.
 unfoldable pub SoundExact : Type 0
@@ -17,8 +16,8 @@ SoundExact = (w : List ℕ) → (soundWords w ≡ true) ↔ Sound w
 
 -- What passes is the words of the forests that are read from it.
 pub record Decoded (w : List ℕ) : Type 0 where
-  pub wellFormed : WellFormed (decode (sizeOf (length w)) w)
-  pub words : w ≡ encode (decode (sizeOf (length w)) w)
+  pub wellFormed : WellFormed (forestsOf w)
+  pub words : w ≡ encode (forestsOf w)
 
 unfoldable pub SoundDecoded : Type 0
 SoundDecoded = (w : List ℕ) → soundWords w ≡ true → Decoded w

@@ -10,6 +10,8 @@ ghost use Rattle.audit.specs.Promises.{Item, InHeap, StatesLow, AtMost, 
 ghost use Rattle.audit.specs.Promises.{ranksIfOk, heapIfOk, treesIfOk};
 use rules::Field;
 use store::get;
+use store::is_store;
+use store::items_of;
 
 const NONE: usize = 4294967295;
 
@@ -287,13 +289,9 @@ fn all_ok(store: &[u32], n: usize) -> bool
 pub fn sound(store: &[u32]) -> bool
     ensures { λ r. ⌜ r ≡ soundWords (now (store .entry)) ⌝ }
 {
-    let words = store.len();
-    if words < 32 {
+    if !is_store(store) {
         return false;
     }
-    let n = (words - 32) / 8;
-    if (n > 4096) | (words != 32 + 8 * n) {
-        return false;
-    }
+    let n = items_of(store);
     all_ok(store, n)
 }

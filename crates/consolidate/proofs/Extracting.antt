@@ -1,9 +1,8 @@
 -- T on the words of a sound store: what its steps need, and what the words are at the end.
 use Prim.Native.Nat.{ℕ, _≤_, _<_}
-use mathlib.Core.Path.{_≡_, refl, ap, subst, _∙_}
+use mathlib.Core.Path.{_≡_, refl, sym, ap, subst, _∙_}
 use mathlib.Core.List.{List}
 use native.Mathlib.Omega.{arith}
-use lib.ListN.{length}
 use lib.Seq.{getD-set-same, getD-set-other}
 use Rattle.rules.specs.declared.Call.the-variants.{ExtractMin}
 use Rattle.rules.specs.declared.Field.the-variants.{Key, Minimum}
@@ -16,14 +15,14 @@ use Rattle.rules.specs.Order.{minimum}
 use Rattle.rules.specs.Theorems.{InRange}
 use Rattle.rules.specs.WellFormed.{KeysFit, WellFormed}
 use Rattle.rules.specs.Words.{Sound, decode, encode, forestsOf, itemsIn, look}
-use Rattle.rules.proofs.DecodeEncode.{encode-length}
 use Rattle.rules.proofs.Excused.{to-formed, well-formed}
 use Rattle.rules.proofs.KeepsWellFormed.{keepsWellFormed}
 use Rattle.rules.proofs.Members.{heap-in, row-root}
 use Rattle.rules.proofs.Occurs.{byItem}
 use Rattle.rules.proofs.Refusals.{extract-ok}
 use Rattle.rules.proofs.RemoveRootKeeps.{remove-formed}
-use Rattle.rules.proofs.SoundWords.{items-in, sound-forests, sound-words}
+use Rattle.rules.proofs.Sizes.{items-in}
+use Rattle.rules.proofs.SoundWords.{items-encode, sound-forests, sound-words}
 use Rattle.store.proofs.Encoded.{encode-holds}
 use Rattle.consolidate.specs.Consolidating.{ConsolidateReady, Consolidates}
 use Rattle.consolidate.specs.Extract.{ExtractReady, Performs}
@@ -47,7 +46,7 @@ module _ {n h links : ℕ} {w : List ℕ} (P : ExtractReady n w h links) where
   words = rw items at (sound-words w (P .sound))
 
   size : tableSize (decode n w) ≡ n
-  size = omega (arith, P .size, ap length words, encode-length (decode n w))
+  size = sym (items-encode (decode n w)) ∙ sym (ap itemsIn words) ∙ items
 
   stands : 1 ≤ occurs (minimum (decode n w) h) (rowOf (decode n w) h)
   stands = extract-ok (decode n w) h (P .accepted)

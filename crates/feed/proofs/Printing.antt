@@ -11,6 +11,7 @@ use lib.Dec.{eqb}
 use borrow.Author.Tests.{eq-eqb, ne-eqb, lt-ltb, le-ltb}
 use Rattle.rules.specs.Forests.{none}
 use Rattle.rules.specs.Words.{storeSize}
+use Rattle.rules.proofs.Sizes.{size-le}
 use Rattle.text.specs.Fields.{comma}
 use Rattle.text.specs.Lines.{lineFeed}
 use Rattle.text.specs.Decimal.{field, row}
@@ -40,6 +41,7 @@ use Rattle.feed.specs.Shown.{
   fedBy,
   mapText,
   ShowsMap,
+  MapReady,
 }
 
 length-take-most : (n : ℕ) (l : List ℕ) → length (take n l) ≤ n
@@ -222,6 +224,11 @@ spans-read text from to loss ans from′ to′ loss′ R z =
       omega (arith, F .inLoss, n, ap length (R .loss-is)),
     )
 
+-- the words for so few places fit the store
+pub store-fits : {best last store out : List ℕ} {n k : ℕ} → MapReady best last store out → n ≤ 1024 → k ≡ storeSize n
+    → k ≤ length store
+store-fits {n = n} M h q = omega (arith, q, size-le n 1024 h, M .storeRoom)
+
 module _ (w : Reading) (ans : MapRead) (from to loss : List ℕ) (R : Reads w ans from to loss)
     (best last store out : List ℕ) (room : Roomy out) where
   pub map-refused : ans .code ≢ 0 → ans .code < 2 ^ 32 → (r : ℕ) (out′ : List ℕ)
@@ -247,19 +254,19 @@ module _ (w : Reading) (ans : MapRead) (from to loss : List ℕ) (R : Reads w an
           within = omega (arith, v .next, field-11 14 lineFeed (omega arith), wrote-length v, room);
         }
 
-    pub map-fed : ans .places ≤ 1024 → (r : ℕ) (out′ : List ℕ)
+    pub map-fed : ans .places ≤ 1024 → {k : ℕ} → k ≡ storeSize (ans .places) → (r : ℕ) (out′ : List ℕ)
         → ShowsFeed
         (mapOf (ans .places) (ans .start) (take (ans .spans) from) (take (ans .spans) to) (take (ans .spans) loss))
         (feedResult
         (mapOf (ans .places) (ans .start) (take (ans .spans) from) (take (ans .spans) to) (take (ans .spans) loss))
-        (take (ans .places) best) (take (ans .places) last) (take (storeSize (ans .places)) store))
+        (take (ans .places) best) (take (ans .places) last) (take k store))
         out r out′
         → ShowsMap w (fedBy w best last store) out r out′
     unfolding mapText mapRead fedBy
-    map-fed h r out′ S =
+    map-fed h q r out′ S =
         let few : w .answer .places ≤ 1024 = rw (R .answer-is) at h in
         let done : w .answer .code ≡ 0 = rw (R .answer-is) at z in
-        let T = rw (R .answer-is, R .from-is, R .to-is, R .loss-is) at S in
+        let T = rw (q, R .answer-is, R .from-is, R .to-is, R .loss-is) at S in
         record {
           examined = T .examined;
           most = omega (arith, T .most, length-take-most (w .answer .spans) (w .from));

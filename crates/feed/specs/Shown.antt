@@ -92,5 +92,5 @@ pub record ShowsMap (w : Reading) (fed : Feed) (out : List ℕ) (r : ℕ) (out�
 pub record MapReady (best last store out : List ℕ) : Type 0 where
   pub bestRoom : 1024 ≤ length best
   pub lastRoom : 1024 ≤ length last
-  pub storeRoom : 8224 ≤ length store
+  pub storeRoom : storeSize 1024 ≤ length store
   pub room : Roomy out

@@ -121,7 +121,7 @@ fn answer_map(
     }
     let n = places as usize;
     let e = map.spans as usize;
-    let words = 32 + 8 * n;
+    let words = store::size_for(n);
     answer_feed(
         places,
         map.start,

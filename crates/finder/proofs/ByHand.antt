@@ -5,6 +5,7 @@ use Rattle.rules.specs.Order.{precedes, leastOf, leastIn, minimum}
 use Rattle.rules.specs.Cut.{cut, standing, cascadingCut, cutWithin, cutOut, cutIf}
 use Rattle.rules.specs.Consolidate.{link, isFree, climb, linkTrees, occupied, consolidateWithin, consolidate}
 use Rattle.rules.specs.Calls.{insert, release, setFree, removeRoot, extract, hasParent, decreaseKey, perform}
+use Rattle.rules.specs.Words.{storeSize}
 use Rattle.rules.specs.Answers.{isEmpty, refusal, refused, unlessRefused, answer, answers}
 use Rattle.finder.specs.Queue.{waiting, nextOf, next}
 use Rattle.finder.specs.Search.{judge, update, offer, try, tried, visit, turn, begin, turns, search}
@@ -21,7 +22,7 @@ use Rattle.finder.specs.ByHand.{
 }
 
 pub workedMaps : WorkedMaps
-unfolding onThree doneThree refusedThree paperMap tieMap refusedMaps feedResult feedAs linksOf cutsOf feedCode
+unfolding onThree doneThree refusedThree paperMap tieMap refusedMaps feedResult feedAs linksOf cutsOf feedCode storeSize
     codeBelow spanCode previous fault search turns begin turn visit tried try offer update judge next nextOf
     waiting answers answer unlessRefused refused refusal isEmpty perform decreaseKey hasParent extract
     removeRoot setFree release insert consolidate consolidateWithin occupied linkTrees climb isFree link cutIf

@@ -3,6 +3,7 @@ ghost use mathlib.Core.Path.{_≡_};
 ghost use lib.ListN.{getD};
 ghost use Rattle.finder.specs.Map.{mapOf};
 ghost use Rattle.finder.specs.Codes.{fault, spansCode, feedCode};
+use store::size_for;
 
 // The word of a list at place i, 0 beyond its end.
 fn word_or_zero(list: &[u32], i: usize) -> u32
@@ -93,7 +94,7 @@ pub fn feed_code(
     if last != n {
         return 17;
     }
-    if store != 32 + 8 * n {
+    if store != size_for(n) {
         return 17;
     }
     spans_code(places, from, to, loss)

@@ -1,10 +1,9 @@
 -- A call's contract from its parts.
-use Prim.Native.Nat.{ℕ, zero, suc, _+_, _≤_, _<_}
+use Prim.Native.Nat.{ℕ, zero, suc, _+_, _<_}
 use mathlib.Core.Path.{_≡_, refl, sym, ap, _∙_}
 use mathlib.Core.Logic.{_≢_}
 use mathlib.Core.List.{List}
 use native.Mathlib.Omega.{arith}
-use lib.ListN.{length}
 use lib.Dec.{eqb}
 use Rattle.rules.specs.declared.Call.{Call}
 use Rattle.rules.specs.declared.Call.the-variants.{DecreaseKey, Delete, ExtractMin, FindMin, Insert, Meld}
@@ -14,7 +13,7 @@ use Rattle.rules.specs.Answers.{answer, refusal, refused, unlessRefused}
 use Rattle.rules.specs.Calls.{Outcome, decreaseKey, delete, extract, insert, meld, perform}
 use Rattle.rules.specs.Forests.{heapNumber, keyOf}
 use Rattle.rules.specs.Order.{minimum}
-use Rattle.rules.specs.Words.{Sound, encode, forestsOf, itemsIn, look, storeSize}
+use Rattle.rules.specs.Words.{encode, forestsOf, look}
 use Rattle.rules.proofs.Members.{heap-in, row-root}
 use Rattle.rules.proofs.Refusals.{delete-ok, find-ok, meld-ok}
 use Rattle.rules.proofs.ReplyBounds.{delete-says}
@@ -24,17 +23,7 @@ use Rattle.heap.specs.declared.Reply.{Reply}
 use Rattle.heap.specs.Allowed.{Allowed, MayMove, Moves, Store}
 use Rattle.heap.specs.Performed.{Answers, Performed, Ready}
 use Rattle.heap.proofs.RefusalWords.{count-at, key-at}
-use Rattle.heap.proofs.SoundStore.{formed, items-size, sound-says}
-
--- n of a sound store, as its length gives it
-own-store : {w : List ℕ} → Sound w → Store w (itemsIn w)
-own-store S = record { sound = S; items = refl }
-
-pub store-long : {w : List ℕ} → Sound w → 32 ≤ length w
-store-long {w} S = omega (arith, sound-says (own-store S) .sized .size)
-
-pub items-store : {w : List ℕ} {n : ℕ} → Sound w → ((m : ℕ) → length w ≡ storeSize m → n ≡ m) → Store w n
-items-store {w} S f = record { sound = S; items = f (itemsIn w) (sound-says (own-store S) .sized .size) }
+use Rattle.heap.proofs.SoundStore.{formed, items-size}
 
 pub may-move : {w : List ℕ} {n code : ℕ} {c : Call} {t : Tally} → Ready w t → Store w n
     → code ≡ refusal (forestsOf w) c → code ≡ 0 → MayMove w n c t

@@ -33,6 +33,7 @@ use Rattle.rules.proofs.Follow.{follow-list, once-short}
 use Rattle.rules.proofs.Members.{free-children, heap-in}
 use Rattle.rules.proofs.SiblingLists.{list-inside, once-children, once-row, siblings-children, siblings-row}
 use Rattle.rules.proofs.Siblings.{Once}
+use Rattle.rules.proofs.Sizes.{size-injective}
 use Rattle.rules.proofs.Tabulate.{tabulate-is}
 use Rattle.rules.proofs.Words.{length-wordsOf, look-wordsOf}
 
@@ -143,5 +144,6 @@ decodeEncode s W = decode-encode s (W .disjoint)
 
 pub encodeInjective : EncodeInjective
 encodeInjective s t S T e =
-    let n : tableSize s ≡ tableSize t = omega (arith, encode-length s, encode-length t, ap length e) in
+    let n : tableSize s ≡ tableSize t =
+    size-injective (tableSize s) (tableSize t) (sym (encode-length s) ∙ ap length e ∙ encode-length t) in
     sym (decodeEncode s S) ∙ ap (decode (tableSize s)) e ∙ ap (λ k. decode k (encode t)) n ∙ decodeEncode t T

@@ -31,6 +31,7 @@ pub mod Counts
 pub mod KeepsWellFormed
 pub mod RankOfAny
 pub mod EmptyForests
+pub mod Sizes
 pub mod Places
 pub mod Words
 pub mod Siblings

@@ -1,4 +1,4 @@
--- The laws of `at`: each place is in the store, no two are one, and there are no others. With Words.antt, the only
+-- The laws of `at`: each place is in the store, no two are one, and there are no others. With Sizes.antt, the only
 -- proofs that know the layout.
 use mathlib.Core.Path.{_≡_, refl, sym, ap, _∙_}
 use Prim.Native.Nat.{ℕ, _+_, _-_, _*_, _/_, _%_, _<_, _≤_}
@@ -87,6 +87,7 @@ room-small n f h = go (lies n f)
     go (ofItems c a b r e) = omega arith
 
 pub at-bound : (n : ℕ) (f : Field) (i : ℕ) → i < room n f → at n f i < storeSize n
+unfolding storeSize
 at-bound n f i h = go (lies n f)
   where
     go : Lies n f → at n f i < storeSize n
@@ -138,6 +139,7 @@ of-heaps n p h = go (lies n f)
     go (ofItems c a b r e) = absurd (omega (arith, number-onto (p % 4) (omega arith)))
 
 of-items : (n p : ℕ) → 32 ≤ p → p < storeSize n → Place n p
+unfolding storeSize
 of-items n p l h = go (lies n f)
   where
     c : ℕ

@@ -2,17 +2,11 @@
 use Prim.Native.Nat.{ℕ}
 use mathlib.Core.Path.{_≡_, refl, sym, ap, _∙_}
 use mathlib.Core.List.{List}
-use native.Mathlib.Omega.{arith}
-use lib.ListN.{length}
 use Rattle.rules.specs.Forests.{Forests, tableSize}
 use Rattle.rules.specs.WellFormed.{WellFormed}
-use Rattle.rules.specs.Words.{Sound, decode, encode, forestsOf, itemsIn, storeSize}
+use Rattle.rules.specs.Words.{Sound, decode, encode, forestsOf, itemsIn}
 use Rattle.rules.proofs.DecodeEncode.{decodeEncode, encode-length}
-
--- N of a store of the right length
-pub items-in : (store : List ℕ) (n : ℕ) → length store ≡ storeSize n → itemsIn store ≡ n
-unfolding itemsIn
-items-in store n e = omega arith
+use Rattle.rules.proofs.Sizes.{items-in}
 
 pub items-encode : (s : Forests) → itemsIn (encode s) ≡ tableSize s
 items-encode s = items-in (encode s) (tableSize s) (encode-length s)

@@ -3,9 +3,9 @@
 use Prim.Native.Nat.{ℕ, zero, suc, _+_, _-_, _*_, _/_, _%_}
 use mathlib.Core.Path.{_≡_}
 use mathlib.Core.List.{List, [], _∷_}
-use mathlib.Core.Bool.{cond}
+use mathlib.Core.Bool.{Bool, cond, _&&_}
 use lib.ListN.{length, getD, set, replicate}
-use lib.Dec.{eqb}
+use lib.Dec.{eqb, leb}
 use Rattle.rules.specs.declared.Field.{Field}
 use Rattle.rules.specs.declared.Field.the-variants.{
   FirstTree,
@@ -39,11 +39,19 @@ use Rattle.rules.specs.Forests.{
 use Rattle.rules.specs.Order.{minimum}
 use Rattle.rules.specs.WellFormed.{WellFormed}
 
--- ---- where a word lies: nothing but these three definitions knows
+-- ---- how many words there are and where each lies: nothing but these definitions knows
 
 -- the words of a store for n items
-abbrev pub storeSize : ℕ → ℕ
+unfoldable pub storeSize : ℕ → ℕ
 storeSize n = 32 + 8 * n
+
+-- N, which the length of a store sets
+unfoldable pub itemsIn : List ℕ → ℕ
+itemsIn w = (length w - 32) / 8
+
+-- a store for N items, N from 0 to 4,096
+unfoldable pub isStore : List ℕ → Bool
+isStore w = eqb (length w) (storeSize (itemsIn w)) && leb (itemsIn w) 4096
 
 -- how many words of a kind there are: one for each heap, or one for each item
 abbrev pub room : ℕ → Field → ℕ
@@ -176,10 +184,7 @@ decode n w =
       heap = tabulate n (λ i. stateHeap (look n w State i));
     }
 
--- N, which the length of a store sets, and the forests that its words stand for
-unfoldable pub itemsIn : List ℕ → ℕ
-itemsIn w = (length w - 32) / 8
-
+-- the forests that the words of a store stand for
 unfoldable pub forestsOf : List ℕ → Forests
 forestsOf w = decode (itemsIn w) w
 

@@ -1,14 +1,6 @@
 -- Small facts of truth values.
-use mathlib.Core.Path.{_≡_, refl, sym}
-use mathlib.Core.Bool.{Bool, true, false, not, _&&_, true≢false}
-
-pub and-false : (b : Bool) → (b && false) ≡ false
-and-false true = refl
-and-false false = refl
-
-pub and-true : (b : Bool) → (b && true) ≡ b
-and-true true = refl
-and-true false = refl
+use mathlib.Core.Path.{_≡_, sym}
+use mathlib.Core.Bool.{Bool, true, false, not, true≢false}
 
 -- a test that is denied
 pub denied : (b : Bool) {c : Bool} → b ≡ c → not b ≡ true → c ≡ false

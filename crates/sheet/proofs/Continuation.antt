@@ -35,7 +35,7 @@ pub continues : Continues
 unfolding doneRun
 continues store a b outA outB outAB c la lb lab =
     let n : ℕ = itemsIn store in
-    let W : WellFormed (empty n) = emptyWellFormed n (within store a outA la .small) in
+    let W : WellFormed (empty n) = emptyWellFormed n (within store a outA la .sized .small) in
     let e = fresh-done store a outA la in
     rw (e, fresh-done store (a ++ b) outAB lab)
     (continued store (empty n) W a b outA outB outAB c la (rw e at lb) lab)

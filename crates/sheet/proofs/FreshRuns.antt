@@ -10,13 +10,14 @@ use lib.Dec.{ltb}
 use Rattle.rules.specs.Answers.{answers}
 use Rattle.rules.specs.Forests.{empty}
 use Rattle.rules.specs.WellFormed.{WellFormed}
-use Rattle.rules.specs.Words.{itemsIn}
+use Rattle.rules.specs.Words.{itemsIn, isStore}
 use Rattle.rules.proofs.EmptyForests.{emptyWellFormed}
+use Rattle.rules.proofs.Sizes.{same-items, same-store}
 use Rattle.text.specs.Lines.{lines}
 use Rattle.text.proofs.Cases.{by-cond}
 use Rattle.sheet.specs.Parse.{linesOf}
 use Rattle.sheet.specs.Print.{printed}
-use Rattle.sheet.specs.Runs.{Run, doneRun, freshRun, isStore, limitCode, refusedRun, unlessLimit}
+use Rattle.sheet.specs.Runs.{Run, doneRun, freshRun, limitCode, refusedRun, unlessLimit}
 use Rattle.sheet.proofs.InRange.{lines-range}
 use Rattle.sheet.proofs.Limits.{within}
 use Rattle.sheet.proofs.Printed.{printed-32}
@@ -24,8 +25,8 @@ use Rattle.sheet.proofs.Runs.{run-room}
 
 -- the limits look at a store's length alone
 pub same-limits : (a b sheet out : List ℕ) → length a ≡ length b → limitCode a sheet out ≡ limitCode b sheet out
-unfolding limitCode isStore itemsIn
-same-limits a b sheet out e = rw e
+unfolding limitCode
+same-limits a b sheet out e = rw (same-store a b e)
 
 pub limit-le : (store sheet out : List ℕ) → limitCode store sheet out ≤ 4
 unfolding limitCode
@@ -52,9 +53,9 @@ shown-unless (suc c) a b out run = record { code = refl; bytes = refl; out = ref
 
 pub fresh-shown : (a b sheet out : List ℕ) → length a ≡ length b
     → SameShown (freshRun a sheet out) (freshRun b sheet out)
-unfolding freshRun itemsIn
+unfolding freshRun
 fresh-shown a b sheet out e =
-    rw (same-limits a b sheet out e, e)
+    rw (same-limits a b sheet out e, same-items a b e)
     (shown-unless (limitCode b sheet out) a b out (doneRun (empty (itemsIn b)) (linesOf sheet) out))
 
 code-unless : (c : ℕ) (store out : List ℕ) (run : Run) → run .code ≡ 0 → (unlessLimit c store out run) .code ≡ c
@@ -90,7 +91,7 @@ unfolding freshRun doneRun
 fresh-room store sheet out =
     room-unless (limitCode store sheet out) store out (doneRun (empty (itemsIn store)) (linesOf sheet) out) (λ e.
     let W : WellFormed (empty (itemsIn store)) =
-    emptyWellFormed (itemsIn store) (within store sheet out e .small) in
+    emptyWellFormed (itemsIn store) (within store sheet out e .sized .small) in
     omega (
       arith,
       printed-32 (empty (itemsIn store)) W (linesOf sheet) (lines-range sheet),

@@ -28,7 +28,7 @@ use Rattle.sheet.proofs.Runs.{fresh-done, kept-done, run-room, wrote}
 pub freshIsKept : FreshIsKept
 freshIsKept store sheet out e =
     let n : ℕ = itemsIn store in
-    let k = within store sheet out e in
+    let k = within store sheet out e .sized in
     let W : WellFormed (empty n) = emptyWellFormed n (k .small) in
     let S : Sound (encode (empty n)) = sound-encode (empty n) W in
     let l : length (encode (empty n)) ≡ length store =

@@ -71,7 +71,7 @@ module _ {store sheet out : List ℕ} {l : Checked} (L : Limited store sheet out
     limits = within store sheet out none
 
     pub sized : Sized (l .items) store
-    sized = rw (L .items z) (record { size = limits .size; small = limits .small })
+    sized = rw (L .items z) (limits .sized)
 
     runnable : (w : List ℕ) → Sound w → Runnable w sheet out
     runnable w S = record { sound = S; room = limits .room }

@@ -3,14 +3,14 @@
 use Prim.Native.Nat.{ℕ, zero, suc, _+_, _*_}
 use mathlib.Core.Path.{_≡_}
 use mathlib.Core.List.{List}
-use mathlib.Core.Bool.{Bool, cond, _&&_}
+use mathlib.Core.Bool.{cond}
 use lib.ListN.{length}
 use lib.Seq.{sets}
-use lib.Dec.{ltb, leb, eqb}
+use lib.Dec.{ltb}
 use Rattle.rules.specs.declared.Line.{Line}
 use Rattle.rules.specs.Forests.{Forests, empty}
 use Rattle.rules.specs.Answers.{answers, after}
-use Rattle.rules.specs.Words.{storeSize, encode, itemsIn, forestsOf}
+use Rattle.rules.specs.Words.{itemsIn, isStore, encode, forestsOf}
 use Rattle.audit.specs.Check.{soundWords}
 use Rattle.text.specs.Lines.{lines}
 use Rattle.sheet.specs.declared.Ran.{Ran}
@@ -24,10 +24,6 @@ pub record Run : Type 0 where
   pub bytes : ℕ
   pub store : List ℕ
   pub out : List ℕ
-
--- a store for N items, N from 0 to 4,096
-unfoldable pub isStore : List ℕ → Bool
-isStore store = eqb (length store) (storeSize (itemsIn store)) && leb (itemsIn store) 4096
 
 -- The first of the conditions 1 to 4 that is met; 0: the run is within the limits.
 unfoldable pub limitCode : List ℕ → List ℕ → List ℕ → ℕ

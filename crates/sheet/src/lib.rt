@@ -2,7 +2,7 @@
 ghost use mathlib.Core.Path.{_≡_};
 ghost use Prim.Native.Nat.{_≤_};
 ghost use Rattle.sheet.specs.Promises.{Answerable, Answered, Runnable, RanLines, Limited};
-ghost use Rattle.sheet.specs.Runs.{isStore, freshRun, keptRun, Leaves, resultNumber};
+ghost use Rattle.sheet.specs.Runs.{freshRun, keptRun, Leaves, resultNumber};
 use answers::put_answer;
 use audit::sound;
 use heap::perform::perform;
@@ -11,6 +11,8 @@ use reader::read_line;
 use rules::Answer;
 use rules::Line;
 use rules::Tally;
+use store::is_store;
+use store::items_of;
 use store::make_empty;
 
 pub mod answers;
@@ -84,20 +86,6 @@ struct Checked {
     lines: u32,
 }
 
-fn is_store(store: &[u32]) -> bool
-    ensures { λ r. ⌜ r ≡ isStore (now (store .entry)) ⌝ }
-{
-    let words = store.len();
-    if words < 32 {
-        return false;
-    }
-    let items = (words - 32) / 8;
-    if items > 4096 {
-        return false;
-    }
-    words == 32 + 8 * items
-}
-
 fn beyond(code: u32) -> Checked
     ensures { λ r. ⌜ r .code ≡ code ⌝ }
 {
@@ -124,9 +112,10 @@ fn check_limits(store: &[u32], sheet: &[u8], out: &[u8]) -> Checked
     if out.len() < 32 * lines {
         return beyond(4);
     }
+    let items = items_of(store);
     Checked {
         code: 0,
-        items: (store.len() - 32) / 8,
+        items,
         lines: lines as u32,
     }
 }

@@ -1,3 +1,4 @@
+pub mod Sizes
 pub mod Says
 pub mod Owners
 pub mod Moves

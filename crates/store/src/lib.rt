@@ -1,11 +1,11 @@
-// The words of a store for n items: the only code that knows where a word lies.
-// Nothing above this crate indexes a store.
+// The words of a store for n items: the only code that knows how many there are and where each lies.
+// Nothing above this crate computes a size or indexes a store.
 ghost use mathlib.Core.Path.{_≡_};
-ghost use Prim.Native.Nat.{ℕ, _+_, _*_, _<_, _≤_};
+ghost use Prim.Native.Nat.{_<_, _≤_};
 ghost use lib.ListN.{length, replicate};
 ghost use Rattle.rules.specs.Forests.{empty};
 ghost use Rattle.rules.specs.SetWord.{setWord};
-ghost use Rattle.rules.specs.Words.{storeSize, room, at, look, encode};
+ghost use Rattle.rules.specs.Words.{storeSize, itemsIn, isStore, at, look, encode};
 ghost use Rattle.store.specs.Says.{Sized, Within, Changes};
 ghost use Rattle.store.specs.Empty.{emptyHeap, freeItem};
 ghost use Rattle.store.specs.Siblings.{
@@ -43,6 +43,38 @@ pub enum Owner {
     Children(u32),
 }
 
+// ---- how many words there are and where each lies
+
+// The words of a store for n items.
+pub fn size_for(n: usize) -> usize
+    requires { ⌜ n ≤ 4096 ⌝ }
+    ensures { λ r. ⌜ r ≡ storeSize n ⌝ }
+{
+    32 + 8 * n
+}
+
+// The number of items, which the length sets.
+pub fn items_of(s: &[u32]) -> usize
+    ensures { λ r. ⌜ r ≡ itemsIn (now (s .entry)) ⌝ }
+{
+    let words = s.len();
+    if words < 32 {
+        return 0;
+    }
+    (words - 32) / 8
+}
+
+// Whether the length is that of a store, for at most 4,096 items.
+pub fn is_store(s: &[u32]) -> bool
+    ensures { λ r. ⌜ r ≡ isStore (now (s .entry)) ⌝ }
+{
+    let n = items_of(s);
+    if n > 4096 {
+        return false;
+    }
+    s.len() == size_for(n)
+}
+
 // Where word i of a kind lies in a store for n items.
 fn place(n: usize, f: Field, i: usize) -> usize
     requires { ⌜ n ≤ 4096 ⌝ }
@@ -65,6 +97,8 @@ fn place(n: usize, f: Field, i: usize) -> usize
     }
 }
 
+// ---- words
+
 // Word i of a kind.
 pub fn get(s: &[u32], n: usize, f: Field, i: u32) -> u32
     requires { ⌜ Within n (now s) f i ⌝ }
@@ -81,14 +115,6 @@ pub fn put(s: &mut [u32], n: usize, f: Field, i: u32, x: u32)
 {
     let at = place(n, f, i as usize);
     s[at] = x;
-}
-
-// The number of items, from the length of the store.
-pub fn items_of(s: &[u32]) -> usize
-    requires { ⌜ 32 ≤ length (now s) ⌝ }
-    ensures { λ r. ⌜ ((n : ℕ) → length (now (s .entry)) ≡ storeSize n → r ≡ n) ⌝ }
-{
-    (s.len() - 32) / 8
 }
 
 // Every word 0.
@@ -140,6 +166,8 @@ pub fn make_empty(s: &mut [u32], n: usize)
         empty_heap(s, n, h);
     }
 }
+
+// ---- lists of siblings
 
 // The last of a list of siblings.
 pub fn last(s: &[u32], n: usize, o: Owner) -> u32

@@ -1,7 +1,6 @@
 // The scope paper's runs (b) to (h) on the words of a store for nine items. Of each run: its name, the answers of its
 // lines, the row of heap 0, and all words.
-ghost use mathlib.Core.Path.{_≡_};
-ghost use lib.ListN.{length};
+ghost use Rattle.store.specs.Says.{Sized};
 use libc::STDOUT_FILENO;
 use rules::Field;
 use store::get;
@@ -15,7 +14,7 @@ fn print(x: u32, end: u8) {
 
 // The row of heap 0, on a line of its own.
 fn show_row(s: &[u32])
-    requires { ⌜ length (now s) ≡ 104 ⌝ }
+    requires { ⌜ Sized 9 (now s) ⌝ }
 {
     let mut x = get(s, 9, Field::FirstTree, 0);
     let mut left: u32 = 9;
@@ -46,7 +45,7 @@ fn show_words(s: &[u32]) {
 
 // A fresh run of a sheet, and what it leaves.
 fn show_run(name: u8, sheet: &[u8], store: &mut [u32], out: &mut [u8])
-    requires { ⌜ length (now store) ≡ 104 ⌝ }
+    requires { ⌜ Sized 9 (now store) ⌝ }
 {
     let line = [name, b'\n'];
     io::write_all(STDOUT_FILENO, &line);
@@ -76,7 +75,7 @@ fn main() {
 
 // (f), (g) and (h), each with the lines of those before it.
 fn show_later(store: &mut [u32], out: &mut [u8])
-    requires { ⌜ length (now store) ≡ 104 ⌝ }
+    requires { ⌜ Sized 9 (now store) ⌝ }
 {
     let f =
         b"I,0,0,0\nI,0,1,10\nI,0,2,20\nI,0,3,30\nI,0,4,40\nI,0,5,50\nI,0,6,60\nI,0,7,70\nI,0,8,80\nT,0\nD,8,5\nD,6,4\nD,7,3\n";

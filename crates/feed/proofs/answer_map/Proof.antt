@@ -3,16 +3,14 @@ use native.Mathlib.Omega.{arith}
 use mathlib.Core.Path.{sym}
 use lib.Seq.{length-take-le}
 use Rattle.mapfile.specs.Read.{readMap}
-use Rattle.feed.proofs.Printing.{field-11, spans-read, map-refused, map-many, map-fed}
+use Rattle.feed.proofs.Printing.{field-11, spans-read, store-fits, map-refused, map-many, map-fed}
 use borrow.Author.Needs.{needs}
 use Rattle.feed.proofs.answer_map.Statement.{statement}
 use Rattle.feed.proofs.answer_map.Tie as tie
 
--- src/main.rt:114:9
 read-requires : tie.Need-read-requires
 read-requires c κs = search needs
 
--- src/main.rt:117:9
 put-field-requires : tie.Need-put-field-requires
 put-field-requires c κs =
     let at-read = c .before .before .before .before .before .before .before .before in
@@ -20,23 +18,18 @@ put-field-requires c κs =
     let start = back-19 .before in
     omega (arith, field-11 (at-read .read .result .code) 10 (search needs), start .pre .room)
 
--- src/main.rt:117:9
 same-length : tie.Need-same-length
 same-length c = search needs
 
--- src/main.rt:117:9
 same-length-2 : tie.Need-same-length-2
 same-length-2 c = search needs
 
--- src/main.rt:117:9
 same-length-3 : tie.Need-same-length-3
 same-length-3 c = search needs
 
--- src/main.rt:117:9
 same-length-4 : tie.Need-same-length-4
 same-length-4 c = search needs
 
--- src/main.rt:117:9
 returns : tie.Need-returns
 returns c =
     let at-put-field = c .before .before in
@@ -47,30 +40,24 @@ returns c =
     map-refused (readMap _ _ _ _) _ _ _ _ (at-read .read .ensures) _ _ _ _ (start .pre .room) (at-if1 .if1 .taken)
     (omega (arith, at-read .read .ok)) _ _ (at-put-field .put-field .ensures)
 
--- src/main.rt:121:9
 put-field-requires-2 : tie.Need-put-field-requires-2
 put-field-requires-2 c κs =
     let back-11 = c .before .before .before .before .before .before .before .before .before .before .before in
     let start = back-11 .before .before .before .before .before .before .before .before .before .before in
     omega (arith, field-11 14 10 (omega arith), start .pre .room)
 
--- src/main.rt:121:9
 same-length-5 : tie.Need-same-length-5
 same-length-5 c = search needs
 
--- src/main.rt:121:9
 same-length-6 : tie.Need-same-length-6
 same-length-6 c = search needs
 
--- src/main.rt:121:9
 same-length-7 : tie.Need-same-length-7
 same-length-7 c = search needs
 
--- src/main.rt:121:9
 same-length-8 : tie.Need-same-length-8
 same-length-8 c = search needs
 
--- src/main.rt:121:9
 returns-2 : tie.Need-returns-2
 returns-2 c =
     let at-put-field2 = c .before .before in
@@ -82,145 +69,122 @@ returns-2 c =
     map-many (readMap _ _ _ _) _ _ _ _ (at-read .read .ensures) _ _ _ _ (start .pre .room) (at-if1 .if1 .left)
     (at-if2 .if2 .taken) _ _ (at-put-field2 .put-field2 .ensures)
 
--- src/main.rt:123:13
 cast-n : tie.Need-cast-n
 cast-n c = search needs
 
--- src/main.rt:124:13
 cast-e : tie.Need-cast-e
 cast-e c = search needs
 
--- src/main.rt:125:22
-mul-words : tie.Need-mul-words
-mul-words c = search needs
+size-for-requires : tie.Need-size-for-requires
+size-for-requires c κs = search needs
 
--- src/main.rt:125:17
-add-words : tie.Need-add-words
-add-words c = search needs
-
--- src/main.rt:129:9
 slice-reshare-prefix-answer-feed : tie.Need-slice-reshare-prefix-answer-feed
 slice-reshare-prefix-answer-feed c =
-    spans-read _ _ _ _ _ _ _ _
-    (c .before .before .before .before .before .before .before .before .before .read .ensures)
-    (c .before .before .if1 .left) .0
+    let at-if1 = c .before .before .before in
+    let at-read = at-if1 .before .before .before .before .before .before .before in
+    spans-read _ _ _ _ _ _ _ _ (at-read .read .ensures) (at-if1 .if1 .left) .0
 
--- src/main.rt:129:9
 slice-aggregate-answer-feed : tie.Need-slice-aggregate-answer-feed
 slice-aggregate-answer-feed c =
-    sym (length-take-le _ _
-    (spans-read _ _ _ _ _ _ _ _
-    (c .before .before .before .before .before .before .before .before .before .before .read .ensures)
-    (c .before .before .before .if1 .left) .0))
+    let at-if1 = c .before .before .before .before in
+    let at-read = at-if1 .before .before .before .before .before .before .before in
+    sym (length-take-le _ _ (spans-read _ _ _ _ _ _ _ _ (at-read .read .ensures) (at-if1 .if1 .left) .0))
 
--- src/main.rt:130:9
 slice-reshare-prefix-answer-feed-2 : tie.Need-slice-reshare-prefix-answer-feed-2
 slice-reshare-prefix-answer-feed-2 c =
-    spans-read _ _ _ _ _ _ _ _
-    (c .before .before .before .before .before .before .before .before .before .before .read .ensures)
-    (c .before .before .before .if1 .left) .1
+    let at-if1 = c .before .before .before .before in
+    let at-read = at-if1 .before .before .before .before .before .before .before in
+    spans-read _ _ _ _ _ _ _ _ (at-read .read .ensures) (at-if1 .if1 .left) .1
 
--- src/main.rt:130:9
 slice-aggregate-answer-feed-2 : tie.Need-slice-aggregate-answer-feed-2
 slice-aggregate-answer-feed-2 c =
-    sym (length-take-le _ _
-    (spans-read _ _ _ _ _ _ _ _
-    (c .before .before .before .before .before .before .before .before .before .before .before .read .ensures)
-    (c .before .before .before .before .if1 .left) .1))
+    let at-if1 = c .before .before .before .before .before in
+    let at-read = at-if1 .before .before .before .before .before .before .before in
+    sym (length-take-le _ _ (spans-read _ _ _ _ _ _ _ _ (at-read .read .ensures) (at-if1 .if1 .left) .1))
 
--- src/main.rt:131:9
 slice-reshare-prefix-answer-feed-3 : tie.Need-slice-reshare-prefix-answer-feed-3
 slice-reshare-prefix-answer-feed-3 c =
-    spans-read _ _ _ _ _ _ _ _
-    (c .before .before .before .before .before .before .before .before .before .before .before .read .ensures)
-    (c .before .before .before .before .if1 .left) .2
+    let at-if1 = c .before .before .before .before .before in
+    let at-read = at-if1 .before .before .before .before .before .before .before in
+    spans-read _ _ _ _ _ _ _ _ (at-read .read .ensures) (at-if1 .if1 .left) .2
 
--- src/main.rt:131:9
 slice-aggregate-answer-feed-3 : tie.Need-slice-aggregate-answer-feed-3
 slice-aggregate-answer-feed-3 c =
-    let at-if1 = c .before .before .before .before .before in
+    let at-if1 = c .before .before .before .before .before .before in
     let at-read = at-if1 .before .before .before .before .before .before .before in
     sym (length-take-le _ _ (spans-read _ _ _ _ _ _ _ _ (at-read .read .ensures) (at-if1 .if1 .left) .2))
 
--- src/main.rt:132:9
 slice-relend-prefix-answer-feed : tie.Need-slice-relend-prefix-answer-feed
 slice-relend-prefix-answer-feed c = search needs
 
--- src/main.rt:132:9
 slice-aggregate-answer-feed-4 : tie.Need-slice-aggregate-answer-feed-4
 slice-aggregate-answer-feed-4 c =
-    let at-if2 = c .before .before .before .before .before in
-    let back-16 = at-if2 .before .before .before .before .before .before .before .before .before .before .before in
-    let start = back-16 .before .before .before .before .before .before .before .before .before in
+    let at-if2 = c .before .before .before .before .before .before in
+    let back = at-if2 .before .before .before .before .before .before .before .before .before .before .before in
+    let start = back .before .before .before .before .before .before .before .before .before in
     sym (length-take-le _ _ (omega (arith, start .pre .bestRoom, at-if2 .if2 .left)))
 
--- src/main.rt:133:9
 slice-relend-prefix-answer-feed-2 : tie.Need-slice-relend-prefix-answer-feed-2
 slice-relend-prefix-answer-feed-2 c = search needs
 
--- src/main.rt:133:9
 slice-aggregate-answer-feed-5 : tie.Need-slice-aggregate-answer-feed-5
 slice-aggregate-answer-feed-5 c =
-    let at-if2 = c .before .before .before .before .before .before in
-    let back-17 = at-if2 .before .before .before .before .before .before .before .before .before .before .before in
-    let start = back-17 .before .before .before .before .before .before .before .before .before in
+    let at-if2 = c .before .before .before .before .before .before .before in
+    let back = at-if2 .before .before .before .before .before .before .before .before .before .before .before in
+    let start = back .before .before .before .before .before .before .before .before .before in
     sym (length-take-le _ _ (omega (arith, start .pre .lastRoom, at-if2 .if2 .left)))
 
--- src/main.rt:134:9
 slice-relend-prefix-answer-feed-3 : tie.Need-slice-relend-prefix-answer-feed-3
-slice-relend-prefix-answer-feed-3 c = search needs
+slice-relend-prefix-answer-feed-3 c =
+    let at-size-for = c .before .before .before .before .before in
+    let at-if2 = at-size-for .before .before in
+    let back = at-if2 .before .before .before .before .before .before .before .before .before .before .before in
+    let start = back .before .before .before .before .before .before .before .before .before in
+    store-fits (start .pre) (at-if2 .if2 .left) (at-size-for .size-for .ensures)
 
--- src/main.rt:134:9
 slice-aggregate-answer-feed-6 : tie.Need-slice-aggregate-answer-feed-6
 slice-aggregate-answer-feed-6 c =
-    let at-if2 = c .before .before .before .before .before .before .before in
-    let back-18 = at-if2 .before .before .before .before .before .before .before .before .before .before .before in
-    let start = back-18 .before .before .before .before .before .before .before .before .before in
-    sym (length-take-le _ _ (omega (arith, start .pre .storeRoom, at-if2 .if2 .left)))
+    let at-size-for = c .before .before .before .before .before .before in
+    let at-if2 = at-size-for .before .before in
+    let back = at-if2 .before .before .before .before .before .before .before .before .before .before .before in
+    let start = back .before .before .before .before .before .before .before .before .before in
+    sym (length-take-le _ _ (store-fits (start .pre) (at-if2 .if2 .left) (at-size-for .size-for .ensures)))
 
--- src/main.rt:126:5
 answer-feed-requires : tie.Need-answer-feed-requires
 answer-feed-requires c κs = search needs
 
--- src/main.rt:97:1
 same-length-9 : tie.Need-same-length-9
 same-length-9 c = search needs
 
--- src/main.rt:97:1
 same-length-10 : tie.Need-same-length-10
 same-length-10 c = search needs
 
--- src/main.rt:97:1
 same-length-11 : tie.Need-same-length-11
 same-length-11 c = search needs
 
--- src/main.rt:97:1
 same-length-12 : tie.Need-same-length-12
 same-length-12 c = search needs
 
--- src/main.rt:97:1
 same-length-13 : tie.Need-same-length-13
 same-length-13 c = search needs
 
--- src/main.rt:97:1
 same-length-14 : tie.Need-same-length-14
 same-length-14 c = search needs
 
--- src/main.rt:97:1
 same-length-15 : tie.Need-same-length-15
 same-length-15 c = search needs
 
--- src/main.rt:97:1
 returns-3 : tie.Need-returns-3
 returns-3 c =
     let at-answer-feed = c .before .before .before .before .before .before .before .before in
-    let at-if2 = at-answer-feed .before .before .before .before .before .before .before .before .before in
+    let at-size-for = at-answer-feed .before .before .before .before .before .before .before .before in
+    let at-if2 = at-size-for .before .before in
     let at-if1 = at-if2 .before in
     let at-read = at-if1 .before .before .before .before .before .before .before in
-    let back-36 = at-read .before .before .before .before .before .before .before .before .before .before .before in
-    let start = back-36 .before in
+    let back = at-read .before .before .before .before .before .before .before .before .before .before .before in
+    let start = back .before in
     map-fed (readMap _ _ _ _) _ _ _ _ (at-read .read .ensures) _ _ _ _ (start .pre .room) (at-if1 .if1 .left)
-    (at-if2 .if2 .left) _ _ (at-answer-feed .answer-feed .ensures)
+    (at-if2 .if2 .left) (at-size-for .size-for .ensures) _ _ (at-answer-feed .answer-feed .ensures)
 
 pub answer-map-spec : {M : Type 1} → statement M
 answer-map-spec =
@@ -241,8 +205,7 @@ answer-map-spec =
     returns-2
     cast-n
     cast-e
-    mul-words
-    add-words
+    size-for-requires
     slice-reshare-prefix-answer-feed
     slice-aggregate-answer-feed
     slice-reshare-prefix-answer-feed-2

@@ -1,6 +1,7 @@
 -- `main` is safe and ends. The bytes that it prints are within the output.
 use mathlib.Core.Path.{sym}
 use lib.Seq.{length-take-le}
+use Rattle.rules.specs.Words.{storeSize}
 use borrow.Author.Needs.{needs}
 use Rattle.feed.proofs.main.Statement.{statement}
 use Rattle.feed.proofs.main.Tie as tie
@@ -51,6 +52,7 @@ slice-aggregate-answer-map-8 c = search needs
 
 -- src/main.rt:150:9
 answer-map-requires : tie.Need-answer-map-requires
+unfolding storeSize
 answer-map-requires c κs = search needs
 
 -- src/main.rt:160:34

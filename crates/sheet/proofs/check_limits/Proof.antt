@@ -1,6 +1,6 @@
 -- `check_limits` meets its contract: the conditions in the table's order.
 use Rattle.sheet.proofs.Booleans.{denied, not-denied}
-use Rattle.sheet.proofs.Limits.{met, code-1, code-2, code-3, code-4, none-met, store-long}
+use Rattle.sheet.proofs.Limits.{met, code-1, code-2, code-3, code-4, none-met}
 use borrow.Author.Needs.{needs}
 use Rattle.sheet.proofs.check_limits.Statement.{statement}
 use Rattle.sheet.proofs.check_limits.Tie as tie
@@ -54,20 +54,19 @@ returns-4 c =
     (count .line-count .ensures) (c .before .before .if3 .left) (c .before .if4 .taken))
     (c .beyond4 .ensures)
 
-sub-t8 : tie.Need-sub-t8
-sub-t8 c =
-    let test = c .before .before .before .before in
-    store-long _ (not-denied _ (test .before .is-store .ensures) (test .if1 .left))
+items-of-requires : tie.Need-items-of-requires
+items-of-requires c κs = search needs
 
 cast-t10 : tie.Need-cast-t10
 cast-t10 c = search needs
 
 returns-5 : tie.Need-returns-5
 returns-5 c =
-    let count = c .before .before in
+    let room = c .before in
+    let count = room .before .before in
     let test = count .before .before in
     none-met _ _ _ (not-denied _ (test .before .is-store .ensures) (test .if1 .left)) (count .before .if2 .left)
-    (count .line-count .ensures) (c .before .if3 .left) (c .if4 .left)
+    (count .line-count .ensures) (room .before .if3 .left) (room .if4 .left) (c .items-of .ensures)
 
 pub check-limits-spec : {M : Type 1} → statement M
 check-limits-spec =
@@ -84,6 +83,6 @@ check-limits-spec =
     mul-if4
     beyond-requires-4
     returns-4
-    sub-t8
+    items-of-requires
     cast-t10
     returns-5)

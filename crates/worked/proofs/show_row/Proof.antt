@@ -12,12 +12,12 @@ abbrev μ-loop : tie.MeasureT-loop
 μ-loop s x₀ left₀ t4 x left = left
 
 get-requires : tie.Need-get-requires Inv-loop μ-loop
-get-requires c κs = record { sized = record { size = c .before .pre; small = omega arith }; inside = omega arith }
+get-requires c κs = record { sized = c .before .pre; inside = omega arith }
 
 get-requires-2 : tie.Need-get-requires-2 Inv-loop μ-loop
 get-requires-2 c κs =
     let p = c .before .before .before .before .before .before .pre in
-    record { sized = record { size = p; small = omega arith }; inside = omega (arith, c .before .if1 .left) }
+    record { sized = p; inside = omega (arith, c .before .if1 .left) }
 
 pub show-row-spec : {M : Type 1} → statement M
 show-row-spec =

@@ -3,31 +3,25 @@ use Rattle.finder.proofs.Codes.{fault-from, fault-to, fault-zero, fault
 use Rattle.finder.proofs.refusal.fault_of.Statement.{statement}
 use Rattle.finder.proofs.refusal.fault_of.Tie as tie
 
--- src/refusal.rt:21:9
 returns : tie.Need-returns
 returns c = fault-from _ _ _ _ _ (c .if1 .taken)
 
--- src/refusal.rt:24:9
 returns-2 : tie.Need-returns-2
 returns-2 c = fault-to _ _ _ _ _ (c .before .if1 .left) (c .if2 .taken)
 
--- src/refusal.rt:27:9
 returns-3 : tie.Need-returns-3
 returns-3 c = fault-zero _ _ _ _ _ (c .before .before .if1 .left) (c .before .if2 .left) (c .if3 .taken)
 
--- src/refusal.rt:30:9
 returns-4 : tie.Need-returns-4
 returns-4 c =
     fault-high _ _ _ _ _ (c .before .before .before .if1 .left) (c .before .before .if2 .left) (c .before .if3 .left)
     (c .if4 .taken)
 
--- src/refusal.rt:33:9
 returns-5 : tie.Need-returns-5
 returns-5 c =
     fault-falls _ _ _ _ _ (c .before .before .before .before .if1 .left) (c .before .before .before .if2 .left)
     (c .before .before .if3 .left) (c .before .if4 .left) (c .if5 .taken)
 
--- src/refusal.rt:17:1
 returns-6 : tie.Need-returns-6
 returns-6 c =
     fault-none _ _ _ _ _ (c .before .before .before .before .if1 .left) (c .before .before .before .if2 .left)

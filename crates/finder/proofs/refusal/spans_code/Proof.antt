@@ -17,32 +17,25 @@ Inv-loop places from to loss e₀ b₀ e b =
 abbrev μ-loop : tie.MeasureT-loop
 μ-loop places from to loss e₀ b₀ e b = length from - e
 
--- src/refusal.rt:46:5
 loop-holds : tie.Need-loop-holds Inv-loop μ-loop
 unfolding previous codeBelow
 loop-holds c = (omega arith, refl, refl)
 
--- src/refusal.rt:47:17
 mul-f : tie.Need-mul-f Inv-loop μ-loop
 mul-f c = search needs
 
--- src/refusal.rt:47:17
 shared-slice-read-f : tie.Need-shared-slice-read-f Inv-loop μ-loop
 shared-slice-read-f c = search needs
 
--- src/refusal.rt:48:37
 word-or-zero-requires : tie.Need-word-or-zero-requires Inv-loop μ-loop
 word-or-zero-requires c κs = search needs
 
--- src/refusal.rt:48:58
 word-or-zero-requires-2 : tie.Need-word-or-zero-requires-2 Inv-loop μ-loop
 word-or-zero-requires-2 c κs = search needs
 
--- src/refusal.rt:48:13
 fault-of-requires : tie.Need-fault-of-requires Inv-loop μ-loop
 fault-of-requires c κs = search needs
 
--- src/refusal.rt:50:13
 returns : tie.Need-returns Inv-loop μ-loop
 returns c =
     let w = c .before .before in
@@ -50,15 +43,12 @@ returns c =
     loop-out _ _ _ _ _ _ _ _ _ (i .2) (i .1) (w .before .word-or-zero .ensures) (w .word-or-zero2 .ensures)
     (c .before .fault-of .ensures) _ (omega arith) (c .if1 .taken)
 
--- src/refusal.rt:53:9
 add-e : tie.Need-add-e Inv-loop μ-loop
 add-e c = search needs
 
--- src/refusal.rt:46:5
 loop-less : tie.Need-loop-less Inv-loop μ-loop
 loop-less c = search needs
 
--- src/refusal.rt:46:5
 loop-again : tie.Need-loop-again Inv-loop μ-loop
 loop-again c =
     let w = c .before .before in
@@ -69,7 +59,6 @@ loop-again c =
           (c .before .fault-of .ensures) (c .if1 .left),
     )
 
--- src/refusal.rt:39:1
 returns-2 : tie.Need-returns-2 Inv-loop μ-loop
 returns-2 c = loop-ends _ _ _ _ _ _ (c .before .loop .inv .2) (c .before .loop .inv .0) (omega arith)
 

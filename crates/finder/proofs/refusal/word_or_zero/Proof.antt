@@ -4,19 +4,15 @@ use borrow.Author.Needs.{needs}
 use Rattle.finder.proofs.refusal.word_or_zero.Statement.{statement}
 use Rattle.finder.proofs.refusal.word_or_zero.Tie as tie
 
--- src/refusal.rt:11:16
 mul-result : tie.Need-mul-result
 mul-result c = search needs
 
--- src/refusal.rt:11:16
 shared-slice-read-result : tie.Need-shared-slice-read-result
 shared-slice-read-result c = search needs
 
--- src/refusal.rt:11:9
 returns : tie.Need-returns
 returns c = search needs
 
--- src/refusal.rt:7:1
 returns-2 : tie.Need-returns-2
 returns-2 c = let h = c .if1 .left in rw List·getD-eq-default
 
