@@ -70,9 +70,6 @@ decimal-short (suc k) n h =
     (λ (l : n < 10). omega (arith, length-low n l))
     (le-or-lt 10 n)
 
-pub at-most-ten : (n : ℕ) → n < 2 ^ 32 → length (decimal n) ≤ 10
-at-most-ten n h = decimal-short 9 n (omega arith)
-
 -- a number of at least 10 ^ k has more than k digits
 pub decimal-long : (k n : ℕ) → 10 ^ k ≤ n → k < length (decimal n)
 decimal-long zero n h = some-digit n

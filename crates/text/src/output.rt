@@ -10,13 +10,34 @@ ghost use Rattle.text.specs.Output.{Wrote};
 fn digit_count(n: u32) -> usize
     ensures { λ r. ⌜ r ≡ length (decimal n) ⌝ }
 {
-    let mut count = 1;
-    let mut power: u64 = 10;
-    while power <= n as u64 {
-        count += 1;
-        power *= 10;
+    if n < 10 {
+        return 1;
     }
-    count
+    if n < 100 {
+        return 2;
+    }
+    if n < 1000 {
+        return 3;
+    }
+    if n < 10000 {
+        return 4;
+    }
+    if n < 100000 {
+        return 5;
+    }
+    if n < 1000000 {
+        return 6;
+    }
+    if n < 10000000 {
+        return 7;
+    }
+    if n < 100000000 {
+        return 8;
+    }
+    if n < 1000000000 {
+        return 9;
+    }
+    10
 }
 
 // Writes n in decimal from `at` on, from its last digit to its first, and returns the position after it.

@@ -1,37 +1,54 @@
--- `digit_count` meets its contract. The invariant: the number has at least as many digits as counted.
-use borrow.Author.Needs.{needs}
+-- `digit_count` meets its contract: the number lies between two powers of ten.
+use mathlib.Core.Path.{sym}
 use native.Mathlib.Omega.{arith}
-use Prim.Native.Nat.{_+_, _-_}
-use Rattle.text.proofs.Decimal.{at-most-ten}
-use Rattle.text.proofs.DigitCount.{Counting, one-counted, more-counted, all-counted}
+use Rattle.text.proofs.Decimal.{length-low}
+use Rattle.text.proofs.DigitCount.{digits-between}
 use Rattle.text.proofs.output.digit_count.Statement.{statement}
 use Rattle.text.proofs.output.digit_count.Tie as tie
 
-abbrev Inv-loop : tie.InvT-loop
-Inv-loop n count₀ power₀ count power = Counting n count power
+returns : tie.Need-returns
+returns c = sym (length-low _ (c .if1 .taken))
 
-abbrev μ-loop : tie.MeasureT-loop
-μ-loop n count₀ power₀ count power = n + 1 - power
+returns-2 : tie.Need-returns-2
+returns-2 c = digits-between 1 _ (c .before .if1 .left) (c .if2 .taken)
 
-loop-holds : tie.Need-loop-holds Inv-loop μ-loop
-loop-holds c = one-counted _
+returns-3 : tie.Need-returns-3
+returns-3 c = digits-between 2 _ (c .before .if2 .left) (c .if3 .taken)
 
-add-count : tie.Need-add-count Inv-loop μ-loop
-add-count c = omega (arith, c .before .loop .inv .low, at-most-ten _ (c .before .before .fits .n .fits))
+returns-4 : tie.Need-returns-4
+returns-4 c = digits-between 3 _ (c .before .if3 .left) (c .if4 .taken)
 
-mul-power : tie.Need-mul-power Inv-loop μ-loop
-mul-power c = search needs
+returns-5 : tie.Need-returns-5
+returns-5 c = digits-between 4 _ (c .before .if4 .left) (c .if5 .taken)
 
-loop-less : tie.Need-loop-less Inv-loop μ-loop
-loop-less c = search needs
+returns-6 : tie.Need-returns-6
+returns-6 c = digits-between 5 _ (c .before .if5 .left) (c .if6 .taken)
 
-loop-again : tie.Need-loop-again Inv-loop μ-loop
-loop-again c = more-counted (c .before .loop .inv) (c .loop-test .taken)
+returns-7 : tie.Need-returns-7
+returns-7 c = digits-between 6 _ (c .before .if6 .left) (c .if7 .taken)
 
-returns : tie.Need-returns Inv-loop μ-loop
-returns c = all-counted (c .before .loop .inv) (c .loop-test .left)
+returns-8 : tie.Need-returns-8
+returns-8 c = digits-between 7 _ (c .before .if7 .left) (c .if8 .taken)
+
+returns-9 : tie.Need-returns-9
+returns-9 c = digits-between 8 _ (c .before .if8 .left) (c .if9 .taken)
+
+returns-10 : tie.Need-returns-10
+returns-10 c =
+    let start = c .before .before .before .before .before .before .before .before .before in
+    digits-between 9 _ (c .if9 .left) (omega (arith, start .fits .n .fits))
 
 pub digit-count-spec : {M : Type 1} → statement M
 digit-count-spec =
     tie.close
-    (tie.spec Inv-loop μ-loop loop-holds add-count mul-power loop-less loop-again returns)
+    (tie.spec
+    returns
+    returns-2
+    returns-3
+    returns-4
+    returns-5
+    returns-6
+    returns-7
+    returns-8
+    returns-9
+    returns-10)
