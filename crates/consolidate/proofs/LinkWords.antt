@@ -110,7 +110,7 @@ module _ (n h : ℕ) (v : Values) (t : Forests) (ρ : List ℕ) (S : Formed (set
   link-beside =
       record {
         size = B .size;
-        keys = λ i k. child-other a l v Key i refl refl refl refl refl refl ∙ B .keys i k;
+        keys = λ i k. child-other a l v Key i refl refl refl ∙ B .keys i k;
         parents = byItem l
             (λ k. word-parent a l v l
             ∙ rw (eqb-self l) (sym (getD-set-same (t .parent) l a 0 (omega (arith, D .parentN, l-in)))))
@@ -129,10 +129,10 @@ module _ (n h : ℕ) (v : Values) (t : Forests) (ρ : List ℕ) (S : Formed (set
               getD-set-other (t .children) a i (childrenOf t a ++ (l ∷ [])) [] m,
             ) (B .ranks i k));
         states = byItem l
-            (λ k. child-other a l v State l refl refl refl refl refl refl ∙ B .states l k
+            (λ k. child-other a l v State l refl refl refl ∙ B .states l k
             ∙ ap (stateOf (heapOf t l))
             (D .bare l (l-root .1) ∙ sym (getD-set-same (t .mark) l 0 0 (omega (arith, D .markN, l-in)))))
-            (λ i m k. child-other a l v State i refl refl refl refl refl refl ∙ B .states i k
+            (λ i m k. child-other a l v State i refl refl refl ∙ B .states i k
             ∙ ap (stateOf (heapOf t i)) (sym (getD-set-other (t .mark) l i 0 0 m)));
         frees = λ i k e.
             let f = free-member i (omega (arith, B .size)) e in
@@ -156,9 +156,9 @@ module _ (n h : ℕ) (v : Values) (t : Forests) (ρ : List ℕ) (S : Formed (set
             (other-chain (childrenOf t p) (B .families p k f)
             (λ y i. child-member p y (omega (arith, B .size)) m i)));
         otherRows = λ g k m. rw (
-          child-other a l v FirstTree g refl refl refl refl refl refl,
-          child-other a l v LastTree g refl refl refl refl refl refl,
+          child-other a l v FirstTree g refl refl refl,
+          child-other a l v LastTree g refl refl refl,
         ) (other-chain (rowOf t g) (B .otherRows g k m) (λ y i. row-member g y m i));
-        minima = λ g k m. child-other a l v Minimum g refl refl refl refl refl refl ∙ B .minima g k m;
-        counts = λ g k. child-other a l v Count g refl refl refl refl refl refl ∙ B .counts g k;
+        minima = λ g k m. child-other a l v Minimum g refl refl refl ∙ B .minima g k m;
+        counts = λ g k. child-other a l v Count g refl refl refl ∙ B .counts g k;
       }

@@ -1,7 +1,6 @@
 -- What each move on a list of siblings does to the single words.
 use Prim.Native.Nat.{ℕ, _+_, _*_, _≤_}
 use mathlib.Core.Path.{_≡_, refl, ap, _∙_}
-use mathlib.Core.Logic.{_≢_}
 use mathlib.Core.List.{List, [], _∷_}
 use mathlib.Core.Bool.{Bool, true, false, cond}
 use native.Mathlib.Omega.{arith}
@@ -15,18 +14,13 @@ use Rattle.rules.specs.SetWord.{fieldNumber, setWord}
 use Rattle.rules.proofs.Occurs.{delta-self, delta-other, eqb-self}
 use Rattle.store.specs.declared.Owner.the-variants.{Row, Children}
 use Rattle.store.specs.Says.{Values}
-use Rattle.store.specs.Siblings.{parentIn, firstOf, lastOf, setFirst, setLast, setNext, setPrev, addRank, dropRank, joined, concatenated, appended, removed}
+use Rattle.store.specs.Siblings.{parentIn, firstOf, lastOf, setFirst, setLast, setNext, setPrev, addRank, dropRank, joined, appended, removed}
+use Rattle.store.proofs.ConcatWords.{Plain, apart}
 use Rattle.consolidate.specs.Released.{released}
 
 pub cond-same : (t : Bool) (x : ℕ) → cond t x x ≡ x
 cond-same true x = refl
 cond-same false x = refl
-
--- a kind of word that is no link of a row
-abbrev pub Plain : Field → Type 0
-Plain f =
-    (eqb 0 (fieldNumber f) ≡ false) × (eqb 1 (fieldNumber f) ≡ false) × (eqb 8 (fieldNumber f) ≡ false) ×
-    (eqb 9 (fieldNumber f) ≡ false)
 
 -- ---- an item at the end of the children of a
 
@@ -57,12 +51,13 @@ module _ (a x : ℕ) (v : Values) where
   unfolding appended joined setNext setFirst setLast firstOf lastOf addRank parentIn
   child-rank i = refl
 
-  -- all kinds but those six: 5 to 10 by number
-  pub child-other : (f : Field) (i : ℕ) → eqb 5 (fieldNumber f) ≡ false → eqb 6 (fieldNumber f) ≡ false
-      → eqb 7 (fieldNumber f) ≡ false → eqb 8 (fieldNumber f) ≡ false → eqb 9 (fieldNumber f) ≡ false
-      → eqb 10 (fieldNumber f) ≡ false → appended (Children a) x v f i ≡ v f i
+  -- all kinds but those six
+  pub child-other : (f : Field) (i : ℕ) → Plain (Children a) f → eqb (fieldNumber Parent) (fieldNumber f) ≡ false
+      → eqb (fieldNumber Rank) (fieldNumber f) ≡ false → appended (Children a) x v f i ≡ v f i
   unfolding appended joined setNext setFirst setLast firstOf lastOf addRank parentIn
-  child-other f i e5 e6 e7 e8 e9 e10 = simp (e5, e6, e7, e8, e9, e10)
+  child-other f i e p r =
+      let k = apart (Children a) f e in
+      simp (k .first, k .last, k .next, k .prev, p, r)
 
 -- ---- an item at the end of the row of heap h
 
@@ -89,9 +84,12 @@ module _ (h x : ℕ) (v : Values) where
   unfolding appended joined setNext setFirst setLast firstOf lastOf addRank parentIn
   row-parent i = refl
 
-  pub row-other : (f : Field) (i : ℕ) → Plain f → eqb 5 (fieldNumber f) ≡ false → appended (Row h) x v f i ≡ v f i
+  pub row-other : (f : Field) (i : ℕ) → Plain (Row h) f → eqb (fieldNumber Parent) (fieldNumber f) ≡ false
+      → appended (Row h) x v f i ≡ v f i
   unfolding appended joined setNext setFirst setLast firstOf lastOf addRank parentIn
-  row-other f i e d = simp (e .0, e .1, e .2, e .3, d)
+  row-other f i e d =
+      let k = apart (Row h) f e in
+      simp (k .first, k .last, k .next, k .prev, d)
 
 -- ---- an item taken out of the row of heap h
 
@@ -114,47 +112,17 @@ module _ (h x : ℕ) (v : Values) where
   unfolding removed setNext setPrev setFirst setLast firstOf lastOf dropRank
   out-last g = refl
 
-  pub out-other : (f : Field) (i : ℕ) → Plain f → removed (Row h) x v f i ≡ v f i
+  pub out-other : (f : Field) (i : ℕ) → Plain (Row h) f → removed (Row h) x v f i ≡ v f i
   unfolding removed setNext setPrev setFirst setLast firstOf lastOf dropRank
-  out-other f i e = simp (e .0, e .1, e .2, e .3)
-
--- ---- a chain from a to b joined to the row of heap h
-
-module _ (h a b : ℕ) (v : Values) where
-  module _ (s : a ≢ none) where
-    pub join-next : (y : ℕ) → concatenated h a b v Next y ≡ cond (eqb (v LastTree h) y) a (v Next y)
-    unfolding concatenated joined setNext setFirst setLast firstOf lastOf
-    join-next y = rw (ne-eqb a none s)
-
-    pub join-prev : (y : ℕ) → concatenated h a b v Prev y ≡ cond (eqb a y) (v LastTree h) (v Prev y)
-    unfolding concatenated joined setNext setFirst setLast firstOf lastOf
-    join-prev y = rw (ne-eqb a none s)
-
-    pub join-first : (g : ℕ) → concatenated h a b v FirstTree g
-        ≡ cond (eqb h g) (cond (eqb (v LastTree h) none) a (v FirstTree h)) (v FirstTree g)
-    unfolding concatenated joined setNext setFirst setLast firstOf lastOf
-    join-first g = rw (ne-eqb a none s)
-
-    pub join-last : (g : ℕ) → concatenated h a b v LastTree g ≡ cond (eqb h g) b (v LastTree g)
-    unfolding concatenated joined setNext setFirst setLast firstOf lastOf
-    join-last g = rw (ne-eqb a none s)
-
-  pub join-none : a ≡ none → (f : Field) (i : ℕ) → concatenated h a b v f i ≡ v f i
-  unfolding concatenated
-  join-none e f i = rw e
-
-  pub join-other : (f : Field) (i : ℕ) → Plain f → concatenated h a b v f i ≡ v f i
-  unfolding concatenated joined setNext setFirst setLast firstOf lastOf
-  join-other f i e = go (eqb a none)
-    where
-      go : (t : Bool) → cond t v (joined (Row h) (v LastTree h) a b v) f i ≡ v f i
-      go true = refl
-      go false = simp (e .0, e .1, e .2, e .3)
+  out-other f i e =
+      let k = apart (Row h) f e in
+      simp (k .first, k .last, k .next, k .prev)
 
 -- ---- released children
 
-pub released-other : (h : ℕ) (cs : List ℕ) (v : Values) (f : Field) (i : ℕ) → eqb 5 (fieldNumber f) ≡ false
-    → eqb 11 (fieldNumber f) ≡ false → released h cs v f i ≡ v f i
+pub released-other : (h : ℕ) (cs : List ℕ) (v : Values) (f : Field) (i : ℕ)
+    → eqb (fieldNumber Parent) (fieldNumber f) ≡ false → eqb (fieldNumber State) (fieldNumber f) ≡ false
+    → released h cs v f i ≡ v f i
 unfolding released
 released-other h [] v f i e d = refl
 released-other h (c ∷ cs) v f i e d =

@@ -8,7 +8,7 @@ use native.Mathlib.Omega.{arith}
 use lib.Dec.{eqb}
 use borrow.Author.Tests.{eqb-true, eqb-false, ne-eqb}
 use Rattle.rules.specs.declared.Field.{Field}
-use Rattle.rules.specs.declared.Field.the-variants.{FirstTree, LastTree, Count, FirstChild, LastChild, Next, Prev}
+use Rattle.rules.specs.declared.Field.the-variants.{FirstTree, LastTree, Count, Parent, FirstChild, LastChild, Next, Prev, State}
 use Rattle.rules.specs.Calls.{removeRoot, setFree, release}
 use Rattle.rules.specs.Forests.{Forests, none, rowOf, childrenOf, parentOf, heapOf, tableSize}
 use Rattle.rules.specs.Lists.{occurs, sumBy, without}
@@ -23,18 +23,27 @@ use Rattle.rules.proofs.Siblings.{Once}
 use Rattle.store.specs.declared.Owner.the-variants.{Row}
 use Rattle.store.specs.Empty.{freeItem}
 use Rattle.store.specs.Says.{Values}
-use Rattle.store.specs.Siblings.{concatenated, removed}
+use Rattle.store.specs.Siblings.{firstOf, lastOf, concatenated, removed}
+use Rattle.store.proofs.ConcatWords.{
+  Plain,
+  concat-first,
+  concat-last,
+  concat-next,
+  concat-none,
+  concat-other,
+  concat-prev,
+}
 use Rattle.consolidate.specs.Chain.{Chain}
 use Rattle.consolidate.specs.Released.{released}
 use Rattle.consolidate.specs.Stored.{Beside}
 use Rattle.consolidate.proofs.Beside.{not-row, other-row}
 use Rattle.consolidate.proofs.Chains.{chain-concat, chain-frame, chain-remove, head-apart, head-none, last-apart}
-use Rattle.consolidate.proofs.MoveWords.{Plain, join-first, join-last, join-next, join-none, join-other, join-prev, out-first, out-last, out-next, out-other, out-prev, released-other}
+use Rattle.consolidate.proofs.MoveWords.{out-first, out-last, out-next, out-other, out-prev, released-other}
 
 -- the stores that take the root x out of heap h: its children are cs, the first a and the last b, and c items are left
 unfoldable pub rootRemoved : ℕ → ℕ → List ℕ → ℕ → ℕ → ℕ → Values → Values
 rootRemoved h x cs a b c v =
-    setWord Count h c (freeItem x (concatenated h a b (released h cs (removed (Row h) x v))))
+    setWord Count h c (freeItem x (concatenated (Row h) a b (released h cs (removed (Row h) x v))))
 
 module _ (n h : ℕ) (v : Values) (t : Forests) (D : Disjoint t) (B : Beside n h v t)
     (R : Chain (v FirstTree h) (v LastTree h) (v Next) (v Prev) (rowOf t h)) (x : ℕ) (hx : heapOf t x ≡ suc h)
@@ -68,7 +77,7 @@ module _ (n h : ℕ) (v : Values) (t : Forests) (D : Disjoint t) (B : Beside n h
   v2 = released h cs v1
 
   abbrev v3 : Values
-  v3 = concatenated h (v FirstChild x) (v LastChild x) v2
+  v3 = concatenated (Row h) (v FirstChild x) (v LastChild x) v2
 
   -- ---- the row
 
@@ -129,13 +138,14 @@ module _ (n h : ℕ) (v : Values) (t : Forests) (D : Disjoint t) (B : Beside n h
       (other-row after D′ h none (λ e. omega (arith, e, out-heap after none (omega (arith, D′ .small)))))
 
   row₃ : Chain (v3 FirstTree h) (v3 LastTree h) (v3 Next) (v3 Prev) (without x row ++ cs)
+  unfolding firstOf lastOf
   row₃ = go (eqb (v FirstChild x) none) refl
     where
       go : (b : Bool) → eqb (v FirstChild x) none ≡ b
           → Chain (v3 FirstTree h) (v3 LastTree h) (v3 Next) (v3 Prev) (without x row ++ cs)
       go true e =
           let a : v FirstChild x ≡ none = eqb-true (v FirstChild x) none e in
-          let j = join-none h (v FirstChild x) (v LastChild x) v2 a in
+          let j = concat-none (v FirstChild x) (v LastChild x) v2 (Row h) a in
           let z : cs ≡ [] =
           head-none cs (omega (arith, none-after, occurs-append none (without x row) cs)) (sym (family .front) ∙ a) in
           subst (Chain (v3 FirstTree h) (v3 LastTree h) (v3 Next) (v3 Prev))
@@ -144,10 +154,10 @@ module _ (n h : ℕ) (v : Values) (t : Forests) (D : Disjoint t) (B : Beside n h
           (chain-frame (v3 Next) (v3 Prev) row₂ (λ y i. (j Next y, j Prev y))))
       go false e =
           let a : v FirstChild x ≢ none = eqb-false (v FirstChild x) none e in
-          rw (join-last h (v FirstChild x) (v LastChild x) v2 a h, eqb-self h)
+          rw (concat-last (v FirstChild x) (v LastChild x) v2 a (Row h) (Row h), eqb-self h)
           (chain-concat (without x row) cs row₂ family₂ once-after none-after a (v3 FirstTree h) (v3 Next) (v3 Prev)
-          (join-first h (v FirstChild x) (v LastChild x) v2 a h ∙ rw (eqb-self h))
-          (join-next h (v FirstChild x) (v LastChild x) v2 a) (join-prev h (v FirstChild x) (v LastChild x) v2 a))
+          (concat-first (v FirstChild x) (v LastChild x) v2 a (Row h) (Row h) ∙ rw (eqb-self h))
+          (concat-next (v FirstChild x) (v LastChild x) v2 a (Row h)) (concat-prev (v FirstChild x) (v LastChild x) v2 a (Row h)))
 
   -- ---- all other lists
 
@@ -155,7 +165,7 @@ module _ (n h : ℕ) (v : Values) (t : Forests) (D : Disjoint t) (B : Beside n h
   pub keeps : (c y : ℕ) → y ≢ none → y ≢ x → occurs y row ≡ 0 → occurs y cs ≡ 0
       → (rootRemoved h x cs (v FirstChild x) (v LastChild x) c v Next y ≡ v Next y) ×
       (rootRemoved h x cs (v FirstChild x) (v LastChild x) c v Prev y ≡ v Prev y)
-  unfolding rootRemoved freeItem
+  unfolding rootRemoved freeItem lastOf
   keeps c y s m k j = rw (ne-eqb x y (λ e. m (sym e))) (go (eqb (v FirstChild x) none) refl)
     where
       before : (v2 Next y ≡ v Next y) × (v2 Prev y ≡ v Prev y)
@@ -165,7 +175,7 @@ module _ (n h : ℕ) (v : Values) (t : Forests) (D : Disjoint t) (B : Beside n h
 
       go : (b : Bool) → eqb (v FirstChild x) none ≡ b → (v3 Next y ≡ v Next y) × (v3 Prev y ≡ v Prev y)
       go true e =
-          let q = join-none h (v FirstChild x) (v LastChild x) v2 (eqb-true (v FirstChild x) none e) in
+          let q = concat-none (v FirstChild x) (v LastChild x) v2 (Row h) (eqb-true (v FirstChild x) none e) in
           (q Next y ∙ before .0, q Prev y ∙ before .1)
       go false e =
           let a : v FirstChild x ≢ none = eqb-false (v FirstChild x) none e in
@@ -173,8 +183,8 @@ module _ (n h : ℕ) (v : Values) (t : Forests) (D : Disjoint t) (B : Beside n h
           omega (arith, occurs-without y x row (omega (arith, x-row))) in
           let p : v2 LastTree h ≢ y = λ z. last-apart y (without x row) s w (sym (row₂ .back) ∙ z) in
           let q : v FirstChild x ≢ y = λ z. head-apart y cs s j (sym (family .front) ∙ z) in (
-            join-next h (v FirstChild x) (v LastChild x) v2 a y ∙ rw (ne-eqb (v2 LastTree h) y p) (before .0),
-            join-prev h (v FirstChild x) (v LastChild x) v2 a y ∙ rw (ne-eqb (v FirstChild x) y q) (before .1),
+            concat-next (v FirstChild x) (v LastChild x) v2 a (Row h) y ∙ rw (ne-eqb (v2 LastTree h) y p) (before .0),
+            concat-prev (v FirstChild x) (v LastChild x) v2 a (Row h) y ∙ rw (ne-eqb (v FirstChild x) y q) (before .1),
           )
 
   abbrev v5 : ℕ → Values
@@ -200,7 +210,7 @@ module _ (n h : ℕ) (v : Values) (t : Forests) (D : Disjoint t) (B : Beside n h
 
   -- the ends of another row
   pub ends : (c g : ℕ) → g ≢ h → (v5 c FirstTree g ≡ v FirstTree g) × (v5 c LastTree g ≡ v LastTree g)
-  unfolding rootRemoved freeItem
+  unfolding rootRemoved freeItem firstOf lastOf
   ends c g m = go (eqb (v FirstChild x) none) refl
     where
       d : eqb h g ≡ false
@@ -215,16 +225,17 @@ module _ (n h : ℕ) (v : Values) (t : Forests) (D : Disjoint t) (B : Beside n h
       go : (b : Bool) → eqb (v FirstChild x) none ≡ b
           → (v3 FirstTree g ≡ v FirstTree g) × (v3 LastTree g ≡ v LastTree g)
       go true e =
-          let q = join-none h (v FirstChild x) (v LastChild x) v2 (eqb-true (v FirstChild x) none e) in
+          let q = concat-none (v FirstChild x) (v LastChild x) v2 (Row h) (eqb-true (v FirstChild x) none e) in
           (q FirstTree g ∙ before .0, q LastTree g ∙ before .1)
       go false e =
           let a : v FirstChild x ≢ none = eqb-false (v FirstChild x) none e in (
-            join-first h (v FirstChild x) (v LastChild x) v2 a g ∙ rw d (before .0),
-            join-last h (v FirstChild x) (v LastChild x) v2 a g ∙ rw d (before .1),
+            concat-first (v FirstChild x) (v LastChild x) v2 a (Row h) (Row g) ∙ rw d (before .0),
+            concat-last (v FirstChild x) (v LastChild x) v2 a (Row h) (Row g) ∙ rw d (before .1),
           )
 
   -- a word of another kind, but for the parents and states
-  pub plain : (f : Field) (i : ℕ) → Plain f → eqb 5 (fieldNumber f) ≡ false → eqb 11 (fieldNumber f) ≡ false
-      → concatenated h (v FirstChild x) (v LastChild x) (released h cs (removed (Row h) x v)) f i ≡ v f i
+  pub plain : (f : Field) (i : ℕ) → Plain (Row h) f → eqb (fieldNumber Parent) (fieldNumber f) ≡ false
+      → eqb (fieldNumber State) (fieldNumber f) ≡ false
+      → concatenated (Row h) (v FirstChild x) (v LastChild x) (released h cs (removed (Row h) x v)) f i ≡ v f i
   plain f i p e d =
-      join-other h (v FirstChild x) (v LastChild x) v2 f i p ∙ released-other h cs v1 f i e d ∙ out-other h x v f i p
+      concat-other (v FirstChild x) (v LastChild x) v2 (Row h) f i p ∙ released-other h cs v1 f i e d ∙ out-other h x v f i p

@@ -21,7 +21,7 @@ use Rattle.rules.proofs.SiblingLists.{once-children}
 use Rattle.store.specs.declared.Owner.the-variants.{Row}
 use Rattle.store.specs.Empty.{freeItem}
 use Rattle.store.specs.Says.{Changes, Says}
-use Rattle.store.specs.Siblings.{ConcatReady, Link, RankFalls, RemoveReady, concatenated, removed}
+use Rattle.store.specs.Siblings.{ConcatReady, Link, RankFalls, RemoveReady, lastOf, concatenated, removed}
 use Rattle.consolidate.specs.Released.{Listed, ReleaseReady, Releases, released}
 use Rattle.consolidate.specs.Removed.{RootOf}
 use Rattle.consolidate.specs.Stored.{Rowed}
@@ -122,7 +122,8 @@ module _ (n h m : ℕ) (w : List ℕ) (t : Forests) (R : Rowed n h m w t) (x : �
       unfolding Releases
       changed = c₂ (childrenOf t x) released-list
 
-      pub concat-ready : ConcatReady n w₂ h a
+      pub concat-ready : ConcatReady n w₂ (Row h) a
+      unfolding lastOf
       concat-ready =
           let D = O .disjoint in
           let F = family n h (R .values) t D (R .beside) (R .row) x (O .member) (O .root) in
@@ -132,8 +133,7 @@ module _ (n h m : ℕ) (w : List ℕ) (t : Forests) (R : Rowed n h m w t) (x : �
           let i : 1 ≤ occurs x (rowOf t h) =
           omega (arith, x-row n h (R .values) t (O .disjoint) (R .beside) (R .row) x (O .member) (O .root)) in
           record {
-            sized = changed .sized;
-            heap = heap-inside;
+            owner = record { sized = changed .sized; inside = heap-inside };
             last = link-in n (without x (rowOf t h))
                 (λ y j. row-inside y (omega (arith, occurs-without y x (rowOf t h) i))) (look n w₂ LastTree h)
                 (λ q z. last-apart (look n w₂ LastTree h) (without x (rowOf t h)) q z (sym l));
@@ -142,7 +142,7 @@ module _ (n h m : ℕ) (w : List ℕ) (t : Forests) (R : Rowed n h m w t) (x : �
           }
 
       module _ {b c : ℕ} (eb : b ≡ look n w LastChild x) (ec : c ≡ look n w Count h) where
-        pub root-removed : {w₃ w₄ w₅ : List ℕ} → Changes n w₂ (concatenated h a b) w₃
+        pub root-removed : {w₃ w₄ w₅ : List ℕ} → Changes n w₂ (concatenated (Row h) a b) w₃
             → Changes n w₃ (freeItem x) w₄ → Changes n w₄ (setWord Count h (c - 1)) w₅
             → Rowed n h m w₅ (removeRoot h x t)
         unfolding rootRemoved freeItem
@@ -160,6 +160,6 @@ module _ (n h m : ℕ) (w : List ℕ) (t : Forests) (R : Rowed n h m w t) (x : �
               beside = remove-beside n h v t D (R .beside) (R .row) x (O .member) (O .root) (c - 1)
                   (omega (arith, g, some-left ec));
               row = row₅ n h v t D (R .beside) (R .row) x (O .member) (O .root) (c - 1);
-              least = plain n h v t D (R .beside) (R .row) x (O .member) (O .root) Minimum h (refl, refl, refl, refl)
+              least = plain n h v t D (R .beside) (R .row) x (O .member) (O .root) Minimum h refl
                   refl refl ∙ R .least;
             }

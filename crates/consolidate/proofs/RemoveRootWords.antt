@@ -25,12 +25,13 @@ use Rattle.store.specs.declared.Owner.the-variants.{Row}
 use Rattle.store.specs.Empty.{freeItem}
 use Rattle.store.specs.Says.{Values}
 use Rattle.store.specs.Siblings.{concatenated, removed}
+use Rattle.store.proofs.ConcatWords.{concat-other}
 use Rattle.consolidate.specs.Chain.{Chain}
 use Rattle.consolidate.specs.Released.{released}
 use Rattle.consolidate.specs.Stored.{Beside}
 use Rattle.consolidate.proofs.Beside.{free-child, not-child, not-row, other-row}
 use Rattle.consolidate.proofs.Chains.{chain-frame}
-use Rattle.consolidate.proofs.MoveWords.{Plain, join-other, out-other, released-in, released-out}
+use Rattle.consolidate.proofs.MoveWords.{out-other, released-in, released-out}
 use Rattle.consolidate.proofs.RemoveRootLinks.{ends, keeps, plain, rootRemoved, x-in}
 
 -- a key that stands nowhere in a row changes nothing of its least item
@@ -103,23 +104,20 @@ module _ (n h : ℕ) (v : Values) (t : Forests) (D : Disjoint t) (B : Beside n h
       keeps n h v t D B R x hx rx c y (some y k) m (other-row t D h y (λ z. omega (arith, z, e)))
       (free-child t D x y inside e)
 
-  plainly : Plain Parent
-  plainly = (refl, refl, refl, refl)
-
   -- parents and states of those that are neither x nor its children
   at-parent : (i : ℕ) → occurs i cs ≡ 0
-      → concatenated h (v FirstChild x) (v LastChild x) (released h cs (removed (Row h) x v)) Parent i ≡ v Parent i
+      → concatenated (Row h) (v FirstChild x) (v LastChild x) (released h cs (removed (Row h) x v)) Parent i ≡ v Parent i
   at-parent i k =
-      join-other h (v FirstChild x) (v LastChild x) (released h cs (removed (Row h) x v)) Parent i plainly
+      concat-other (v FirstChild x) (v LastChild x) (released h cs (removed (Row h) x v)) (Row h) Parent i refl
       ∙ released-out h cs (removed (Row h) x v) Parent i k
-      ∙ out-other h x v Parent i plainly
+      ∙ out-other h x v Parent i refl
 
   at-state : (i : ℕ) → occurs i cs ≡ 0
-      → concatenated h (v FirstChild x) (v LastChild x) (released h cs (removed (Row h) x v)) State i ≡ v State i
+      → concatenated (Row h) (v FirstChild x) (v LastChild x) (released h cs (removed (Row h) x v)) State i ≡ v State i
   at-state i k =
-      join-other h (v FirstChild x) (v LastChild x) (released h cs (removed (Row h) x v)) State i plainly
+      concat-other (v FirstChild x) (v LastChild x) (released h cs (removed (Row h) x v)) (Row h) State i refl
       ∙ released-out h cs (removed (Row h) x v) State i k
-      ∙ out-other h x v State i plainly
+      ∙ out-other h x v State i refl
 
   same-least : (g : ℕ) → g ≢ h → minimum t g ≡ minimum (removeRoot h x t) g
   unfolding minimum removeRoot setFree release
@@ -149,20 +147,20 @@ module _ (n h : ℕ) (v : Values) (t : Forests) (D : Disjoint t) (B : Beside n h
         size = length-set (t .heap) x 0 ∙ B .size;
         keys = byItem x (λ k. rw (eqb-self x, key-x t D h x hx rx))
             (λ i m k. rw (ne-eqb x i (λ e. m (sym e)), getD-set-other (t .key) x i 0 0 m)
-            (plain n h v t D B R x hx rx Key i plainly refl refl ∙ B .keys i k));
+            (plain n h v t D B R x hx rx Key i refl refl refl ∙ B .keys i k));
         parents = byChild t D h x hx rx (λ k. rw (eqb-self x, parent-x t D h x hx rx))
             (λ i m k e u j. rw (ne-eqb x i (λ e. m (sym e)), parent-children t D h x hx rx i m k e)
-            (join-other h (v FirstChild x) (v LastChild x) (released h cs (removed (Row h) x v)) Parent i plainly
+            (concat-other (v FirstChild x) (v LastChild x) (released h cs (removed (Row h) x v)) (Row h) Parent i refl
             ∙ released-in h cs (removed (Row h) x v) i (omega arith) .0))
             (λ i m k j. rw (ne-eqb x i (λ e. m (sym e)), parent-o t D h x hx rx i m k)
             (at-parent i k ∙ B .parents i j));
         ranks = byItem x (λ k. rw (eqb-self x, children-x t D h x hx rx))
             (λ i m k. rw (ne-eqb x i (λ e. m (sym e)), getD-set-other (t .children) x i [] [] m)
-            (plain n h v t D B R x hx rx Rank i plainly refl refl ∙ B .ranks i k));
+            (plain n h v t D B R x hx rx Rank i refl refl refl ∙ B .ranks i k));
         states = byChild t D h x hx rx (λ k. rw (eqb-self x, heap-x t D h x hx rx))
             (λ i m k e u j.
             rw (ne-eqb x i (λ e. m (sym e)), heap-o t D h x hx rx i m, mark-children t D h x hx rx i m k e, e)
-            (join-other h (v FirstChild x) (v LastChild x) (released h cs (removed (Row h) x v)) State i plainly
+            (concat-other (v FirstChild x) (v LastChild x) (released h cs (removed (Row h) x v)) (Row h) State i refl
             ∙ released-in h cs (removed (Row h) x v) i (omega arith) .1 ∙ omega arith))
             (λ i m k j.
             rw (ne-eqb x i (λ e. m (sym e)), heap-o t D h x hx rx i m, mark-o t D h x hx rx i m k)
@@ -171,8 +169,8 @@ module _ (n h : ℕ) (v : Values) (t : Forests) (D : Disjoint t) (B : Beside n h
             (λ i m k. rw (heap-o t D h x hx rx i m) (λ e.
             let f = B .frees i k e in
             let g = free-member i (omega (arith, B .size)) m e in (
-              rw (ne-eqb x i (λ e. m (sym e))) (plain n h v t D B R x hx rx FirstChild i plainly refl refl ∙ f .0),
-              rw (ne-eqb x i (λ e. m (sym e))) (plain n h v t D B R x hx rx LastChild i plainly refl refl ∙ f .1),
+              rw (ne-eqb x i (λ e. m (sym e))) (plain n h v t D B R x hx rx FirstChild i refl refl refl ∙ f .0),
+              rw (ne-eqb x i (λ e. m (sym e))) (plain n h v t D B R x hx rx LastChild i refl refl refl ∙ f .1),
               g .0 ∙ f .2,
               g .1 ∙ f .3,
             )));
@@ -181,8 +179,8 @@ module _ (n h : ℕ) (v : Values) (t : Forests) (D : Disjoint t) (B : Beside n h
             rw (
               getD-set-other (t .children) x p [] [] m,
               ne-eqb x p (λ e. m (sym e)),
-              plain n h v t D B R x hx rx FirstChild p plainly refl refl,
-              plain n h v t D B R x hx rx LastChild p plainly refl refl,
+              plain n h v t D B R x hx rx FirstChild p refl refl refl,
+              plain n h v t D B R x hx rx LastChild p refl refl refl,
             )
             (other-chain (childrenOf t p) (B .families p k f)
             (λ y i. child-member p y (omega (arith, B .size)) m i))));
@@ -190,7 +188,7 @@ module _ (n h : ℕ) (v : Values) (t : Forests) (D : Disjoint t) (B : Beside n h
             let e = ends n h v t D B R x hx rx c g m in
             rw (e .0, e .1, getD-set-other (t .rows) h g (without x (rowOf t h) ++ cs) [] m)
             (other-chain (rowOf t g) (B .otherRows g k m) (λ y i. row-member g y m i));
-        minima = λ g k m. plain n h v t D B R x hx rx Minimum g plainly refl refl ∙ B .minima g k m ∙ same-least g m;
-        counts = λ g k. ap (λ z. cond (eqb h g) c z) (plain n h v t D B R x hx rx Count g plainly refl refl)
+        minima = λ g k m. plain n h v t D B R x hx rx Minimum g refl refl refl ∙ B .minima g k m ∙ same-least g m;
+        counts = λ g k. ap (λ z. cond (eqb h g) c z) (plain n h v t D B R x hx rx Count g refl refl refl)
             ∙ left g k (eqb h g) refl;
       }

@@ -140,25 +140,25 @@ module _ (n h : ℕ) (v : Values) (t : Forests) (D : Disjoint t) (hh : h < 8) (B
   longer-beside =
       record {
         size = B .size;
-        keys = λ i j. row-other h x v Key i (refl, refl, refl, refl) refl ∙ B .keys i j;
+        keys = λ i j. row-other h x v Key i refl refl ∙ B .keys i j;
         parents = byItem x (λ j. row-parent h x v x ∙ rw (eqb-self x) (sym (x-root .1)))
             (λ i d j. row-parent h x v i ∙ rw (ne-eqb x i (λ z. d (sym z))) (B .parents i j));
-        ranks = λ i j. row-other h x v Rank i (refl, refl, refl, refl) refl ∙ B .ranks i j;
-        states = λ i j. row-other h x v State i (refl, refl, refl, refl) refl ∙ B .states i j;
+        ranks = λ i j. row-other h x v Rank i refl refl ∙ B .ranks i j;
+        states = λ i j. row-other h x v State i refl refl ∙ B .states i j;
         frees = λ i j z.
             let f = B .frees i j z in
             let g = keeps i (omega (arith, B .size)) (other-row t D h i (λ q. omega (arith, q, z))) in (
-              row-other h x v FirstChild i (refl, refl, refl, refl) refl ∙ f .0,
-              row-other h x v LastChild i (refl, refl, refl, refl) refl ∙ f .1,
+              row-other h x v FirstChild i refl refl ∙ f .0,
+              row-other h x v LastChild i refl refl ∙ f .1,
               g .0 ∙ f .2,
               g .1 ∙ f .3,
             );
         families = λ p j f. rw (
-          row-other h x v FirstChild p (refl, refl, refl, refl) refl,
-          row-other h x v LastChild p (refl, refl, refl, refl) refl,
+          row-other h x v FirstChild p refl refl,
+          row-other h x v LastChild p refl refl,
         ) (other-chain (childrenOf t p) (B .families p j f) (λ y i. child-member p y (omega (arith, B .size)) i));
         otherRows = λ g j d. rw (row-first h x v g, row-last h x v g, ne-eqb h g (λ z. d (sym z)))
             (other-chain (rowOf t g) (B .otherRows g j d) (λ y i. row-member g y d i));
-        minima = λ g j d. row-other h x v Minimum g (refl, refl, refl, refl) refl ∙ B .minima g j d;
-        counts = λ g j. row-other h x v Count g (refl, refl, refl, refl) refl ∙ B .counts g j;
+        minima = λ g j d. row-other h x v Minimum g refl refl ∙ B .minima g j d;
+        counts = λ g j. row-other h x v Count g refl refl ∙ B .counts g j;
       }

@@ -160,7 +160,7 @@ pub fn remove_root(s: &mut [u32], n: usize, h: u32, x: u32)
     let count = get(s, n, Field::Count, h);
     remove(s, n, Owner::Row(h), x);
     release(s, n, h, first, rank);
-    concat(s, n, h, first, end);
+    concat(s, n, Owner::Row(h), first, end);
     free_item(s, n, x);
     put(s, n, Field::Count, h, count - 1);
 }

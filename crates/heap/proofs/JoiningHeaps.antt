@@ -13,6 +13,7 @@ use Rattle.rules.specs.declared.Field.the-variants.{Count, FirstTree, Key, Last
 use Rattle.rules.specs.SetWord.{fieldNumber, setWord}
 use Rattle.rules.specs.Words.{look, room}
 use Rattle.rules.proofs.Places.{number-injective}
+use Rattle.store.specs.declared.Owner.the-variants.{Row}
 use Rattle.store.specs.Empty.{emptyHeap}
 use Rattle.store.specs.Says.{Changes, Says, Sized, Values}
 use Rattle.store.specs.Siblings.{Link, concatenated}
@@ -30,15 +31,15 @@ use Rattle.heap.specs.Lesser.{lesser}
 use Rattle.heap.proofs.LeastOfTwo.{lesser-keys}
 
 pub pour-changes : {n : ℕ} {w w₁ w₂ : List ℕ} {a b x y : ℕ} → RehomeReady n w a b → x ≡ look n w FirstTree b
-    → y ≡ look n w LastTree b → Changes n w (concatenated a x y) w₁ → Changes n w₁ (emptyHeap b) w₂
+    → y ≡ look n w LastTree b → Changes n w (concatenated (Row a) x y) w₁ → Changes n w₁ (emptyHeap b) w₂
     → Changes n w (poured a b) w₂
 unfolding poured
 pour-changes {n} {w} {w₁} {w₂} {a} {b} {x} {y} r p q c d =
     record {
       sized = d .sized;
       says = λ v s.
-          subst (λ z. Says n w₂ (emptyHeap b (concatenated a (v FirstTree b) z v))) (q ∙ s .says LastTree b (r .from))
-          (subst (λ z. Says n w₂ (emptyHeap b (concatenated a z y v))) (p ∙ s .says FirstTree b (r .from))
+          subst (λ z. Says n w₂ (emptyHeap b (concatenated (Row a) (v FirstTree b) z v))) (q ∙ s .says LastTree b (r .from))
+          (subst (λ z. Says n w₂ (emptyHeap b (concatenated (Row a) z y v))) (p ∙ s .says FirstTree b (r .from))
           (d .says _ (c .says v s)));
     }
 

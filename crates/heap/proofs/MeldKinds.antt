@@ -31,7 +31,6 @@ use Rattle.rules.specs.Words.{headOr, lastOr, nextIn, prevIn, room, siblings, s
 use Rattle.rules.proofs.ConcatLinks.{next-behind, prev-before}
 use Rattle.rules.proofs.Counts.{count-meld}
 use Rattle.store.specs.Empty.{emptyHeap}
-use Rattle.store.specs.Siblings.{firstOf, joined, setFirst, setLast, setNext}
 use Rattle.heap.specs.HeapsJoined.{heapsJoined, movedState, poured, rehomed}
 use Rattle.heap.specs.Lesser.{lesser}
 use Rattle.heap.proofs.FollowedRow.{
@@ -155,7 +154,7 @@ module _ (t : Forests) (D : Disjoint t) (a b : ℕ) (o : (a < 8) × (b < 8) × (
 
   pub melded-word : (n : ℕ) → tableSize t ≡ n → (f : Field) (j : ℕ) → j < room n f
       → rehomed a b (heapsJoined a b (word t)) f j ≡ word new f j
-  unfolding rehomed heapsJoined poured emptyHeap word joined setLast setNext setFirst firstOf meld headOr lastOr
+  unfolding rehomed heapsJoined poured emptyHeap word meld headOr lastOr
   melded-word n e FirstTree j l = ap (cond (eqb b j) none) (first-after t D a two n₂ j) ∙ row-word (headOr none) j
   melded-word n e LastTree j l = ap (cond (eqb b j) none) (last-after t D a two n₂ j) ∙ row-word (lastOr none) j
   melded-word n e Minimum j l =

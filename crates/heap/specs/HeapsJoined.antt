@@ -6,6 +6,7 @@ use lib.Dec.{eqb, ltb}
 use Rattle.rules.specs.declared.Field.the-variants.{FirstTree, LastTree, Minimum, Count, Key, State}
 use Rattle.rules.specs.SetWord.{fieldNumber, setWord}
 use Rattle.rules.specs.Words.{look}
+use Rattle.store.specs.declared.Owner.the-variants.{Row}
 use Rattle.store.specs.Empty.{emptyHeap}
 use Rattle.store.specs.Says.{Sized, Values}
 use Rattle.store.specs.Siblings.{Link, concatenated}
@@ -13,7 +14,7 @@ use Rattle.heap.specs.Lesser.{lesser}
 
 -- b's row follows a's, and b is empty
 unfoldable pub poured : ℕ → ℕ → Values → Values
-poured a b v = emptyHeap b (concatenated a (v FirstTree b) (v LastTree b) v)
+poured a b v = emptyHeap b (concatenated (Row a) (v FirstTree b) (v LastTree b) v)
 
 -- a has the items of both, and the lesser of their minima
 unfoldable pub heapsJoined : ℕ → ℕ → Values → Values

@@ -10,6 +10,7 @@ ghost use Rattle.heap.specs.HeapsJoined.{poured, heapsJoined, movedState
 ghost use Rattle.heap.specs.HeapsJoined.{PourReady, JoinHeapsReady, RehomeReady};
 use super::lesser::lesser_of;
 use rules::Field;
+use store::Owner;
 use store::concat;
 use store::empty_heap;
 use store::get;
@@ -22,7 +23,7 @@ fn pour(s: &mut [u32], n: usize, a: u32, b: u32)
 {
     let x = get(s, n, Field::FirstTree, b);
     let y = get(s, n, Field::LastTree, b);
-    concat(s, n, a, x, y);
+    concat(s, n, Owner::Row(a), x, y);
     empty_heap(s, n, b);
 }
 

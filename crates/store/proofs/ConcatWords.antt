@@ -1,151 +1,100 @@
--- The words after a concatenation are those of the forests in which the list follows row h, but for the links of its
--- first item: they are right only when that item has come to the row.
-use Prim.Native.Nat.{ℕ, _+_, _<_}
-use mathlib.Core.Path.{_≡_, refl, sym, ap}
+-- The words after a chain from x to y was joined to the list of an owner.
+use Prim.Native.Nat.{ℕ}
+use mathlib.Core.Path.{_≡_, refl}
 use mathlib.Core.Logic.{_≢_}
-use mathlib.Core.List.{List, [], _∷_, _++_, append-nil}
-use mathlib.Core.Bool.{Bool, true, false, cond}
-use native.Mathlib.Omega.{arith}
-use lib.ListN.{length-set}
-use lib.Seq.{set-getD}
+use mathlib.Core.Bool.{Bool, true, false, cond, _||_, true≢false}
 use lib.Dec.{eqb}
-use borrow.Author.Tests.{eqb-true, eqb-false, ne-eqb}
+use borrow.Author.Tests.{ne-eqb}
 use Rattle.rules.specs.declared.Field.{Field}
-use Rattle.rules.specs.declared.Field.the-variants.{
-  FirstTree,
-  LastTree,
-  Minimum,
-  Count,
-  Key,
-  Parent,
-  FirstChild,
-  LastChild,
-  Next,
-  Prev,
-  Rank,
-  State,
-}
-use Rattle.rules.specs.Lists.{delta, occurs, sumBy}
-use Rattle.rules.specs.Forests.{Forests, none, rowOf, heapOf, setRow}
-use Rattle.rules.specs.Words.{room, headOr, lastOr, nextIn, prevIn, siblings, unlessFree, word}
-use Rattle.rules.proofs.Occurs.{delta-self}
-use Rattle.rules.proofs.Siblings.{last-in}
-use Rattle.rules.proofs.ConcatLinks.{head-concat, last-concat, next-before, prev-before}
-use Rattle.rules.proofs.Relinks.{at-end}
-use Rattle.store.specs.declared.Owner.the-variants.{Row}
-use Rattle.store.specs.Says.{Values, Says, Changes}
+use Rattle.rules.specs.declared.Field.the-variants.{FirstTree, LastTree, FirstChild, LastChild, Next, Prev}
+use Rattle.rules.specs.Forests.{none}
+use Rattle.rules.specs.SetWord.{fieldNumber}
+use Rattle.store.specs.declared.Owner.{Owner}
+use Rattle.store.specs.declared.Owner.the-variants.{Row, Children}
+use Rattle.store.specs.Says.{Values}
 use Rattle.store.specs.Siblings.{firstOf, lastOf, setFirst, setLast, setNext, joined, concatenated}
-use Rattle.store.specs.Families.{listOf, ownerOf, wordBut, loose, Shape, Family, Holds}
-use Rattle.store.proofs.Says.{says-as}
-use Rattle.store.proofs.Families.{
-  Relisted,
-  Stand,
-  inside,
-  outside,
-  stand,
-  inside-word,
-  inside-relisted,
-  outside-relisted,
-  row-relisted,
-}
-use Rattle.store.proofs.Listed.{none-out, absent, not-none, set-at}
-use Rattle.store.proofs.Holds.{holds-says, reshape}
 
--- a value as it is at z, any other by a law
-at-loose : (z j r : ℕ) (g : ℕ → ℕ) → (j ≢ z → g j ≡ r) → g j ≡ cond (eqb z j) (g z) r
-at-loose z j r g e = go (eqb z j) refl
-  where
-    go : (t : Bool) → eqb z j ≡ t → g j ≡ cond t (g z) r
-    go true q = ap g (sym (eqb-true z j q))
-    go false q = e (λ p. eqb-false z j q (sym p))
+-- two owners are one
+abbrev pub sameOwner : Owner → Owner → Bool
+sameOwner (Row h) (Row g) = eqb h g
+sameOwner (Row h) (Children p) = false
+sameOwner (Children p) (Row h) = false
+sameOwner (Children p) (Children q) = eqb p q
 
-module _ (n : ℕ) (counts minima : ℕ → ℕ) (t : Forests) (h z : ℕ) (zs : List ℕ) (S : Shape n t) (F : Family n t (Row h))
-    (A : (y : ℕ) → heapOf t y ≢ 0 → ownerOf t y ≡ Row h → occurs y (z ∷ zs) ≡ 0) (m : z ≢ none) where
-  R : Relisted t (setRow h (rowOf t h ++ (z ∷ zs)) t) (Row h) z (rowOf t h ++ (z ∷ zs))
-  R = row-relisted n t z h (rowOf t h ++ (z ∷ zs)) S (F .present)
+-- the kinds of the words that name the ends of a list
+abbrev pub firstKind : Owner → Field
+firstKind (Row h) = FirstTree
+firstKind (Children p) = FirstChild
 
-  next-law : (j : ℕ) → j < n → j ≢ z
-      → cond (eqb (lastOr none (rowOf t h)) j) z (word t Next j) ≡ word (setRow h (rowOf t h ++ (z ∷ zs)) t) Next j
-  unfolding word listOf headOr
-  next-law j k ne = go (stand t (Row h) j)
+abbrev pub lastKind : Owner → Field
+lastKind (Row h) = LastTree
+lastKind (Children p) = LastChild
+
+-- a kind of word that is no link of a list of this owner
+abbrev pub Plain : Owner → Field → Type 0
+Plain o f =
+    (eqb (fieldNumber (firstKind o)) (fieldNumber f) || (eqb (fieldNumber (lastKind o)) (fieldNumber f)
+    || (eqb (fieldNumber Next) (fieldNumber f) || eqb (fieldNumber Prev) (fieldNumber f))))
+    ≡ false
+
+or-false : (a b : Bool) → (a || b) ≡ false → (a ≡ false) × (b ≡ false)
+or-false true b e = absurd (true≢false e)
+or-false false b e = (refl, e)
+
+-- it is none of the four
+pub record Apart (o : Owner) (f : Field) : Type 0 where
+  pub first : eqb (fieldNumber (firstKind o)) (fieldNumber f) ≡ false
+  pub last : eqb (fieldNumber (lastKind o)) (fieldNumber f) ≡ false
+  pub next : eqb (fieldNumber Next) (fieldNumber f) ≡ false
+  pub prev : eqb (fieldNumber Prev) (fieldNumber f) ≡ false
+
+pub apart : (o : Owner) (f : Field) → Plain o f → Apart o f
+apart o f e =
+    let a = or-false (eqb (fieldNumber (firstKind o)) (fieldNumber f)) _ e in
+    let b = or-false (eqb (fieldNumber (lastKind o)) (fieldNumber f)) _ (a .1) in
+    let c = or-false (eqb (fieldNumber Next) (fieldNumber f)) _ (b .1) in
+    record { first = a .0; last = b .0; next = c .0; prev = c .1 }
+
+module _ (x y : ℕ) (v : Values) where
+  pub concat-none : (o : Owner) → x ≡ none → (f : Field) (i : ℕ) → concatenated o x y v f i ≡ v f i
+  unfolding concatenated
+  concat-none o e f i = rw e
+
+  pub concat-other : (o : Owner) (f : Field) (i : ℕ) → Plain o f → concatenated o x y v f i ≡ v f i
+  unfolding concatenated joined setNext setFirst setLast firstOf lastOf
+  concat-other o f i e = go (eqb x none)
     where
-      go : Stand t (Row h) j
-          → cond (eqb (lastOr none (rowOf t h)) j) z (unlessFree t j (nextIn j (siblings t j)))
-          ≡ unlessFree (setRow h (rowOf t h ++ (z ∷ zs)) t) j
-          (nextIn j (siblings (setRow h (rowOf t h ++ (z ∷ zs)) t) j))
-      go (inside p d) =
-          rw (inside-word t (Row h) j (nextIn j) p d, inside-relisted R j (nextIn j) ne p d)
-          (sym (next-before none j (rowOf t h) (z ∷ zs) (F .once) (λ e. not-none S j k (sym e)) (A j p d)))
-      go (outside p) =
-          rw (ne-eqb (lastOr none (rowOf t h)) j (at-end (lastOr none (rowOf t h)) j (rowOf t h)
-          (last-in none (rowOf t h)) (not-none S j k) (absent n t (Row h) F j p)))
-          (sym (outside-relisted R j (nextIn j) ne p))
+      kept : (o : Owner) → Apart o f → joined o (lastOf o v) x y v f i ≡ v f i
+      kept (Row h) e = simp (e .first, e .last, e .next, e .prev)
+      kept (Children p) e = simp (e .first, e .last, e .next, e .prev)
 
-  prev-law : (j : ℕ) → j ≢ z
-      → cond (eqb z j) (lastOr none (rowOf t h)) (word t Prev j) ≡ word (setRow h (rowOf t h ++ (z ∷ zs)) t) Prev j
-  unfolding word listOf
-  prev-law j ne = rw (ne-eqb z j (λ e. ne (sym e))) (go (stand t (Row h) j))
-    where
-      go : Stand t (Row h) j
-          → unlessFree t j (prevIn none j (siblings t j))
-          ≡ unlessFree (setRow h (rowOf t h ++ (z ∷ zs)) t) j
-          (prevIn none j (siblings (setRow h (rowOf t h ++ (z ∷ zs)) t) j))
-      go (inside p d) =
-          rw (inside-word t (Row h) j (prevIn none j) p d, inside-relisted R j (prevIn none j) ne p d)
-          (sym (prev-before none j (rowOf t h) (z ∷ zs) (A j p d)))
-      go (outside p) = sym (outside-relisted R j (prevIn none j) ne p)
+      go : (t : Bool) → cond t v (joined o (lastOf o v) x y v) f i ≡ v f i
+      go true = refl
+      go false = kept o (apart o f e)
 
-  first-law : cond (eqb (lastOr none (rowOf t h)) none) z (headOr none (rowOf t h))
-      ≡ headOr none (rowOf t h ++ (z ∷ zs))
-  unfolding headOr listOf
-  first-law = sym (head-concat (rowOf t h) (z ∷ zs) (none-out n t (Row h) S F))
+  module _ (some : x ≢ none) where
+    pub concat-next : (o : Owner) (j : ℕ) → concatenated o x y v Next j ≡ cond (eqb (lastOf o v) j) x (v Next j)
+    unfolding concatenated joined setNext setFirst setLast firstOf lastOf
+    concat-next (Row h) j = rw (ne-eqb x none some)
+    concat-next (Children p) j = rw (ne-eqb x none some)
 
-  last-law : lastOr none (z ∷ zs) ≡ lastOr none (rowOf t h ++ (z ∷ zs))
-  unfolding lastOr
-  last-law = sym (last-concat none (rowOf t h) (z ∷ zs))
+    pub concat-prev : (o : Owner) (j : ℕ) → concatenated o x y v Prev j ≡ cond (eqb x j) (lastOf o v) (v Prev j)
+    unfolding concatenated joined setNext setFirst setLast firstOf lastOf
+    concat-prev (Row h) j = rw (ne-eqb x none some)
+    concat-prev (Children p) j = rw (ne-eqb x none some)
 
-  -- the change, and what the words say after it
-  after : Values
-  after = joined (Row h) (lastOr none (rowOf t h)) z (lastOr none (z ∷ zs)) (wordBut counts minima t)
+    -- the ends of any list
+    pub concat-first : (o q : Owner) → firstOf q (concatenated o x y v)
+        ≡ cond (sameOwner o q) (cond (eqb (lastOf o v) none) x (firstOf o v)) (firstOf q v)
+    unfolding concatenated joined setNext setFirst setLast firstOf lastOf
+    concat-first (Row h) (Row g) = rw (ne-eqb x none some)
+    concat-first (Row h) (Children q) = rw (ne-eqb x none some)
+    concat-first (Children p) (Row g) = rw (ne-eqb x none some)
+    concat-first (Children p) (Children q) = rw (ne-eqb x none some)
 
-  concat-word : (f : Field) (j : ℕ) → j < room n f
-      → after f j
-      ≡ loose z (after Next z) (after Prev z) (wordBut counts minima (setRow h (rowOf t h ++ (z ∷ zs)) t)) f j
-  unfolding after joined setLast setFirst setNext firstOf lastOf loose wordBut word unlessFree
-  concat-word FirstTree j k =
-      set-at (t .rows) h j _ (rowOf t h ++ (z ∷ zs)) (λ _. headOr none) (omega (arith, F .present, S .rows8))
-      first-law
-  concat-word LastTree j k =
-      set-at (t .rows) h j _ (rowOf t h ++ (z ∷ zs)) (λ _. lastOr none) (omega (arith, F .present, S .rows8)) last-law
-  concat-word Minimum j k = refl
-  concat-word Count j k = refl
-  concat-word Key j k = refl
-  concat-word Parent j k = refl
-  concat-word FirstChild j k = refl
-  concat-word LastChild j k = refl
-  concat-word Next j k = at-loose z j _ (after Next) (next-law j k)
-  concat-word Prev j k = at-loose z j _ (after Prev) (prev-law j)
-  concat-word Rank j k = refl
-  concat-word State j k = refl
-
-module _ {n : ℕ} {w w′ : List ℕ} {counts minima : ℕ → ℕ} {t : Forests} where
-  -- A list of items that are in other lists follows row h.
-  pub concat-holds : (h : ℕ) (l : List ℕ) → Holds n w counts minima t none → Family n t (Row h)
-      → ((y : ℕ) → heapOf t y ≢ 0 → ownerOf t y ≡ Row h → occurs y l ≡ 0) → occurs none l ≡ 0
-      → Changes n w (concatenated h (headOr none l) (lastOr none l)) w′
-      → Holds n w′ counts minima (setRow h (rowOf t h ++ l) t) (headOr none l)
-  unfolding concatenated headOr after wordBut word occurs sumBy
-  concat-holds h [] H F A o c =
-      rw (append-nil (rowOf t h), set-getD (t .rows) h [])
-      (record { next = H .next; prev = H .prev; says = c .says _ (H .says); shape = H .shape })
-  concat-holds h (z ∷ zs) H F A o c =
-      let m : z ≢ none = λ e. omega (arith, delta-self none, ap (delta none) e) in
-      let v : Values = after n counts minima t h z zs (H .shape) F A m in
-      let s : Says n w′ v = rw (ne-eqb z none m) at (c .says (wordBut counts minima t) (holds-says H)) in
-      record {
-        next = v Next z;
-        prev = v Prev z;
-        says = says-as n w′ v _ s (concat-word n counts minima t h z zs (H .shape) F A m);
-        shape = reshape (setRow h (rowOf t h ++ (z ∷ zs)) t) (H .shape)
-            (length-set (t .rows) h (rowOf t h ++ (z ∷ zs))) refl refl refl refl refl;
-      }
+    pub concat-last : (o q : Owner) → lastOf q (concatenated o x y v) ≡ cond (sameOwner o q) y (lastOf q v)
+    unfolding concatenated joined setNext setFirst setLast firstOf lastOf
+    concat-last (Row h) (Row g) = rw (ne-eqb x none some)
+    concat-last (Row h) (Children q) = rw (ne-eqb x none some)
+    concat-last (Children p) (Row g) = rw (ne-eqb x none some)
+    concat-last (Children p) (Children q) = rw (ne-eqb x none some)

@@ -4,7 +4,7 @@ use mathlib.Core.Path.{_≡_, subst, _∙_}
 use mathlib.Core.Logic.{_≢_}
 use mathlib.Core.List.{List}
 use borrow.Author.Tests.{ne-eqb}
-use Rattle.rules.specs.declared.Field.the-variants.{LastTree, Parent, Next, Prev, Rank}
+use Rattle.rules.specs.declared.Field.the-variants.{Parent, Next, Prev, Rank}
 use Rattle.rules.specs.Forests.{none}
 use Rattle.rules.specs.SetWord.{setWord}
 use Rattle.rules.specs.Words.{look}
@@ -67,20 +67,20 @@ pub join-changes : {n : ℕ} {w w₁ w₂ w₃ : List ℕ} (o : Owner) (l x y : 
 unfolding joined
 join-changes o l x y a b c = record { sized = c .sized; says = λ v s. c .says _ (b .says _ (a .says v s)) }
 
-pub concat-changes : {n : ℕ} {w w₁ : List ℕ} (h l x y : ℕ) → x ≢ none → h < 8 → l ≡ look n w LastTree h
-    → Changes n w (joined (Row h) l x y) w₁ → Changes n w (concatenated h x y) w₁
+pub concat-changes : {n : ℕ} {w w₁ : List ℕ} (o : Owner) (l x y : ℕ) → x ≢ none → Inside n o → l ≡ lastOf o (look n w)
+    → Changes n w (joined o l x y) w₁ → Changes n w (concatenated o x y) w₁
 unfolding concatenated
-concat-changes {n} {w} {w₁} h l x y m k e c =
+concat-changes {n} {w} {w₁} o l x y m k e c =
     record {
       sized = c .sized;
       says = λ v s.
           rw (ne-eqb x none m)
-          (subst (λ z. Says n w₁ (joined (Row h) z x y v)) (e ∙ s .says LastTree h k) (c .says v s));
+          (subst (λ z. Says n w₁ (joined o z x y v)) (e ∙ last-says o k s) (c .says v s));
     }
 
-pub concat-none : {n : ℕ} {w : List ℕ} (h x y : ℕ) → x ≡ none → Sized n w → Changes n w (concatenated h x y) w
+pub concat-empty : {n : ℕ} {w : List ℕ} (o : Owner) (x y : ℕ) → x ≡ none → Sized n w → Changes n w (concatenated o x y) w
 unfolding concatenated
-concat-none h x y e s = record { sized = s; says = λ v t. rw e t }
+concat-empty o x y e s = record { sized = s; says = λ v t. rw e t }
 
 pub append-changes : {n : ℕ} {w w₁ w₂ w₃ w₄ : List ℕ} (o : Owner) (i l p : ℕ) → Inside n o → l ≡ lastOf o (look n w)
     → p ≡ parentIn o → Changes n w (addRank o) w₁ → Changes n w₁ (setWord Next i none) w₂

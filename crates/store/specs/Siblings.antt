@@ -74,9 +74,10 @@ dropRank (Children p) v = setWord Rank p (v Rank p - 1) v
 unfoldable pub joined : Owner → ℕ → ℕ → ℕ → Values → Values
 joined o l x y v = setLast o y (setWord Prev x l (setNext o l x v))
 
--- the same for row h, where x may be none: the chain is empty then
-unfoldable pub concatenated : ℕ → ℕ → ℕ → Values → Values
-concatenated h x y v = cond (eqb x none) v (joined (Row h) (v LastTree h) x y v)
+-- The same where x may be none: the chain is empty then. Links alone change: the parents and marks of the chain's items
+-- and the rank of the owner stay.
+unfoldable pub concatenated : Owner → ℕ → ℕ → Values → Values
+concatenated o x y v = cond (eqb x none) v (joined o (lastOf o v) x y v)
 
 -- The item i becomes the last of the list, with the owner as its parent.
 unfoldable pub appended : Owner → ℕ → Values → Values
@@ -102,10 +103,9 @@ pub record JoinReady (n : ℕ) (w : List ℕ) (o : Owner) (l x : ℕ) : Type 0 w
   pub last : Link n l
   pub item : x < n
 
-pub record ConcatReady (n : ℕ) (w : List ℕ) (h x : ℕ) : Type 0 where
-  pub sized : Sized n w
-  pub heap : h < 8
-  pub last : Link n (look n w LastTree h)
+pub record ConcatReady (n : ℕ) (w : List ℕ) (o : Owner) (x : ℕ) : Type 0 where
+  pub owner : OwnerReady n w o
+  pub last : Link n (lastOf o (look n w))
   pub first : Link n x
 
 -- a rank that can rise, or fall, by 1

@@ -276,14 +276,15 @@ fn join(s: &mut [u32], n: usize, o: Owner, l: u32, x: u32, y: u32)
     put_last(s, n, o, y);
 }
 
-// The same at the end of row h, where the chain may be empty: x is NONE then.
-pub fn concat(s: &mut [u32], n: usize, h: u32, x: u32, y: u32)
-    requires { ⌜ ConcatReady n (now s) h x ⌝ }
-    ensures { λ r. ⌜ Changes n (now (s .entry)) (concatenated h x y) (now (s .exit)) ⌝ }
+// The same where the chain may be empty: x is NONE then. Only links are joined: the parents and marks of the chain's items
+// and the rank of the owner are the caller's.
+pub fn concat(s: &mut [u32], n: usize, o: Owner, x: u32, y: u32)
+    requires { ⌜ ConcatReady n (now s) o x ⌝ }
+    ensures { λ r. ⌜ Changes n (now (s .entry)) (concatenated o x y) (now (s .exit)) ⌝ }
 {
     if x != NONE {
-        let l = get(s, n, Field::LastTree, h);
-        join(s, n, Owner::Row(h), l, x, y);
+        let l = last(s, n, o);
+        join(s, n, o, l, x, y);
     }
 }
 

@@ -1,6 +1,8 @@
 // The scope paper's runs (b) to (h) on the words of a store for nine items. Of each run: its name, the answers of its
-// lines, the row of heap 0, and all words.
-ghost use Rattle.store.specs.Says.{Sized};
+// lines, the row of heap 0, and all words: a line for each heap, then a line for each kind of an item's words.
+ghost use mathlib.Core.Path.{_≡_};
+ghost use Rattle.rules.specs.Words.{room};
+ghost use Rattle.store.specs.Says.{Sized, Within};
 use libc::STDOUT_FILENO;
 use rules::Field;
 use store::get;
@@ -29,18 +31,49 @@ fn show_row(s: &[u32])
     io::write_all(STDOUT_FILENO, b"\n");
 }
 
-// All words, eight to a line.
-fn show_words(s: &[u32]) {
-    let mut i = 0;
-    while i < s.len() {
-        let x = s[i];
-        if i % 8 == 7 {
-            print(x, b'\n');
-        } else {
-            print(x, b' ');
-        }
-        i += 1;
+// Word i of a kind, and a byte after it.
+fn show_word(s: &[u32], f: Field, i: u32, end: u8)
+    requires { ⌜ Within 9 (now s) f i ⌝ }
+{
+    print(get(s, 9, f, i), end);
+}
+
+// The four words of each heap, a line for each.
+fn show_heaps(s: &[u32])
+    requires { ⌜ Sized 9 (now s) ⌝ }
+{
+    for h in 0..8 {
+        show_word(s, Field::FirstTree, h, b' ');
+        show_word(s, Field::LastTree, h, b' ');
+        show_word(s, Field::Minimum, h, b' ');
+        show_word(s, Field::Count, h, b'\n');
     }
+}
+
+// The words of one kind of the nine items, on a line.
+fn show_kind(s: &[u32], f: Field)
+    requires { ⌜ Sized 9 (now s) ⌝ }
+    requires { ⌜ room 9 f ≡ 9 ⌝ }
+{
+    for i in 0..8 {
+        show_word(s, f, i, b' ');
+    }
+    show_word(s, f, 8, b'\n');
+}
+
+// All words: those of the heaps, then those of the items by kind.
+fn show_words(s: &[u32])
+    requires { ⌜ Sized 9 (now s) ⌝ }
+{
+    show_heaps(s);
+    show_kind(s, Field::Key);
+    show_kind(s, Field::Parent);
+    show_kind(s, Field::FirstChild);
+    show_kind(s, Field::LastChild);
+    show_kind(s, Field::Next);
+    show_kind(s, Field::Prev);
+    show_kind(s, Field::Rank);
+    show_kind(s, Field::State);
 }
 
 // A fresh run of a sheet, and what it leaves.

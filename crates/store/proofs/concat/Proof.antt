@@ -2,7 +2,7 @@
 use borrow.Author.Needs.{needs}
 use mathlib.Core.Path.{sym, subst}
 use Rattle.store.specs.Siblings.{Link}
-use Rattle.store.proofs.Moves.{concat-changes, concat-none}
+use Rattle.store.proofs.Moves.{concat-changes, concat-empty}
 use Rattle.store.proofs.concat.Statement.{statement}
 use Rattle.store.proofs.concat.Tie as tie
 
@@ -11,8 +11,8 @@ join-requires c κs =
     let c3 = c .before .before .before in
     let c0 = c3 .before .before in
     record {
-      owner = record { sized = c0 .pre .sized; inside = c0 .pre .heap };
-      last = subst (Link (c0 .args .n)) (sym (c .before .get .ensures)) (c0 .pre .last);
+      owner = c0 .pre .owner;
+      last = subst (Link (c0 .args .n)) (sym (c .before .last .ensures)) (c0 .pre .last);
       item = c0 .pre .first (c3 .if1 .taken);
     }
 
@@ -21,7 +21,8 @@ returns c =
     let c2 = c .before .before in
     let c6 = c2 .before .before .before .before in
     let c0 = c6 .before .before in
-    concat-changes _ _ _ _ (c6 .if1 .taken) (c0 .pre .heap) (c2 .before .before .get .ensures) (c2 .join .ensures)
+    concat-changes _ _ _ _ (c6 .if1 .taken) (c0 .pre .owner .inside) (c2 .before .before .last .ensures)
+    (c2 .join .ensures)
 
 pub concat-spec : {M : Type 1} → statement M
 concat-spec =
@@ -31,4 +32,4 @@ concat-spec =
     join-requires
     (λ c. search needs)
     returns
-    (λ c. concat-none _ _ _ (c .if1 .left) (c .before .before .pre .sized)))
+    (λ c. concat-empty _ _ _ (c .if1 .left) (c .before .before .pre .owner .sized)))

@@ -1,18 +1,18 @@
 -- `heap::meld::pour` meets its contract.
 use borrow.Author.Needs.{needs}
 use mathlib.Core.Path.{sym, subst}
-use Rattle.store.specs.Siblings.{Link}
+use Rattle.store.specs.Siblings.{Link, lastOf}
 use Rattle.heap.proofs.JoiningHeaps.{pour-changes}
 use Rattle.heap.proofs.meld.pour.Statement.{statement}
 use Rattle.heap.proofs.meld.pour.Tie as tie
 
 concat-requires : tie.Need-concat-requires
+unfolding lastOf
 concat-requires c κs =
     let c3 = c .before .before .before in
     let c6 = c3 .before .before .before in
     record {
-      sized = c6 .pre .heaps .sized;
-      heap = c6 .pre .heaps .into;
+      owner = record { sized = c6 .pre .heaps .sized; inside = c6 .pre .heaps .into };
       last = c6 .pre .last;
       first = subst (Link (c6 .args .n)) (sym (c3 .get .ensures)) (c6 .pre .first);
     }

@@ -1,0 +1,28 @@
+-- `worked::show_heaps` meets its contract: the words of eight heaps are in the store.
+use Prim.Native.Nat.{_≤_, _-_}
+use borrow.Author.Needs.{needs}
+use native.Mathlib.Omega.{arith}
+use Rattle.worked.proofs.show_heaps.Statement.{statement}
+use Rattle.worked.proofs.show_heaps.Tie as tie
+
+abbrev Inv-loop : tie.InvT-loop
+Inv-loop s h₀ h = h ≤ 8
+
+abbrev μ-loop : tie.MeasureT-loop
+μ-loop s h₀ h = 8 - h
+
+pub show-heaps-spec : {M : Type 1} → statement M
+show-heaps-spec =
+    tie.close
+    (tie.spec
+    Inv-loop
+    μ-loop
+    (λ c. omega arith)
+    (λ c κs. search needs)
+    (λ c κs. search needs)
+    (λ c κs. search needs)
+    (λ c κs. search needs)
+    (λ c. omega arith)
+    (λ c. omega arith)
+    (λ c. omega arith)
+    (λ c. search needs))
