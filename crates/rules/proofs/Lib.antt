@@ -34,6 +34,7 @@ pub mod EmptyForests
 pub mod Places
 pub mod Words
 pub mod Siblings
+pub mod LeastOfTwo
 pub mod ConcatLinks
 pub mod RemoveLinks
 pub mod Relinks

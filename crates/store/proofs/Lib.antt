@@ -1,4 +1,5 @@
 pub mod Says
+pub mod ItemOrder
 pub mod Owners
 pub mod Moves
 pub mod Families
