@@ -2,7 +2,7 @@
 use mathlib.Core.Path.{refl}
 use Rattle.rules.specs.Forests.{count}
 use Rattle.rules.specs.Lists.{sumBy, sumTo}
-use Rattle.rules.specs.Order.{precedes, leastOf, leastIn, minimum}
+use Rattle.rules.specs.Order.{comesBefore, leastOf, leastIn, minimum}
 use Rattle.rules.specs.Words.{
   storeSize,
   itemsIn,
@@ -22,11 +22,11 @@ use Rattle.rules.specs.Words.{
   wordsOf,
   encode,
 }
+use Rattle.store.specs.ItemOrder.{itemKey}
 use Rattle.audit.specs.Check.{
   allTo,
   heapAt,
   markAt,
-  precedesAt,
   linkOk,
   lengthFrom,
   listLength,
@@ -61,6 +61,6 @@ use Rattle.audit.specs.Examples.{
 pub examplesHold : ExamplesHold
 unfolding ExamplesHold examples byCheck but sample full small ownParent threeTrees soundWords isStore itemsIn storeSize allOk membersAt
     ranksAt treesAt heapOk countAt minimumOk leastOk itemOk freeOk memberOk parentOk childOk rootOk listLength
-    lengthFrom linkOk precedesAt markAt heapAt allTo encode wordsOf storeFields storeField word stateMark stateHeap
-    stateOf unlessFree siblings prevIn nextIn lastOr headOr minimum leastIn leastOf precedes sumTo sumBy count
+    lengthFrom linkOk itemKey markAt heapAt allTo encode wordsOf storeFields storeField word stateMark stateHeap
+    stateOf unlessFree siblings prevIn nextIn lastOr headOr minimum leastIn leastOf comesBefore sumTo sumBy count
 examplesHold = refl

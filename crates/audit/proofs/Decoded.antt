@@ -1,6 +1,6 @@
 -- What the forests that are read from words have at each item and heap, in the table and outside.
 use Prim.Native.Nat.{ℕ, suc, _≤_, _<_}
-use mathlib.Core.Path.{_≡_, _∙_}
+use mathlib.Core.Path.{_≡_, sym, _∙_}
 use mathlib.Core.List.{List, []}
 use mathlib.Core.Bool.{cond}
 use lib.ListN.{length, List·getD-eq-default}
@@ -17,11 +17,14 @@ use Rattle.rules.specs.Forests.{
   tableSize,
   count,
 }
-use Rattle.rules.specs.Order.{precedes}
+use Rattle.rules.specs.Order.{comesBefore, precedes}
 use Rattle.rules.specs.Words.{look, stateHeap, stateMark, listFrom, decode}
+use Rattle.rules.proofs.Order.{before-keys}
 use Rattle.rules.proofs.SumTo.{sumTo-cong, sumBy-places}
 use Rattle.rules.proofs.Tabulate.{length-tabulate, getD-tabulate}
-use Rattle.audit.specs.Check.{heapAt, markAt, precedesAt, countAt}
+use Rattle.store.specs.ItemOrder.{itemKey}
+use Rattle.store.proofs.ItemOrder.{key-is}
+use Rattle.audit.specs.Check.{heapAt, markAt, countAt}
 
 -- the children of item i, as `decode` reads them
 abbrev childrenRead : ℕ → List ℕ → ℕ → List ℕ
@@ -92,9 +95,13 @@ module _ (n : ℕ) (w : List ℕ) where
   out-mark i k = List·getD-eq-default ((decode n w) .mark) 0 {n = i} (rw length-mark k)
 
   -- the order of items, and the items of a heap
-  pub precedes-at : (a b : ℕ) → a < n → b < n → precedes ((decode n w) .key) a b ≡ precedesAt n w a b
-  unfolding precedes precedesAt
-  precedes-at a b i j = rw (key-at a i, key-at b j)
+  item-key-at : (i : ℕ) → i < n → keyOf (decode n w) i ≡ itemKey (look n w) i
+  item-key-at i k = sym (key-is (look n w) (decode n w) i (sym (key-at i k)))
+
+  pub precedes-at : (a b : ℕ) → a < n → b < n
+      → precedes ((decode n w) .key) a b ≡ comesBefore (itemKey (look n w)) a b
+  precedes-at a b i j =
+      before-keys (keyOf (decode n w)) (itemKey (look n w)) a b (item-key-at a i) (item-key-at b j)
 
   pub count-at : (h : ℕ) → count (decode n w) h ≡ countAt n w (suc h)
   unfolding count countAt

@@ -19,7 +19,7 @@ use Rattle.rules.specs.declared.Field.the-variants.{
 }
 use Rattle.rules.specs.Lists.{occurs}
 use Rattle.rules.specs.Forests.{Forests, none, rowOf, childrenOf, parentOf, markOf, heapOf, tableSize, count}
-use Rattle.rules.specs.Order.{precedes}
+use Rattle.rules.specs.Order.{comesBefore, precedes}
 use Rattle.rules.specs.WellFormed.{Disjoint, RankRule, WellFormed}
 use Rattle.rules.specs.Words.{room, look, headOr, lastOr, siblings, unlessFree, word, encode, decode}
 use Rattle.rules.proofs.DecodeEncode.{decode-encode}
@@ -28,11 +28,11 @@ use Rattle.rules.proofs.Members.{heap-in, row-root, child-parent}
 use Rattle.rules.proofs.SiblingLists.{once-row, once-children, siblings-row, siblings-children, list-inside}
 use Rattle.rules.proofs.Siblings.{Once}
 use Rattle.rules.proofs.Words.{look-wordsOf}
+use Rattle.store.specs.ItemOrder.{itemKey}
 use Rattle.audit.specs.declared.Siblings.{Siblings}
 use Rattle.audit.specs.Check.{
   heapAt,
   markAt,
-  precedesAt,
   rowAt,
   childrenAt,
   listLength,
@@ -65,7 +65,7 @@ module _ (s : Forests) (W : WellFormed s) where
   pub mark-is : (i : ℕ) → i < n → markAt n w i ≡ markOf s i
   mark-is i k = sym (mark-at n w i k) ∙ ap (λ t. markOf t i) back
 
-  pub precedes-is : (a b : ℕ) → a < n → b < n → precedesAt n w a b ≡ precedes (s .key) a b
+  pub precedes-is : (a b : ℕ) → a < n → b < n → comesBefore (itemKey (look n w)) a b ≡ precedes (s .key) a b
   precedes-is a b i j = sym (precedes-at n w a b i j) ∙ ap (λ t. precedes (t .key) a b) back
 
   pub count-is : (h : ℕ) → countAt n w (suc h) ≡ count s h

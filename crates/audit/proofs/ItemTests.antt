@@ -18,11 +18,12 @@ use Rattle.rules.specs.declared.Field.the-variants.{
   State,
 }
 use Rattle.rules.specs.Forests.{none}
+use Rattle.rules.specs.Order.{comesBefore}
 use Rattle.rules.specs.Words.{look}
+use Rattle.store.specs.ItemOrder.{itemKey}
 use Rattle.audit.specs.Check.{
   heapAt,
   markAt,
-  precedesAt,
   childrenAt,
   listLength,
   rootOk,
@@ -48,12 +49,12 @@ module _ (n : ℕ) (w : List ℕ) where
   pub record Root (i least : ℕ) : Type 0 where
     pub bare : markAt n w i ≡ 0
     pub inside : least < n
-    pub order : precedesAt n w i least ≡ false
+    pub order : comesBefore (itemKey (look n w)) i least ≡ false
 
   pub record Child (i p : ℕ) : Type 0 where
     pub inside : p < n
     pub heap : heapAt n w p ≡ heapAt n w i
-    pub order : precedesAt n w p i ≡ true
+    pub order : comesBefore (itemKey (look n w)) p i ≡ true
 
   -- an item of a heap
   pub record Member (i : ℕ) : Type 0 where
@@ -92,7 +93,7 @@ module _ (n : ℕ) (w : List ℕ) where
       record {
         bare = eqb-true (markAt n w i) 0 (a .0);
         inside = ltb-true least n (b .0);
-        order = not-true (precedesAt n w i least) (b .1);
+        order = not-true (comesBefore (itemKey (look n w)) i least) (b .1);
       }
 
   is-child : (i p : ℕ) → childOk n w i p ≡ true → Child i p

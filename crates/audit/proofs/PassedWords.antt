@@ -25,7 +25,7 @@ use Rattle.rules.specs.declared.Field.the-variants.{
 }
 use Rattle.rules.specs.Lists.{sumBy, occurs}
 use Rattle.rules.specs.Forests.{Forests, none, rowOf, childrenOf, parentOf, heapOf, heapNumber}
-use Rattle.rules.specs.Order.{leastIn, minimum}
+use Rattle.rules.specs.Order.{comesBefore, leastIn, minimum}
 use Rattle.rules.specs.Words.{
   storeSize,
   room,
@@ -44,7 +44,8 @@ use Rattle.rules.proofs.Members.{root-row, parent-child}
 use Rattle.rules.proofs.Minimum.{minimum-unique}
 use Rattle.rules.proofs.Occurs.{delta-self}
 use Rattle.rules.proofs.Words.{words-equal}
-use Rattle.audit.specs.Check.{heapAt, markAt, precedesAt, rowAt, listLength}
+use Rattle.store.specs.ItemOrder.{itemKey}
+use Rattle.audit.specs.Check.{heapAt, markAt, rowAt, listLength}
 use Rattle.audit.proofs.Passed.{Passed, byZero}
 use Rattle.audit.proofs.PassedForests.{disjoint}
 use Rattle.audit.proofs.PassedLists.{Whole, row-list, children-list, rank-is}
@@ -126,7 +127,8 @@ module _ (n : ℕ) (w : List ℕ) (A : Passed n w) where
       let d : heapAt n w z ≢ 0 = λ e. omega (arith, o .heap) in
       let r = A .member z (o .inside) d .root (o .parent) in
       precedes-at n w z least (o .inside) (c .inside)
-      ∙ subst (λ g. precedesAt n w z (look n w Minimum g) ≡ false) (omega (arith, o .heap)) (r .order))
+      ∙ subst (λ g. comesBefore (itemKey (look n w)) z (look n w Minimum g) ≡ false) (omega (arith, o .heap))
+      (r .order))
 
   minimum-at : (h : ℕ) → h < 8 → minimum s h ≡ look n w Minimum h
   unfolding minimum leastIn

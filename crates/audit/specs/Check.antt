@@ -21,7 +21,9 @@ use Rattle.rules.specs.declared.Field.the-variants.{
 use Rattle.audit.specs.declared.Siblings.{Siblings}
 use Rattle.rules.specs.Lists.{indicator, sumTo}
 use Rattle.rules.specs.Forests.{none}
+use Rattle.rules.specs.Order.{comesBefore}
 use Rattle.rules.specs.Words.{itemsIn, isStore, look, stateHeap, stateMark}
+use Rattle.store.specs.ItemOrder.{itemKey}
 
 -- f holds of 0 to n - 1
 unfoldable pub allTo : ℕ → (ℕ → Bool) → Bool
@@ -34,11 +36,6 @@ heapAt n w i = stateHeap (look n w State i)
 
 unfoldable pub markAt : ℕ → List ℕ → ℕ → ℕ
 markAt n w i = stateMark (look n w State i)
-
--- item a comes before item b, by their key words
-unfoldable pub precedesAt : ℕ → List ℕ → ℕ → ℕ → Bool
-precedesAt n w a b =
-    ltb (look n w Key a) (look n w Key b) || (eqb (look n w Key a) (look n w Key b) && ltb a b)
 
 -- ---- lists of siblings
 
@@ -76,11 +73,11 @@ listLength n w l = lengthFrom n w l n none 0 (l .first)
 
 -- a root is unmarked and does not come before the minimum of its heap
 unfoldable pub rootOk : ℕ → List ℕ → ℕ → ℕ → Bool
-rootOk n w i least = eqb (markAt n w i) 0 && (ltb least n && not (precedesAt n w i least))
+rootOk n w i least = eqb (markAt n w i) 0 && (ltb least n && not (comesBefore (itemKey (look n w)) i least))
 
 -- any other item has a parent in its heap that comes before it
 unfoldable pub childOk : ℕ → List ℕ → ℕ → ℕ → Bool
-childOk n w i p = ltb p n && (eqb (heapAt n w p) (heapAt n w i) && precedesAt n w p i)
+childOk n w i p = ltb p n && (eqb (heapAt n w p) (heapAt n w i) && comesBefore (itemKey (look n w)) p i)
 
 -- `least` is what the heap's minimum word says
 unfoldable pub parentOk : ℕ → List ℕ → ℕ → Bool

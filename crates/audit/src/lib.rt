@@ -4,7 +4,7 @@ ghost use mathlib.Core.Path.{_≡_};
 ghost use Prim.Native.Nat.{suc, _<_, _≤_};
 ghost use Rattle.rules.specs.Words.{look, stateHeap, stateMark};
 ghost use Rattle.store.specs.Says.{Sized, Within};
-ghost use Rattle.audit.specs.Check.{precedesAt, linkOk, listLength, parentOk, freeOk, itemOk, minimumOk};
+ghost use Rattle.audit.specs.Check.{linkOk, listLength, parentOk, freeOk, itemOk, minimumOk};
 ghost use Rattle.audit.specs.Check.{countAt, allOk, soundWords};
 ghost use Rattle.audit.specs.Promises.{Item, InHeap, StatesLow, AtMost, Counts};
 ghost use Rattle.audit.specs.Promises.{ranksIfOk, heapIfOk, treesIfOk};
@@ -12,6 +12,7 @@ use rules::Field;
 use store::get;
 use store::is_store;
 use store::items_of;
+use store::order::precedes;
 
 const NONE: usize = 4294967295;
 
@@ -24,7 +25,7 @@ pub struct Siblings {
     pub last: usize,
 }
 
-// Word i of a kind: all words are read here.
+// Word i of a kind: all words are read here, but for the keys that are compared.
 fn word_at(store: &[u32], n: usize, field: Field, i: usize) -> usize
     requires { ⌜ Within n (now store) field i ⌝ }
     ensures { λ r. ⌜ AtMost (look n (now (store .entry)) field i) 4294967295 r ⌝ }
@@ -43,17 +44,6 @@ fn mark_of(state: usize) -> usize
     ensures { λ r. ⌜ AtMost (stateMark state) 1 r ⌝ }
 {
     if state == 0 { 0 } else { (state - 1) % 2 }
-}
-
-// Item a comes before item b.
-fn precedes(store: &[u32], n: usize, a: usize, b: usize) -> bool
-    requires { ⌜ Item n (now store) a ⌝ }
-    requires { ⌜ Item n (now store) b ⌝ }
-    ensures { λ r. ⌜ r ≡ precedesAt n (now (store .entry)) a b ⌝ }
-{
-    let x = word_at(store, n, Field::Key, a);
-    let y = word_at(store, n, Field::Key, b);
-    (x < y) | ((x == y) & (a < b))
 }
 
 // Item x may stand at place j of a list, after item prev.
@@ -115,14 +105,14 @@ fn parent_ok(store: &[u32], n: usize, i: usize, state: usize) -> bool
         if least >= n {
             return false;
         }
-        let before = precedes(store, n, i, least);
+        let before = precedes(store, n, i as u32, least as u32);
         return (mark == 0) & !before;
     }
     if parent >= n {
         return false;
     }
     let above = heap_of(word_at(store, n, Field::State, parent));
-    let before = precedes(store, n, parent, i);
+    let before = precedes(store, n, parent as u32, i as u32);
     (above == heap) & before
 }
 

@@ -9,11 +9,11 @@ use native.Mathlib.Omega.{arith}
 use lib.ListN.{length, getD, set}
 use lib.Seq.{getD-set-same}
 use borrow.Author.Tests.{ne-eqb}
-use Rattle.rules.specs.declared.Field.the-variants.{Key, LastChild, Next, Rank}
+use Rattle.rules.specs.declared.Field.the-variants.{LastChild, Next, Rank}
 use Rattle.rules.specs.Consolidate.{Linking, climb, isFree, link, occupied}
 use Rattle.rules.specs.Forests.{Forests, none, childrenOf, heapOf, parentOf, rankOf, setRow, tableSize}
 use Rattle.rules.specs.Lists.{occurs, sumBy}
-use Rattle.rules.specs.Order.{precedes}
+use Rattle.rules.specs.Order.{comesBefore, precedes}
 use Rattle.rules.specs.WellFormed.{KeysFit}
 use Rattle.rules.specs.Words.{lastOr, look}
 use Rattle.rules.proofs.ConsolidateKeeps.{Held, met, occurs-ρ, x-in, y-apart, y-in}
@@ -25,9 +25,9 @@ use Rattle.rules.proofs.Potential.{busy, length-occupied}
 use Rattle.rules.proofs.Siblings.{last-in}
 use Rattle.rules.proofs.Sums.{sumBy-set}
 use Rattle.store.specs.declared.Owner.the-variants.{Children}
+use Rattle.store.specs.ItemOrder.{itemKey}
 use Rattle.store.specs.Says.{Changes}
 use Rattle.store.specs.Siblings.{AppendReady, RankRises, appended, lastOf}
-use Rattle.consolidate.specs.Before.{comesBefore}
 use Rattle.consolidate.specs.Consolidating.{Consolidating}
 use Rattle.consolidate.proofs.LinkWords.{keeps, link-beside}
 use Rattle.consolidate.proofs.Climbing.{Climbing, before-says, held, keys-fit, place-at, rank-inside, tree-inside}
@@ -70,15 +70,15 @@ module _ {n h base : ℕ} {rest : List ℕ} {goal : Linking} {w ps : List ℕ} {
   second = cond (precedes (t .key) (getD ps r none) x) x (getD ps r none)
 
   -- what the code finds by the words
-  same-order : comesBefore (look n w Key) a x ≡ order
+  same-order : comesBefore (itemKey (look n w)) a x ≡ order
   same-order =
       before-says (G .state .says) (G .state .beside) a x holder-inside (tree-inside G)
       ∙ ap (λ q. precedes (t .key) q x) (place-at G e)
 
-  pub is-first : {b : ℕ} → b ≡ cond (comesBefore (look n w Key) a x) a x → b ≡ first
+  pub is-first : {b : ℕ} → b ≡ cond (comesBefore (itemKey (look n w)) a x) a x → b ≡ first
   is-first q = q ∙ rw (same-order, place-at G e)
 
-  pub is-second : {b : ℕ} → b ≡ cond (comesBefore (look n w Key) a x) x a → b ≡ second
+  pub is-second : {b : ℕ} → b ≡ cond (comesBefore (itemKey (look n w)) a x) x a → b ≡ second
   is-second q = q ∙ rw (same-order, place-at G e)
 
   both : (1 ≤ occurs first ρ) × (1 ≤ occurs second ρ) × (first ≢ second)
@@ -135,8 +135,8 @@ module _ {n h base : ℕ} {rest : List ℕ} {goal : Linking} {w ps : List ℕ} {
       go true = G .state .placed r taken
       go false = G .rank
 
-  pub link-ready : {b c : ℕ} → b ≡ cond (comesBefore (look n w Key) a x) a x
-      → c ≡ cond (comesBefore (look n w Key) a x) x a → AppendReady n w (Children b) c
+  pub link-ready : {b c : ℕ} → b ≡ cond (comesBefore (itemKey (look n w)) a x) a x
+      → c ≡ cond (comesBefore (itemKey (look n w)) a x) x a → AppendReady n w (Children b) c
   unfolding lastOf RankRises
   link-ready p q =
       rw (is-first p, is-second q) (record {
@@ -230,8 +230,8 @@ module _ {n h base : ℕ} {rest : List ℕ} {goal : Linking} {w ps : List ℕ} {
           whole = rw (ne-eqb (getD ps r none) none taken) at q;
         }
 
-  pub climb-step : {b c : ℕ} {w′ ps′ : List ℕ} {links′ : ℕ} → b ≡ cond (comesBefore (look n w Key) a x) a x
-      → c ≡ cond (comesBefore (look n w Key) a x) x a → Changes n w (appended (Children b) c) w′
+  pub climb-step : {b c : ℕ} {w′ ps′ : List ℕ} {links′ : ℕ} → b ≡ cond (comesBefore (itemKey (look n w)) a x) a x
+      → c ≡ cond (comesBefore (itemKey (look n w)) a x) x a → Changes n w (appended (Children b) c) w′
       → ps′ ≡ set ps r none
       → links′ ≡ links + 1 → Climbing n h base rest goal w′ ps′ b (r + 1) links′
   climb-step {b} {c} {w′} p q g u l =

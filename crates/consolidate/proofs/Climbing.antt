@@ -5,16 +5,18 @@ use mathlib.Core.List.{List, [], _∷_, _++_}
 use native.Mathlib.Omega.{arith}
 use lib.ListN.{length, getD, set}
 use borrow.Author.Tests.{eq-eqb}
-use Rattle.rules.specs.declared.Field.the-variants.{Key, Rank}
+use Rattle.rules.specs.declared.Field.the-variants.{Rank}
 use Rattle.rules.specs.Consolidate.{Linking, climb, isFree, occupied}
-use Rattle.rules.specs.Forests.{Forests, none, rankOf, setRow}
-use Rattle.rules.specs.Order.{precedes}
+use Rattle.rules.specs.Forests.{Forests, keyOf, none, rankOf, setRow}
+use Rattle.rules.specs.Order.{comesBefore, precedes}
 use Rattle.rules.specs.WellFormed.{KeysFit}
 use Rattle.rules.specs.Words.{look}
 use Rattle.rules.proofs.ConsolidateKeeps.{Held, low, put, x-heap}
 use Rattle.rules.proofs.Excused.{to-formed, well-formed}
+use Rattle.rules.proofs.Order.{before-keys}
+use Rattle.store.specs.ItemOrder.{itemKey}
 use Rattle.store.specs.Says.{Says, Values}
-use Rattle.consolidate.specs.Before.{comesBefore}
+use Rattle.store.proofs.ItemOrder.{key-is, key-says}
 use Rattle.consolidate.specs.Consolidating.{Consolidating, Settled, settle}
 use Rattle.consolidate.specs.Stored.{Beside}
 
@@ -24,12 +26,15 @@ getD-any [] i a b k = absurd (omega arith)
 getD-any (x ∷ l) zero a b k = refl
 getD-any (x ∷ l) (suc i) a b k = getD-any l i a b (omega arith)
 
--- the order by the words is that of the forests
+-- the keys by the words are those of the forests, and so is the order
+pub key-beside : {n h : ℕ} {w : List ℕ} {v : Values} {t : Forests} → Says n w v → Beside n h v t → (i : ℕ) → i < n
+    → itemKey (look n w) i ≡ keyOf t i
+key-beside {v = v} {t = t} s B i k = key-says s i k ∙ key-is v t i (B .keys i k)
+
 pub before-says : {n h : ℕ} {w : List ℕ} {v : Values} {t : Forests} → Says n w v → Beside n h v t → (a b : ℕ) → a < n
-    → b < n → comesBefore (look n w Key) a b ≡ precedes (t .key) a b
-unfolding comesBefore precedes
+    → b < n → comesBefore (itemKey (look n w)) a b ≡ precedes (t .key) a b
 before-says {n} {h} {w} {v} {t} s B a b i j =
-    rw (s .says Key a i ∙ B .keys a i, s .says Key b j ∙ B .keys b j)
+    before-keys (itemKey (look n w)) (keyOf t) a b (key-beside s B a i) (key-beside s B b j)
 
 module _ {n h : ℕ} {w ps trees rest : List ℕ} {t : Forests} (C : Consolidating n h w ps trees rest t) where
   pub held : Held h ps trees t

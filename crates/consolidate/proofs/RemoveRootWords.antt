@@ -2,24 +2,24 @@
 use Prim.Native.Nat.{ℕ, suc, _+_, _≤_, _<_}
 use mathlib.Core.Path.{_≡_, refl, sym, ap, _∙_}
 use mathlib.Core.Logic.{_≢_}
-use mathlib.Core.List.{List, [], _∷_, _++_}
+use mathlib.Core.List.{List, [], _++_}
 use mathlib.Core.Bool.{Bool, true, false, cond}
 use native.Mathlib.Omega.{arith}
 use lib.Dec.{eqb}
-use lib.ListN.{length-set, set}
+use lib.ListN.{length-set}
 use lib.Seq.{getD-set-other}
 use borrow.Author.Tests.{eqb-true, ne-eqb}
 use Rattle.rules.specs.declared.Field.the-variants.{FirstTree, LastTree, Minimum, Count, Key, Parent, FirstChild, LastChild, Next, Prev, Rank, State}
 use Rattle.rules.specs.Calls.{removeRoot, setFree, release}
 use Rattle.rules.specs.Forests.{Forests, none, rowOf, childrenOf, parentOf, heapOf, tableSize, count}
-use Rattle.rules.specs.Lists.{delta, occurs, sumBy, without}
-use Rattle.rules.specs.Order.{leastIn, leastOf, minimum, precedes}
+use Rattle.rules.specs.Lists.{delta, occurs, without}
+use Rattle.rules.specs.Order.{minimum}
 use Rattle.rules.specs.WellFormed.{Disjoint}
 use Rattle.rules.specs.Words.{stateOf}
 use Rattle.rules.proofs.Counts.{count-left}
+use Rattle.rules.proofs.LeastOfTwo.{least-other}
 use Rattle.rules.proofs.Members.{heap-in, not-none, row-root, root-child, child-parent}
-use Rattle.rules.proofs.Occurs.{byItem, delta-self, eqb-self}
-use Rattle.rules.proofs.Order.{precedes-other}
+use Rattle.rules.proofs.Occurs.{byItem, eqb-self}
 use Rattle.rules.proofs.RemoveRootKeeps.{byChild, children-x, heap-o, heap-x, key-x, mark-children, mark-o, parent-children, parent-o, parent-x}
 use Rattle.store.specs.declared.Owner.the-variants.{Row}
 use Rattle.store.specs.Empty.{freeItem}
@@ -33,26 +33,6 @@ use Rattle.consolidate.proofs.Beside.{free-child, not-child, not-row, o
 use Rattle.consolidate.proofs.Chains.{chain-frame}
 use Rattle.consolidate.proofs.MoveWords.{out-other, released-in, released-out}
 use Rattle.consolidate.proofs.RemoveRootLinks.{ends, keeps, plain, rootRemoved, x-in}
-
--- a key that stands nowhere in a row changes nothing of its least item
-leastOf-other : (key : List ℕ) (x k y : ℕ) (l : List ℕ) → y ≢ x → occurs x l ≡ 0
-    → leastOf (set key x k) y l ≡ leastOf key y l
-unfolding leastOf occurs sumBy
-leastOf-other key x k y [] m n = refl
-leastOf-other key x k y (z ∷ zs) m n =
-    let d : z ≢ x = λ e. omega (arith, delta-self x, ap (delta x) e) in
-    rw (precedes-other key x k z y d m)
-    (leastOf-other key x k (cond (precedes key z y) z y) zs (go (precedes key z y) d) (omega arith))
-  where
-    go : (b : Bool) → z ≢ x → cond b z y ≢ x
-    go true d = d
-    go false d = m
-
-leastIn-other : (key : List ℕ) (x k : ℕ) (l : List ℕ) → occurs x l ≡ 0 → leastIn (set key x k) l ≡ leastIn key l
-unfolding leastIn occurs sumBy
-leastIn-other key x k [] n = refl
-leastIn-other key x k (z ∷ zs) n =
-    leastOf-other key x k z zs (λ e. omega (arith, delta-self x, ap (delta x) e)) (omega arith)
 
 module _ (n h : ℕ) (v : Values) (t : Forests) (D : Disjoint t) (B : Beside n h v t)
     (R : Chain (v FirstTree h) (v LastTree h) (v Next) (v Prev) (rowOf t h)) (x : ℕ) (hx : heapOf t x ≡ suc h)
@@ -123,7 +103,7 @@ module _ (n h : ℕ) (v : Values) (t : Forests) (D : Disjoint t) (B : Beside n h
   unfolding minimum removeRoot setFree release
   same-least g m =
       rw (getD-set-other (t .rows) h g (without x (rowOf t h) ++ cs) [] m)
-      (sym (leastIn-other (t .key) x 0 (rowOf t g) (other-row t D g x (λ e. m (omega (arith, e, hx))))))
+      (sym (least-other (t .key) x 0 (rowOf t g) (other-row t D g x (λ e. m (omega (arith, e, hx))))))
 
   left : (g : ℕ) → g < 8 → (b : Bool) → eqb h g ≡ b → cond b c (v Count g) ≡ count (removeRoot h x t) g
   unfolding removeRoot setFree release delta

@@ -3,51 +3,34 @@ use Prim.Native.Nat.{ℕ, suc, _≤_, _<_}
 use mathlib.Core.Path.{_≡_, refl, sym, ap, _∙_}
 use mathlib.Core.Logic.{_≢_}
 use mathlib.Core.List.{List, [], _∷_, _++_, append-nil}
-use mathlib.Core.Bool.{Bool, true, false, cond}
+use mathlib.Core.Bool.{Bool, true, false}
 use native.Mathlib.Omega.{arith}
 use lib.Dec.{eqb}
 use borrow.Author.Tests.{eqb-true, eqb-false, ne-eqb}
-use Rattle.rules.specs.declared.Field.the-variants.{Key, LastTree}
+use Rattle.rules.specs.declared.Field.the-variants.{LastTree}
 use Rattle.rules.specs.Consolidate.{occupied}
-use Rattle.rules.specs.Forests.{Forests, none, heapOf, parentOf, rowOf}
+use Rattle.rules.specs.Forests.{Forests, none, heapOf, keyOf, parentOf, rowOf}
 use Rattle.rules.specs.Lists.{occurs, sumBy}
-use Rattle.rules.specs.Order.{leastIn, leastOf, precedes}
+use Rattle.rules.specs.Order.{leastIn, leastOf, lesser}
 use Rattle.rules.specs.Words.{look}
+use Rattle.rules.proofs.LeastOfTwo.{least-append, lesser-keys}
 use Rattle.rules.proofs.Members.{heap-in, row-root}
 use Rattle.rules.proofs.Minimum.{leastOf-in}
-use Rattle.rules.proofs.Occurs.{delta-self, occurs-append}
+use Rattle.rules.proofs.Occurs.{delta-other, delta-self, occurs-append, occurs-one}
 use Rattle.store.specs.declared.Owner.the-variants.{Row}
+use Rattle.store.specs.ItemOrder.{itemKey}
 use Rattle.store.specs.Says.{Changes}
 use Rattle.store.specs.Siblings.{AppendReady, RankRises, appended, lastOf}
-use Rattle.consolidate.specs.Before.{comesBefore}
 use Rattle.consolidate.specs.Writing.{Coming, Writing}
 use Rattle.consolidate.proofs.Chains.{last-apart}
-use Rattle.consolidate.proofs.Climbing.{before-says}
+use Rattle.consolidate.proofs.Climbing.{key-beside}
 use Rattle.consolidate.proofs.RowWords.{longer, longer-beside}
 
--- ---- the least item of a longer list
-
-leastOf-append : (key : List ℕ) (y x : ℕ) (l : List ℕ)
-    → leastOf key y (l ++ (x ∷ [])) ≡ cond (precedes key x (leastOf key y l)) x (leastOf key y l)
-unfolding leastOf
-leastOf-append key y x [] = refl
-leastOf-append key y x (z ∷ l) = leastOf-append key (cond (precedes key z y) z y) x l
-
-leastIn-append : (key : List ℕ) (x : ℕ) (l : List ℕ) → leastIn key l ≢ none
-    → leastIn key (l ++ (x ∷ [])) ≡ cond (precedes key x (leastIn key l)) x (leastIn key l)
-unfolding leastIn
-leastIn-append key x [] m = absurd (m refl)
-leastIn-append key x (z ∷ l) m = leastOf-append key z x l
-
+-- the least item of a list stands in it
 least-in : (key : List ℕ) (l : List ℕ) → leastIn key l ≢ none → 1 ≤ occurs (leastIn key l) l
 unfolding leastIn
 least-in key [] m = absurd (m refl)
 least-in key (z ∷ l) m = leastOf-in key z l
-
-least-none : (key : List ℕ) (l : List ℕ) → occurs none l ≡ 0 → leastIn key l ≡ none → l ≡ []
-unfolding leastIn
-least-none key [] k e = refl
-least-none key (z ∷ l) k e = absurd (omega (arith, leastOf-in key z l, ap (λ q. occurs q (z ∷ l)) e))
 
 -- ---- one tree
 
@@ -128,20 +111,17 @@ module _ {n h m x : ℕ} {w written rest : List ℕ} {t : Forests} (C : Coming h
             least = e;
           })
 
-      -- the first tree of the row
-      pub first-written : m ≡ none → Writing n h w′ (written ++ occupied (x ∷ [])) x t
-      unfolding leastIn leastOf
-      first-written e =
-          with-least (rw (least-none (t .key) written none-written (sym (W .least) ∙ e)))
-
-      pub next-written : {m′ : ℕ} → m ≢ none → m′ ≡ cond (comesBefore (look n w′ Key) x m) x m
+      pub tree-written : {m′ : ℕ} → m′ ≡ lesser (itemKey (look n w′)) m x
           → Writing n h w′ (written ++ occupied (x ∷ [])) m′ t
-      next-written d e =
-          with-least (e ∙ rw (
-            before-says (c .says (W .values) (W .says))
-                (longer-beside n h (W .values) t (C .disjoint) (C .heap) (W .beside) written rest (W .row) x split)
-                x m
-                tree-inside (least-inside d),
-            W .least,
-          )
-          (sym (leastIn-append (t .key) x written (λ q. d (W .least ∙ q)))))
+      unfolding leastIn leastOf
+      tree-written e =
+          with-least (e
+          ∙ lesser-keys (itemKey (look n w′)) (keyOf t) m x (λ d. key-at m (least-inside d)) (λ _. key-at x tree-inside)
+          ∙ ap (λ q. lesser (keyOf t) q x) (W .least)
+          ∙ sym (least-append (t .key) written (x ∷ []) none-written
+          (occurs-one none x ∙ delta-other none x s)))
+        where
+          key-at : (i : ℕ) → i < n → itemKey (look n w′) i ≡ keyOf t i
+          key-at =
+              key-beside (c .says (W .values) (W .says))
+              (longer-beside n h (W .values) t (C .disjoint) (C .heap) (W .beside) written rest (W .row) x split)

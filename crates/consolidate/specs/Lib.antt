@@ -1,6 +1,5 @@
 pub mod Chain
 pub mod Stored
-pub mod Before
 pub mod Released
 pub mod Removed
 pub mod Consolidating

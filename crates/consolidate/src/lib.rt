@@ -6,9 +6,10 @@ ghost use lib.ListN.{getD, set};
 ghost use Rattle.rules.specs.declared.Call.the-variants.{ExtractMin};
 ghost use Rattle.rules.specs.declared.Field.the-variants.{Key};
 ghost use Rattle.rules.specs.Calls.{perform};
+ghost use Rattle.rules.specs.Order.{comesBefore};
 ghost use Rattle.rules.specs.Words.{decode, look};
+ghost use Rattle.store.specs.ItemOrder.{itemKey};
 ghost use Rattle.store.specs.Says.{Within};
-ghost use Rattle.consolidate.specs.Before.{comesBefore};
 ghost use Rattle.consolidate.specs.Consolidating.{ClimbReady, ConsolidateReady, RowReady};
 ghost use Rattle.consolidate.specs.Consolidating.{Consolidates, LinksRow, Settles, WritesRow};
 ghost use Rattle.consolidate.specs.Extract.{ExtractReady, Performs};
@@ -23,19 +24,10 @@ use store::append;
 use store::concat;
 use store::free_item;
 use store::get;
+use store::order::lesser_of;
+use store::order::precedes;
 use store::put;
 use store::remove;
-
-// Item a comes before item b: its key is smaller, or the keys are equal and a < b.
-pub fn precedes(s: &[u32], n: usize, a: u32, b: u32) -> bool
-    requires { ⌜ Within n (now s) Key a ⌝ }
-    requires { ⌜ Within n (now s) Key b ⌝ }
-    ensures { λ r. ⌜ r ≡ comesBefore (look n (now (s .entry)) Key) a b ⌝ }
-{
-    let x = get(s, n, Field::Key, a);
-    let y = get(s, n, Field::Key, b);
-    x < y || (x == y && a < b)
-}
 
 // Two items in their order.
 struct Pair {
@@ -46,8 +38,8 @@ struct Pair {
 fn in_order(s: &[u32], n: usize, a: u32, b: u32) -> Pair
     requires { ⌜ Within n (now s) Key a ⌝ }
     requires { ⌜ Within n (now s) Key b ⌝ }
-    ensures { λ r. ⌜ r .first ≡ cond (comesBefore (look n (now (s .entry)) Key) a b) a b ⌝ }
-    ensures { λ r. ⌜ r .second ≡ cond (comesBefore (look n (now (s .entry)) Key) a b) b a ⌝ }
+    ensures { λ r. ⌜ r .first ≡ cond (comesBefore (itemKey (look n (now (s .entry)))) a b) a b ⌝ }
+    ensures { λ r. ⌜ r .second ≡ cond (comesBefore (itemKey (look n (now (s .entry)))) a b) b a ⌝ }
 {
     if precedes(s, n, a, b) {
         Pair {
@@ -174,11 +166,7 @@ fn write_tree(s: &mut [u32], n: usize, h: u32, m: u32, x: u32) -> u32
         return m;
     }
     append(s, n, Owner::Row(h), x);
-    if m == NONE {
-        return x;
-    }
-    let pair = in_order(s, n, x, m);
-    pair.first
+    lesser_of(s, n, m, x)
 }
 
 // The row of heap h written anew from the places, by ascending rank, with its minimum.

@@ -5,9 +5,9 @@ use mathlib.Core.Logic.{_≢_}
 use mathlib.Core.List.{List}
 use native.Mathlib.Omega.{arith}
 use borrow.Author.Tests.{ne-eqb}
-use Rattle.rules.specs.declared.Field.the-variants.{Key, Parent, State}
+use Rattle.rules.specs.declared.Field.the-variants.{Parent, State}
 use Rattle.rules.specs.Lists.{occurs}
-use Rattle.rules.specs.Forests.{Forests, none, parentOf, keyOf, markOf, heapOf, tableSize, setMark}
+use Rattle.rules.specs.Forests.{Forests, none, parentOf, markOf, heapOf, tableSize, setMark}
 use Rattle.rules.specs.Cut.{cut}
 use Rattle.rules.specs.WellFormed.{Disjoint}
 use Rattle.rules.specs.SetWord.{setWord}
@@ -38,12 +38,6 @@ pub parent-word : {n : ℕ} {w : List ℕ} {c m : ℕ → ℕ} {t : Forests} {x 
     → look n w Parent x ≡ parentOf t x
 unfolding loose wordBut word
 parent-word {x = x} H k = H .says .says Parent x k
-
--- its key word
-pub key-word : {n : ℕ} {w : List ℕ} {c m : ℕ → ℕ} {t : Forests} {x : ℕ} → Holds n w c m t none → x < n
-    → look n w Key x ≡ keyOf t x
-unfolding loose wordBut word
-key-word {x = x} H k = H .says .says Key x k
 
 -- and its state word
 pub state-word : {n : ℕ} {w : List ℕ} {c m : ℕ → ℕ} {t : Forests} {x : ℕ} → Holds n w c m t none → x < n

@@ -1,7 +1,7 @@
 -- The feed calls worked by hand, by computation.
 use mathlib.Core.Path.{refl}
 use Rattle.rules.specs.Lists.{sumBy, without, setAll}
-use Rattle.rules.specs.Order.{precedes, leastOf, leastIn, minimum}
+use Rattle.rules.specs.Order.{comesBefore, leastOf, leastIn, minimum}
 use Rattle.rules.specs.Cut.{cut, standing, cascadingCut, cutWithin, cutOut, cutIf}
 use Rattle.rules.specs.Consolidate.{link, isFree, climb, linkTrees, occupied, consolidateWithin, consolidate}
 use Rattle.rules.specs.Calls.{insert, release, setFree, removeRoot, extract, hasParent, decreaseKey, perform}
@@ -26,5 +26,5 @@ unfolding onThree doneThree refusedThree paperMap tieMap refusedMaps feedResult 
     codeBelow spanCode previous fault search turns begin turn visit tried try offer update judge next nextOf
     waiting answers answer unlessRefused refused refusal isEmpty perform decreaseKey hasParent extract
     removeRoot setFree release insert consolidate consolidateWithin occupied linkTrees climb isFree link cutIf
-    cutOut cutWithin cascadingCut standing cut minimum leastIn leastOf precedes setAll without sumBy
+    cutOut cutWithin cascadingCut standing cut minimum leastIn leastOf comesBefore setAll without sumBy
 workedMaps = record { calls = refl; paper = refl; tie = refl; refusals = refl }

@@ -1,22 +1,24 @@
 -- An item cut if a test says so, on words that hold forests: one law for each way out.
 use Prim.Native.Nat.{ℕ, _<_}
-use mathlib.Core.Path.{_≡_, refl, sym, _∙_}
+use mathlib.Core.Path.{_≡_, refl, sym, ap, _∙_}
 use mathlib.Core.Logic.{_≢_}
 use mathlib.Core.List.{List}
 use mathlib.Core.Bool.{Bool, true, false, not, _&&_}
 use native.Mathlib.Omega.{arith}
 use borrow.Author.Tests.{ne-eqb}
-use Rattle.rules.specs.declared.Field.the-variants.{Key, Parent}
+use Rattle.rules.specs.declared.Field.the-variants.{Parent}
 use Rattle.rules.specs.Calls.{hasParent}
 use Rattle.rules.specs.Cut.{cutIf, cutOut}
-use Rattle.rules.specs.Forests.{Forests, none, parentOf}
-use Rattle.rules.specs.Order.{precedes}
+use Rattle.rules.specs.Forests.{Forests, keyOf, none, parentOf}
+use Rattle.rules.specs.Order.{comesBefore, precedes}
 use Rattle.rules.specs.Words.{look}
+use Rattle.rules.proofs.Order.{before-keys}
 use Rattle.store.specs.Families.{Holds}
+use Rattle.store.specs.ItemOrder.{itemKey}
+use Rattle.store.proofs.ItemOrder.{key-held}
 use Rattle.store.proofs.Ready.{member}
 use Rattle.cut.specs.Ready.{Cascaded, Child, Member}
-use Rattle.cut.proofs.Cutting.{key-word, member-item, parent-word}
-use Rattle.consolidate.specs.Before.{comesBefore}
+use Rattle.cut.proofs.Cutting.{member-item, parent-word}
 
 -- a test that fails, and one that holds
 off : (b : Bool) → not b ≡ true → b ≡ false
@@ -58,20 +60,20 @@ module _ {n : ℕ} {w : List ℕ} {c m : ℕ → ℕ} {t : Forests} {h i p : ℕ
   child z = record { member = M; child = λ q. z (parent ∙ q) }
 
   -- the order of the words is that of the forests
-  order : p ≢ none → comesBefore (look n w Key) i p ≡ precedes (t .key) i (parentOf t i)
-  unfolding comesBefore precedes
+  order : p ≢ none → comesBefore (itemKey (look n w)) i p ≡ precedes (t .key) i (parentOf t i)
   order z =
-      rw (key-word H (member-item H M), key-word H (parent-inside z), parent)
+      before-keys (itemKey (look n w)) (keyOf t) i p (key-held H i (member-item H M)) (key-held H p (parent-inside z))
+      ∙ ap (precedes (t .key) i) parent
 
   -- i does not come before its parent
-  pub later-kept : {b : Bool} → p ≢ none → b ≡ comesBefore (look n w Key) i p → not b ≡ true
+  pub later-kept : {b : Bool} → p ≢ none → b ≡ comesBefore (itemKey (look n w)) i p → not b ≡ true
       → Cascaded n w c m (cutIf (hasParent t i && precedes (t .key) i (parentOf t i)) h i t) 0
   unfolding cutIf
   later-kept {b} z d f = rw (has z, ← order z, ← d, off b f) (record { holds = H; cuts = refl })
 
   -- it does, or the test is only that it has a parent
-  pub before-cut : {b : Bool} {w′ : List ℕ} {r : ℕ} → p ≢ none → b ≡ comesBefore (look n w Key) i p → not b ≡ false
-      → Cascaded n w′ c m (cutOut h i t) r
+  pub before-cut : {b : Bool} {w′ : List ℕ} {r : ℕ} → p ≢ none → b ≡ comesBefore (itemKey (look n w)) i p
+      → not b ≡ false → Cascaded n w′ c m (cutOut h i t) r
       → Cascaded n w′ c m (cutIf (hasParent t i && precedes (t .key) i (parentOf t i)) h i t) r
   unfolding cutIf
   before-cut {b} z d f k = rw (has z, ← order z, ← d, on b f) k

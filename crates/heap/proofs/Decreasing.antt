@@ -5,7 +5,7 @@ use mathlib.Core.Logic.{_≢_}
 use mathlib.Core.List.{List}
 use mathlib.Core.Bool.{Bool, true, false, cond, _&&_}
 use native.Mathlib.Omega.{arith}
-use lib.ListN.{getD, set}
+use lib.ListN.{set}
 use lib.Dec.{eqb}
 use borrow.Author.Tests.{eqb-true, eqb-false}
 use Rattle.rules.specs.declared.Call.the-variants.{DecreaseKey}
@@ -17,7 +17,7 @@ use Rattle.rules.specs.Calls.{decreaseKey, hasParent, perform}
 use Rattle.rules.specs.Cut.{cutIf}
 use Rattle.rules.specs.Forests.{Forests, count, heapNumber, heapOf, keyOf, markOf, none, parentOf, setKey}
 use Rattle.rules.specs.Lists.{sumBy}
-use Rattle.rules.specs.Order.{minimum, precedes}
+use Rattle.rules.specs.Order.{lesser, minimum, precedes}
 use Rattle.rules.specs.SetWord.{setWord}
 use Rattle.rules.specs.Theorems.{InRange, IsMinimum}
 use Rattle.rules.specs.WellFormed.{WellFormed}
@@ -25,6 +25,7 @@ use Rattle.rules.specs.Words.{at, encode, forestsOf, look, stateOf, word}
 use Rattle.rules.proofs.Excused.{Formed, FormedBut, exact, to-formed}
 use Rattle.rules.proofs.KeepsWellFormed.{keepsWellFormed}
 use Rattle.rules.proofs.KeyKeeps.{key-formed}
+use Rattle.rules.proofs.LeastOfTwo.{lesser-keys, lesser-two}
 use Rattle.rules.proofs.Lists.{decrease-heap, decrease-key}
 use Rattle.rules.proofs.Members.{heap-in}
 use Rattle.rules.proofs.Minimum.{minimumFirst}
@@ -32,15 +33,15 @@ use Rattle.rules.proofs.MinimumAfter.{count-one, lowered-minimum, lowered-other
 use Rattle.rules.proofs.Refusals.{decrease-ok}
 use Rattle.rules.proofs.ReplyBounds.{Small, answer-small}
 use Rattle.store.specs.Families.{Holds, wordBut}
+use Rattle.store.specs.ItemOrder.{TwoItems, itemKey}
 use Rattle.store.specs.Says.{Changes, Sized}
 use Rattle.store.proofs.Encoded.{holds-encode}
 use Rattle.store.proofs.Holds.{holds-says}
+use Rattle.store.proofs.ItemOrder.{key-held}
 use Rattle.store.proofs.Scalars.{instead, key-holds, minimum-holds}
 use Rattle.cut.specs.Ready.{CascadeReady, Cascaded, Member}
 use Rattle.heap.specs.Allowed.{MayMove, Moves, Store}
-use Rattle.heap.specs.Lesser.{TwoItems, lesser}
 use Rattle.heap.specs.Moving.{CutsIf, InHeap}
-use Rattle.heap.proofs.LeastOfTwo.{lesser-two}
 use Rattle.heap.proofs.SoundStore.{formed, items-size, sound-holds, sound-says}
 
 -- the heap of an item, from its state word
@@ -159,17 +160,14 @@ module _ {w : List ℕ} {n i k : ℕ} {tally : Tally} (P : MayMove w n (Decrease
             two = λ _. item-inside in-heap;
           }
 
-      key-at : (x : ℕ) → x < n → look n w₂ Key x ≡ getD (after .key) x 0
-      unfolding wordBut word
-      key-at x q = holds-says holds .says Key x q
-
-      module _ {w₃ : List ℕ} {m l : ℕ} (em : m ≡ look n w₂ Minimum h) (el : l ≡ lesser (look n w₂ Key) m i)
+      module _ {w₃ : List ℕ} {m l : ℕ} (em : m ≡ look n w₂ Minimum h) (el : l ≡ lesser (itemKey (look n w₂)) m i)
           (d : Changes n w₂ (setWord Minimum h l) w₃) where
         least : l ≡ cond (precedes (after .key) i (minimum t h)) i (minimum t h)
         least =
-            el ∙ ap (λ x. lesser (look n w₂ Key) x i) (least-word em)
-            ∙ lesser-two (look n w₂ Key) (after .key) (minimum t h) i (some (minimum t h) old-inside)
-            (some i (item-inside in-heap)) (key-at (minimum t h) old-inside) (key-at i (item-inside in-heap))
+            el ∙ ap (λ x. lesser (itemKey (look n w₂)) x i) (least-word em)
+            ∙ lesser-keys (itemKey (look n w₂)) (keyOf after) (minimum t h) i
+            (λ _. key-held holds (minimum t h) old-inside) (λ _. key-held holds i (item-inside in-heap))
+            ∙ lesser-two (keyOf after) (minimum t h) i (some (minimum t h) old-inside) (some i (item-inside in-heap))
 
         minima : (g : ℕ) → g < 8 → instead (minimum t) h l g ≡ minimum after g
         minima g _ = go (eqb h g) refl

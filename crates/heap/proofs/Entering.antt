@@ -2,17 +2,19 @@
 use Prim.Native.Nat.{ℕ, _+_}
 use mathlib.Core.Path.{_≡_, sym, ap, _∙_, subst}
 use mathlib.Core.List.{List}
-use Rattle.rules.specs.declared.Field.the-variants.{Count, Key, Minimum}
+use Rattle.rules.specs.declared.Field.the-variants.{Count, Minimum}
+use Rattle.rules.specs.Order.{lesser}
 use Rattle.rules.specs.SetWord.{setWord}
 use Rattle.rules.specs.Words.{look}
+use Rattle.rules.proofs.LeastOfTwo.{lesser-keys}
+use Rattle.store.specs.ItemOrder.{itemKey}
 use Rattle.store.specs.Says.{Changes, Says, Values}
 use Rattle.store.specs.Siblings.{Link}
+use Rattle.store.proofs.ItemOrder.{key-says}
 use Rattle.heap.specs.Entered.{EnrollReady, enrolled}
-use Rattle.heap.specs.Lesser.{lesser}
-use Rattle.heap.proofs.LeastOfTwo.{lesser-keys}
 
 pub enroll-changes : {n : ℕ} {w w₁ w₂ : List ℕ} {h i m c l : ℕ} → EnrollReady n w h i → m ≡ look n w Minimum h
-    → c ≡ look n w Count h → l ≡ lesser (look n w Key) m i → Changes n w (setWord Count h (c + 1)) w₁
+    → c ≡ look n w Count h → l ≡ lesser (itemKey (look n w)) m i → Changes n w (setWord Count h (c + 1)) w₁
     → Changes n w₁ (setWord Minimum h l) w₂ → Changes n w (enrolled h i) w₂
 unfolding enrolled
 enroll-changes {n} {w} {w₁} {w₂} {h} {i} {m} {c} {l} r p q e a b =
@@ -24,9 +26,9 @@ enroll-changes {n} {w} {w₁} {w₂} {h} {i} {m} {c} {l} r p q e a b =
           (q ∙ s .says Count h (r .enter .heap)) (b .says _ (a .says v s)));
     }
   where
-    least : (v : Values) → Says n w v → l ≡ lesser (v Key) (v Minimum h) i
+    least : (v : Values) → Says n w v → l ≡ lesser (itemKey v) (v Minimum h) i
     least v s =
         e
-        ∙ lesser-keys (look n w Key) (v Key) m i
-        (λ d. s .says Key m (subst (Link n) (sym p) (r .minimum) d)) (λ _. s .says Key i (r .enter .item))
-        ∙ ap (λ z. lesser (v Key) z i) (p ∙ s .says Minimum h (r .enter .heap))
+        ∙ lesser-keys (itemKey (look n w)) (itemKey v) m i
+        (λ d. key-says s m (subst (Link n) (sym p) (r .minimum) d)) (λ _. key-says s i (r .enter .item))
+        ∙ ap (λ z. lesser (itemKey v) z i) (p ∙ s .says Minimum h (r .enter .heap))

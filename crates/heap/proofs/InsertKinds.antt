@@ -5,7 +5,7 @@ use mathlib.Core.Logic.{_≢_}
 use mathlib.Core.List.{List, [], _∷_, _++_}
 use mathlib.Core.Bool.{Bool, true, false, cond}
 use native.Mathlib.Omega.{arith}
-use lib.ListN.{getD, set}
+use lib.ListN.{set}
 use lib.Seq.{getD-set-other}
 use lib.Dec.{eqb, eqb·zero-suc}
 use borrow.Author.Tests.{eqb-true, ne-eqb}
@@ -41,19 +41,20 @@ use Rattle.rules.specs.Forests.{
   tableSize,
 }
 use Rattle.rules.specs.Lists.{delta, occurs}
-use Rattle.rules.specs.Order.{leastIn, leastOf, minimum}
+use Rattle.rules.specs.Order.{keyIn, leastIn, leastOf, lesser, minimum}
 use Rattle.rules.specs.WellFormed.{Disjoint}
 use Rattle.rules.specs.Words.{headOr, lastOr, nextIn, prevIn, room, siblings, stateOf, unlessFree, word}
 use Rattle.rules.proofs.Counts.{count-entered}
+use Rattle.rules.proofs.LeastOfTwo.{least-append, least-other, lesser-keys}
 use Rattle.rules.proofs.Members.{free-children, row-root}
 use Rattle.rules.proofs.Occurs.{delta-other, occurs-one}
 use Rattle.rules.proofs.SiblingLists.{once-row}
 use Rattle.store.specs.Families.{Family, listOf, loose, ownerOf, wordBut}
+use Rattle.store.specs.ItemOrder.{itemKey}
 use Rattle.store.specs.Says.{Values}
 use Rattle.store.proofs.Families.{getD-set}
+use Rattle.store.proofs.ItemOrder.{key-is}
 use Rattle.heap.specs.Entered.{enrolled, entered}
-use Rattle.heap.specs.Lesser.{lesser}
-use Rattle.heap.proofs.LeastOfTwo.{least-append, least-other}
 use Rattle.heap.proofs.SoundStore.{row-none}
 
 module _ (t : Forests) (D : Disjoint t) (h i k : ℕ) (hh : h < 8) (ii : i < tableSize t) (fr : heapOf t i ≡ 0) where
@@ -147,12 +148,12 @@ module _ (t : Forests) (D : Disjoint t) (h i k : ℕ) (hh : h < 8) (ii : i < tab
       key′ = set (t .key) i k
 
       go : (b : Bool) → eqb h g ≡ b
-          → cond b (lesser (λ j. getD key′ j 0) (leastIn (t .key) (rowOf t h)) i) (leastIn (t .key) (rowOf t g))
+          → cond b (lesser (keyIn key′) (leastIn (t .key) (rowOf t h)) i) (leastIn (t .key) (rowOf t g))
           ≡ leastIn key′ (cond b (rowOf t h ++ (i ∷ [])) (rowOf t g))
       go true e =
-          ap (λ m. lesser (λ j. getD key′ j 0) m i) (sym (least-other (t .key) i k (rowOf t h) (out h)))
-          ∙ sym (least-append (λ j. getD key′ j 0) key′ (rowOf t h) (i ∷ []) (row-none t D h)
-          (occurs-one none i ∙ delta-other none i (λ e. omega (arith, e, D .small))) (λ j _. refl))
+          ap (λ m. lesser (keyIn key′) m i) (sym (least-other (t .key) i k (rowOf t h) (out h)))
+          ∙ sym (least-append key′ (rowOf t h) (i ∷ []) (row-none t D h)
+          (occurs-one none i ∙ delta-other none i (λ e. omega (arith, e, D .small))))
       go false e = sym (least-other (t .key) i k (rowOf t g) (out g))
 
   pub enrolled-word : (n : ℕ) (f : Field) (j : ℕ) → j < room n f
@@ -160,7 +161,11 @@ module _ (t : Forests) (D : Disjoint t) (h i k : ℕ) (hh : h < 8) (ii : i < tab
   unfolding enrolled wordBut word
   enrolled-word n FirstTree j l = refl
   enrolled-word n LastTree j l = refl
-  enrolled-word n Minimum j l = least-word j
+  enrolled-word n Minimum j l =
+      ap (λ m. cond (eqb h j) m (minimum t j))
+      (lesser-keys (itemKey (wordBut (count t) (minimum t) new)) (keyOf new) (minimum t h) i
+      (λ _. key-is _ new (minimum t h) refl) (λ _. key-is _ new i refl))
+      ∙ least-word j
   enrolled-word n Count j l = count-word j
   enrolled-word n Key j l = refl
   enrolled-word n Parent j l = refl

@@ -9,14 +9,18 @@ use native.Mathlib.Omega.{arith}
 use lib.Dec.{eqb, ltb}
 use borrow.Author.Tests.{eqb-true, eqb-false, ltb-true, ltb-false, lt-ltb, le-ltb}
 use Rattle.rules.specs.declared.Field.{Field}
-use Rattle.rules.specs.declared.Field.the-variants.{Count, FirstTree, Key, LastTree, Minimum, State}
+use Rattle.rules.specs.declared.Field.the-variants.{Count, FirstTree, LastTree, Minimum, State}
+use Rattle.rules.specs.Order.{lesser}
 use Rattle.rules.specs.SetWord.{fieldNumber, setWord}
 use Rattle.rules.specs.Words.{look, room}
+use Rattle.rules.proofs.LeastOfTwo.{lesser-keys}
 use Rattle.rules.proofs.Places.{number-injective}
 use Rattle.store.specs.declared.Owner.the-variants.{Row}
 use Rattle.store.specs.Empty.{emptyHeap}
+use Rattle.store.specs.ItemOrder.{itemKey}
 use Rattle.store.specs.Says.{Changes, Says, Sized, Values}
 use Rattle.store.specs.Siblings.{Link, concatenated}
+use Rattle.store.proofs.ItemOrder.{key-says}
 use Rattle.store.proofs.Says.{says-as}
 use Rattle.heap.specs.HeapsJoined.{
   JoinHeapsReady,
@@ -27,8 +31,6 @@ use Rattle.heap.specs.HeapsJoined.{
   rehomed,
   rehomedTo,
 }
-use Rattle.heap.specs.Lesser.{lesser}
-use Rattle.heap.proofs.LeastOfTwo.{lesser-keys}
 
 pub pour-changes : {n : ℕ} {w w₁ w₂ : List ℕ} {a b x y : ℕ} → RehomeReady n w a b → x ≡ look n w FirstTree b
     → y ≡ look n w LastTree b → Changes n w (concatenated (Row a) x y) w₁ → Changes n w₁ (emptyHeap b) w₂
@@ -45,7 +47,7 @@ pour-changes {n} {w} {w₁} {w₂} {a} {b} {x} {y} r p q c d =
 
 pub join-heaps-changes : {n : ℕ} {w w₁ w₂ w₃ : List ℕ} {a b c d p q l : ℕ} → JoinHeapsReady n w a b
     → c ≡ look n w Count a → d ≡ look n w Count b → p ≡ look n w Minimum a → q ≡ look n w Minimum b
-    → l ≡ lesser (look n w Key) p q → Changes n w (poured a b) w₁ → Changes n w₁ (setWord Minimum a l) w₂
+    → l ≡ lesser (itemKey (look n w)) p q → Changes n w (poured a b) w₁ → Changes n w₁ (setWord Minimum a l) w₂
     → Changes n w₂ (setWord Count a (c + d)) w₃ → Changes n w (heapsJoined a b) w₃
 unfolding heapsJoined
 join-heaps-changes {n} {w} {w₁} {w₂} {w₃} {a} {b} {c} {d} {p} {q} {l} r ec ed ep eq el x y z =
@@ -64,15 +66,15 @@ join-heaps-changes {n} {w} {w₁} {w₂} {w₃} {a} {b} {c} {d} {p} {q} {l} r ec
     both v s = omega (arith, s .says Count a (H .into), s .says Count b (H .from))
 
     least : Values → ℕ
-    least v = lesser (v Key) (v Minimum a) (v Minimum b)
+    least v = lesser (itemKey v) (v Minimum a) (v Minimum b)
 
     is-least : (v : Values) → Says n w v → l ≡ least v
     is-least v s =
         el
-        ∙ lesser-keys (look n w Key) (v Key) p q (λ e. s .says Key p (subst (Link n) (sym ep) (r .one) e))
-        (λ e. s .says Key q (subst (Link n) (sym eq) (r .two) e))
-        ∙ ap (λ m. lesser (v Key) m q) (ep ∙ s .says Minimum a (H .into))
-        ∙ ap (λ m. lesser (v Key) (v Minimum a) m) (eq ∙ s .says Minimum b (H .from))
+        ∙ lesser-keys (itemKey (look n w)) (itemKey v) p q (λ e. key-says s p (subst (Link n) (sym ep) (r .one) e))
+        (λ e. key-says s q (subst (Link n) (sym eq) (r .two) e))
+        ∙ ap (λ m. lesser (itemKey v) m q) (ep ∙ s .says Minimum a (H .into))
+        ∙ ap (λ m. lesser (itemKey v) (v Minimum a) m) (eq ∙ s .says Minimum b (H .from))
 
 -- ---- the pass over the state words
 

@@ -1,4 +1,3 @@
-pub mod LeastOfTwo
 pub mod SoundStore
 pub mod Entering
 pub mod JoiningHeaps

@@ -25,14 +25,16 @@ use Rattle.rules.specs.declared.Field.the-variants.{
 use Rattle.rules.specs.Calls.{meld, moveHeap}
 use Rattle.rules.specs.Forests.{Forests, childrenOf, count, heapOf, keyOf, markOf, none, rowOf, tableSize}
 use Rattle.rules.specs.Lists.{occurs}
-use Rattle.rules.specs.Order.{leastIn, minimum}
+use Rattle.rules.specs.Order.{leastIn, lesser, minimum}
 use Rattle.rules.specs.WellFormed.{Disjoint}
 use Rattle.rules.specs.Words.{headOr, lastOr, nextIn, prevIn, room, siblings, stateOf, unlessFree, word}
 use Rattle.rules.proofs.ConcatLinks.{next-behind, prev-before}
 use Rattle.rules.proofs.Counts.{count-meld}
+use Rattle.rules.proofs.LeastOfTwo.{least-append, lesser-keys}
 use Rattle.store.specs.Empty.{emptyHeap}
+use Rattle.store.specs.ItemOrder.{itemKey}
+use Rattle.store.proofs.ItemOrder.{key-is}
 use Rattle.heap.specs.HeapsJoined.{heapsJoined, movedState, poured, rehomed}
-use Rattle.heap.specs.Lesser.{lesser}
 use Rattle.heap.proofs.FollowedRow.{
   after,
   first-after,
@@ -43,7 +45,6 @@ use Rattle.heap.proofs.FollowedRow.{
   prev-kept,
   prev-two,
 }
-use Rattle.heap.proofs.LeastOfTwo.{least-append}
 use Rattle.heap.proofs.MeldLists.{
   Where,
   inOne,
@@ -133,7 +134,7 @@ module _ (t : Forests) (D : Disjoint t) (a b : ℕ) (o : (a < 8) × (b < 8) × (
           (cond v none (leastIn (t .key) (rowOf t g)))
           ≡ cond v none (cond u (leastIn (t .key) (one ++ two)) (leastIn (t .key) (rowOf t g)))
       go true true e d = absurd (o .2 (eqb-true a g e ∙ sym (eqb-true b g d)))
-      go true false e d = sym (least-append (keyOf t) (t .key) one two (row-none t D a) n₂ (λ j _. refl))
+      go true false e d = sym (least-append (t .key) one two (row-none t D a) n₂)
       go false v e d = refl
 
   count-word : (g : ℕ)
@@ -158,8 +159,11 @@ module _ (t : Forests) (D : Disjoint t) (a b : ℕ) (o : (a < 8) × (b < 8) × (
   melded-word n e FirstTree j l = ap (cond (eqb b j) none) (first-after t D a two n₂ j) ∙ row-word (headOr none) j
   melded-word n e LastTree j l = ap (cond (eqb b j) none) (last-after t D a two n₂ j) ∙ row-word (lastOr none) j
   melded-word n e Minimum j l =
-      ap (λ x. cond (eqb a j) (lesser (keyOf t) (minimum t a) (minimum t b)) (cond (eqb b j) none x))
+      ap (λ x. cond (eqb a j) (lesser (itemKey (word t)) (minimum t a) (minimum t b)) (cond (eqb b j) none x))
       (plain-after t D a two Minimum j refl)
+      ∙ ap (λ x. cond (eqb a j) x (cond (eqb b j) none (minimum t j)))
+      (lesser-keys (itemKey (word t)) (keyOf t) (minimum t a) (minimum t b)
+      (λ _. key-is _ t (minimum t a) refl) (λ _. key-is _ t (minimum t b) refl))
       ∙ least-word j
   melded-word n e Count j l =
       ap (λ x. cond (eqb a j) (count t a + count t b) (cond (eqb b j) 0 x)) (plain-after t D a two Count j refl)

@@ -3,14 +3,15 @@ use Prim.Native.Nat.{ℕ, _+_, _*_, _<_, _≤_}
 use mathlib.Core.List.{List}
 use mathlib.Core.Bool.{cond}
 use lib.Dec.{eqb, ltb}
-use Rattle.rules.specs.declared.Field.the-variants.{FirstTree, LastTree, Minimum, Count, Key, State}
+use Rattle.rules.specs.declared.Field.the-variants.{FirstTree, LastTree, Minimum, Count, State}
+use Rattle.rules.specs.Order.{lesser}
 use Rattle.rules.specs.SetWord.{fieldNumber, setWord}
 use Rattle.rules.specs.Words.{look}
 use Rattle.store.specs.declared.Owner.the-variants.{Row}
 use Rattle.store.specs.Empty.{emptyHeap}
+use Rattle.store.specs.ItemOrder.{itemKey}
 use Rattle.store.specs.Says.{Sized, Values}
 use Rattle.store.specs.Siblings.{Link, concatenated}
-use Rattle.heap.specs.Lesser.{lesser}
 
 -- b's row follows a's, and b is empty
 unfoldable pub poured : ℕ → ℕ → Values → Values
@@ -20,7 +21,7 @@ poured a b v = emptyHeap b (concatenated (Row a) (v FirstTree b) (v LastTree b) 
 unfoldable pub heapsJoined : ℕ → ℕ → Values → Values
 heapsJoined a b v =
     setWord Count a (v Count a + v Count b)
-    (setWord Minimum a (lesser (v Key) (v Minimum a) (v Minimum b)) (poured a b v))
+    (setWord Minimum a (lesser (itemKey v) (v Minimum a) (v Minimum b)) (poured a b v))
 
 -- the state word of an item, once the items of heap b are heap a's
 unfoldable pub movedState : ℕ → ℕ → ℕ → ℕ

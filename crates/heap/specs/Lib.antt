@@ -1,4 +1,3 @@
-pub mod Lesser
 pub mod Allowed
 pub mod Performed
 pub mod Entered

@@ -9,13 +9,13 @@ ghost use Rattle.rules.specs.Words.{forestsOf};
 ghost use Rattle.cut.specs.Ready.{CascadeReady};
 ghost use Rattle.heap.specs.Allowed.{MayMove, Moves};
 ghost use Rattle.heap.specs.Moving.{InHeap, CutsIf};
-use super::lesser::lesser_of;
-use consolidate::precedes;
 use cut::cut_out;
 use rules::Field;
 use rules::Tally;
 use store::NONE;
 use store::get;
+use store::order::lesser_of;
+use store::order::precedes;
 use store::put;
 
 // The heap that an item is in.

@@ -7,12 +7,12 @@ ghost use Rattle.rules.specs.Words.{encode, forestsOf};
 ghost use Rattle.store.specs.Says.{Changes};
 ghost use Rattle.heap.specs.Allowed.{Allowed};
 ghost use Rattle.heap.specs.Entered.{entered, enrolled, EnterReady, EnrollReady};
-use super::lesser::lesser_of;
 use rules::Field;
 use store::NONE;
 use store::Owner;
 use store::append;
 use store::get;
+use store::order::lesser_of;
 use store::put;
 
 // The words of a new tree that do not depend on its place in the row.

@@ -2,7 +2,6 @@
 pub mod decrease;
 pub mod delete;
 pub mod insert;
-pub mod lesser;
 pub mod meld;
 pub mod perform;
 pub mod refusal;

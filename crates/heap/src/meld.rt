@@ -8,12 +8,12 @@ ghost use Prim.Native.Nat.{_<_};
 ghost use Rattle.heap.specs.Allowed.{Allowed};
 ghost use Rattle.heap.specs.HeapsJoined.{poured, heapsJoined, movedState, rehomed};
 ghost use Rattle.heap.specs.HeapsJoined.{PourReady, JoinHeapsReady, RehomeReady};
-use super::lesser::lesser_of;
 use rules::Field;
 use store::Owner;
 use store::concat;
 use store::empty_heap;
 use store::get;
+use store::order::lesser_of;
 use store::put;
 
 // b's row follows a's, and b is empty.

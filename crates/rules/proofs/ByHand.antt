@@ -49,13 +49,13 @@ use Rattle.rules.specs.Fibonacci.{R, lastFrom}
 use Rattle.rules.specs.Forests.{count, marks, potential, trees}
 use Rattle.rules.specs.Ledger.{allowance, allowed, ifDone, moves, price}
 use Rattle.rules.specs.Lists.{setAll, sumBy, without}
-use Rattle.rules.specs.Order.{leastIn, leastOf, minimum, precedes}
+use Rattle.rules.specs.Order.{comesBefore, leastIn, leastOf, minimum}
 
 pub workedRuns : WorkedRuns
 unfolding table runB runC runD runE runF1 runF2 runF runG runH runTie runRelease linesB linesE linesF1
     linesF2 linesF linesG byRules seen sees reply markedFrom familiesFrom lastOf allowed moves allowance price ifDone R
     lastFrom after answers answer unlessRefused refused refusal isEmpty perform meld moveHeap delete deleteAs
     decreaseKey hasParent extract removeRoot setFree release insert consolidate consolidateWithin occupied linkTrees
-    climb isFree link cutIf cutOut cutWithin cascadingCut standing cut minimum leastIn leastOf precedes potential marks
-    trees count setAll without sumBy
+    climb isFree link cutIf cutOut cutWithin cascadingCut standing cut minimum leastIn leastOf comesBefore potential
+    marks trees count setAll without sumBy
 workedRuns = refl

@@ -35,6 +35,7 @@ pub mod Sizes
 pub mod Places
 pub mod Words
 pub mod Siblings
+pub mod LeastOfTwo
 pub mod ConcatLinks
 pub mod RemoveLinks
 pub mod Relinks

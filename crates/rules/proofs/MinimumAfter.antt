@@ -19,13 +19,7 @@ use Rattle.rules.proofs.ConsolidateKeeps.{low}
 use Rattle.rules.proofs.Members.{heap-in, row-root}
 use Rattle.rules.proofs.Minimum.{minimumFirst, minimumUnique}
 use Rattle.rules.proofs.Occurs.{byItem, delta-self, eqb-self}
-use Rattle.rules.proofs.Order.{is-precedes, precedes-irrefl, precedes-is, precedes-total}
-
--- the order looks at two keys alone
-same-precedes : (key key′ : List ℕ) (a b : ℕ) → getD key′ a 0 ≡ getD key a 0 → getD key′ b 0 ≡ getD key b 0
-    → precedes key′ a b ≡ precedes key a b
-unfolding precedes
-same-precedes key key′ a b p q = rw (p, q)
+use Rattle.rules.proofs.Order.{before-keys, is-precedes, precedes-irrefl, precedes-is, precedes-total}
 
 -- a heap without items has no minimum
 no-minimum : (t : Forests) → Disjoint t → (g : ℕ) → ((x : ℕ) → heapOf t x ≡ suc g → ⊥) → minimum t g ≡ none
@@ -62,7 +56,7 @@ module _ (t t′ : Forests) (W : WellFormed t) (W′ : WellFormed t′) where
           minimumUnique t′ W′ g (minimum t g) (record {
             inside = i;
             first = λ x q n.
-                rw (same-precedes (t .key) (t′ .key) (minimum t g) x (f (minimum t g) i .1) (f x q .1))
+                rw (before-keys (keyOf t′) (keyOf t) (minimum t g) x (f (minimum t g) i .1) (f x q .1))
                 (M .first x (f x q .0) n);
           })
 

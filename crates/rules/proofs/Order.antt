@@ -9,8 +9,44 @@ use native.Mathlib.Omega.{arith}
 use lib.ListN.{getD, set}
 use lib.Seq.{getD-set-other}
 use lib.Dec.{eqb, ltb}
-use borrow.Author.Tests.{eqb-true, eqb-false, ltb-true, ltb-false}
-use Rattle.rules.specs.Order.{precedes}
+use borrow.Author.Tests.{eqb-true, eqb-false, ltb-true, ltb-false, lt-ltb, le-ltb}
+use Rattle.rules.specs.Order.{comesBefore, keyIn, precedes}
+
+-- ---- by a table of keys
+
+module _ (key : ℕ → ℕ) (a b : ℕ) where
+  byTests : (P : Bool → Type 0) → (key a < key b → P true) → (key a ≡ key b → a < b → P true)
+      → (key a ≡ key b → b ≤ a → P false) → (key b < key a → P false) → P (comesBefore key a b)
+  unfolding comesBefore
+  byTests P f g h k = go (ltb (key a) (key b)) (eqb (key a) (key b)) (ltb a b) refl refl refl
+    where
+      go : (u v w : Bool) → ltb (key a) (key b) ≡ u → eqb (key a) (key b) ≡ v → ltb a b ≡ w → P (u || (v && w))
+      go true v w p q r = f (ltb-true _ _ p)
+      go false true true p q r = g (eqb-true _ _ q) (ltb-true a b r)
+      go false true false p q r = h (eqb-true _ _ q) (ltb-false a b r)
+      go false false w p q r =
+          let n : key a ≢ key b = eqb-false (key a) (key b) q in
+          k (omega (arith, ltb-false (key a) (key b) p))
+
+  -- the order as one number, for items of 32 bits
+  abbrev X : ℕ
+  X = key a * 4294967296 + a
+
+  abbrev Y : ℕ
+  Y = key b * 4294967296 + b
+
+  pub before-number : a < 4294967296 → b < 4294967296 → comesBefore key a b ≡ ltb X Y
+  before-number i j =
+      byTests (λ t. t ≡ ltb X Y) (λ l. sym (lt-ltb X Y (omega arith))) (λ q l. sym (lt-ltb X Y (omega arith)))
+      (λ q l. sym (le-ltb X Y (omega arith))) (λ l. sym (le-ltb X Y (omega arith)))
+
+-- the order looks at two keys alone
+pub before-keys : (key key′ : ℕ → ℕ) (a b : ℕ) → key a ≡ key′ a → key b ≡ key′ b
+    → comesBefore key a b ≡ comesBefore key′ a b
+unfolding comesBefore
+before-keys key key′ a b p q = rw (p, q)
+
+-- ---- by a list of keys
 
 module _ (key : List ℕ) (a b : ℕ) where
   -- the two keys
@@ -20,30 +56,20 @@ module _ (key : List ℕ) (a b : ℕ) where
   abbrev B : ℕ
   B = getD key b 0
 
-  byTests : (P : Bool → Type 0) → (A < B → P true) → (A ≡ B → a < b → P true) → (A ≡ B → b ≤ a → P false)
-      → (B < A → P false) → P (precedes key a b)
-  unfolding precedes
-  byTests P f g h k = go (ltb A B) (eqb A B) (ltb a b) refl refl refl
-    where
-      go : (u v w : Bool) → ltb A B ≡ u → eqb A B ≡ v → ltb a b ≡ w → P (u || (v && w))
-      go true v w p q r = f (ltb-true A B p)
-      go false true true p q r = g (eqb-true A B q) (ltb-true a b r)
-      go false true false p q r = h (eqb-true A B q) (ltb-false a b r)
-      go false false w p q r = let n : A ≢ B = eqb-false A B q in k (omega (arith, ltb-false A B p))
-
   pub is-precedes : precedes key a b ≡ true → (A ≤ B) × (A ≡ B → a < b)
   is-precedes =
-      byTests (λ t. t ≡ true → (A ≤ B) × (A ≡ B → a < b)) (λ l _. (omega arith, λ z. absurd (omega arith)))
+      byTests (keyIn key) a b (λ t. t ≡ true → (A ≤ B) × (A ≡ B → a < b))
+      (λ l _. (omega arith, λ z. absurd (omega arith)))
       (λ q l _. (omega arith, λ _. l)) (λ _ _ e. absurd (false≢true e)) (λ _ e. absurd (false≢true e))
 
   pub precedes-is : A ≤ B → (A ≡ B → a < b) → precedes key a b ≡ true
   precedes-is l k =
-      byTests (λ t. t ≡ true) (λ _. refl) (λ _ _. refl) (λ q m. absurd (omega (arith, k q)))
+      byTests (keyIn key) a b (λ t. t ≡ true) (λ _. refl) (λ _ _. refl) (λ q m. absurd (omega (arith, k q)))
       (λ m. absurd (omega arith))
 
   pub not-precedes : precedes key a b ≡ false → (B ≤ A) × (A ≡ B → b ≤ a)
   not-precedes =
-      byTests (λ t. t ≡ false → (B ≤ A) × (A ≡ B → b ≤ a)) (λ _ e. absurd (true≢false e))
+      byTests (keyIn key) a b (λ t. t ≡ false → (B ≤ A) × (A ≡ B → b ≤ a)) (λ _ e. absurd (true≢false e))
       (λ _ _ e. absurd (true≢false e)) (λ q l _. (omega arith, λ _. l))
       (λ l _. (omega arith, λ z. absurd (omega arith)))
 
@@ -55,10 +81,10 @@ precedes-total key a b n e = let f =
 pub precedes-irrefl : (key : List ℕ) (a b : ℕ) → precedes key a b ≡ true → a ≢ b
 precedes-irrefl key a b e q = let f = is-precedes key a b e in omega (arith, f .1 (ap (λ c. getD key c 0) q))
 
--- the order looks at two keys alone
+-- the key of a third item does not matter
 pub precedes-other : (key : List ℕ) (x v a b : ℕ) → a ≢ x → b ≢ x → precedes (set key x v) a b ≡ precedes key a b
-unfolding precedes
-precedes-other key x v a b m n = rw (getD-set-other key x a v 0 m, getD-set-other key x b v 0 n)
+precedes-other key x v a b m n =
+    before-keys (keyIn (set key x v)) (keyIn key) a b (getD-set-other key x a v 0 m) (getD-set-other key x b v 0 n)
 
 -- the order as one number, for items up to 4096
 unfoldable pub ord : List ℕ → ℕ → ℕ

@@ -6,9 +6,20 @@ use lib.ListN.{getD}
 use lib.Dec.{ltb, eqb}
 use Rattle.rules.specs.Forests.{Forests, none, rowOf}
 
--- Item a comes before item b: its key is smaller, or the keys are equal and a < b.
-unfoldable pub precedes : List ℕ → ℕ → ℕ → Bool
-precedes key a b = ltb (getD key a 0) (getD key b 0) || (eqb (getD key a 0) (getD key b 0) && ltb a b)
+-- By a table of keys, item a comes before item b: its key is smaller, or the keys are equal and a < b.
+unfoldable pub comesBefore : (ℕ → ℕ) → ℕ → ℕ → Bool
+comesBefore key a b = ltb (key a) (key b) || (eqb (key a) (key b) && ltb a b)
+
+-- the lesser of two items: the one that comes first, where `none` stands for no item
+unfoldable pub lesser : (ℕ → ℕ) → ℕ → ℕ → ℕ
+lesser key a b = cond (eqb a none) b (cond (eqb b none) a (cond (comesBefore key b a) b a))
+
+-- the table of a list of keys, and the order by it
+abbrev pub keyIn : List ℕ → ℕ → ℕ
+keyIn key i = getD key i 0
+
+abbrev pub precedes : List ℕ → ℕ → ℕ → Bool
+precedes key a b = comesBefore (keyIn key) a b
 
 -- the least of x and the items of a list
 unfoldable pub leastOf : List ℕ → ℕ → List ℕ → ℕ

@@ -1,5 +1,6 @@
 pub mod Sizes
 pub mod Says
+pub mod ItemOrder
 pub mod Owners
 pub mod Moves
 pub mod Families

@@ -1,4 +1,5 @@
 pub mod Says
 pub mod Empty
 pub mod Siblings
+pub mod ItemOrder
 pub mod Families

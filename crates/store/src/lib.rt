@@ -32,6 +32,9 @@ ghost use Rattle.store.specs.Siblings.{
   AppendReady,
   RemoveReady,
 };
+
+pub mod order;
+
 use rules::Field;
 
 // No item.

@@ -106,10 +106,14 @@ parent-ok-spec =
     sub-word-at
     word-at-requires-2
     returns
+    (λ c. search needs)
+    (λ c. search needs)
     precedes-requires
     returns-2
     returns-3
     word-at-requires-3
     heap-of-requires-2
+    (λ c. search needs)
+    (λ c. search needs)
     precedes-requires-2
     returns-4)

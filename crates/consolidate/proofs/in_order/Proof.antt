@@ -1,4 +1,4 @@
--- `heap::in_order` meets its contract.
+-- `consolidate::in_order` meets its contract.
 use mathlib.Core.Path.{sym}
 use borrow.Author.Needs.{needs}
 use Rattle.consolidate.proofs.in_order.Statement.{statement}

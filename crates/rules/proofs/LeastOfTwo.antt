@@ -1,21 +1,20 @@
--- The least item of two lists is the lesser of their least items.
-use Prim.Native.Nat.{ℕ, _+_, _≤_}
+-- The lesser of two items; the least item of two lists is the lesser of their least items.
+use Prim.Native.Nat.{ℕ, _+_}
 use mathlib.Core.Path.{_≡_, refl, sym, ap, _∙_}
 use mathlib.Core.Logic.{_≢_}
 use mathlib.Core.List.{List, [], _∷_, _++_}
-use mathlib.Core.Bool.{Bool, true, false, cond, _&&_, _||_}
+use mathlib.Core.Bool.{Bool, true, false, cond}
 use native.Mathlib.Omega.{arith}
 use lib.ListN.{getD, set}
-use lib.Dec.{eqb, ltb}
-use borrow.Author.Tests.{eqb-true, eqb-false, ne-eqb, ltb-true, ltb-false}
+use lib.Dec.{eqb}
+use borrow.Author.Tests.{eqb-false, ne-eqb}
 use Rattle.rules.specs.Forests.{none}
 use Rattle.rules.specs.Lists.{delta, occurs, sumBy}
-use Rattle.rules.specs.Order.{leastIn, leastOf, precedes}
+use Rattle.rules.specs.Order.{comesBefore, keyIn, leastIn, leastOf, lesser, precedes}
 use Rattle.rules.proofs.Minimum.{leastOf-in}
-use Rattle.rules.proofs.Occurs.{delta-self, occurs-append}
-use Rattle.rules.proofs.Order.{is-precedes, not-precedes, precedes-is, precedes-other}
+use Rattle.rules.proofs.Occurs.{delta-self}
+use Rattle.rules.proofs.Order.{before-keys, is-precedes, not-precedes, precedes-is, precedes-other}
 use Rattle.rules.proofs.Siblings.{apart}
-use Rattle.heap.specs.Lesser.{lesser}
 
 module _ (key : List ℕ) where
   abbrev two : ℕ → ℕ → ℕ
@@ -64,28 +63,9 @@ module _ (key : List ℕ) where
   least-item x l n = apart (leastOf key x l) none (x ∷ l) (leastOf-in key x l) n
 
 -- where both are items it is the one that comes first
-pub lesser-two : (key : ℕ → ℕ) (keys : List ℕ) (a b : ℕ) → a ≢ none → b ≢ none → key a ≡ getD keys a 0
-    → key b ≡ getD keys b 0 → lesser key a b ≡ cond (precedes keys b a) b a
-unfolding lesser precedes
-lesser-two key keys a b m n p q =
-    rw (ne-eqb a none m, ne-eqb b none n, p, q)
-    (go (ltb B A) (ltb A B) (eqb B A) refl refl refl)
-  where
-    A : ℕ
-    A = getD keys a 0
-
-    B : ℕ
-    B = getD keys b 0
-
-    go : (u v w : Bool) → ltb B A ≡ u → ltb A B ≡ v → eqb B A ≡ w
-        → cond u b (cond v a (cond (ltb b a) b a)) ≡ cond (u || (w && ltb b a)) b a
-    go true v w d e f = refl
-    go false true true d e f = absurd (omega (arith, ltb-true A B e, eqb-true B A f))
-    go false true false d e f = refl
-    go false false true d e f = refl
-    go false false false d e f =
-        let z : B ≢ A = eqb-false B A f in
-        absurd (omega (arith, ltb-false B A d, ltb-false A B e))
+pub lesser-two : (key : ℕ → ℕ) (a b : ℕ) → a ≢ none → b ≢ none → lesser key a b ≡ cond (comesBefore key b a) b a
+unfolding lesser
+lesser-two key a b m n = rw (ne-eqb a none m, ne-eqb b none n)
 
 -- only the keys of the two items matter
 pub lesser-keys : (key key′ : ℕ → ℕ) (a b : ℕ) → (a ≢ none → key a ≡ key′ a) → (b ≢ none → key b ≡ key′ b)
@@ -94,27 +74,22 @@ unfolding lesser
 lesser-keys key key′ a b p q = go (eqb a none) (eqb b none) refl refl
   where
     go : (u v : Bool) → eqb a none ≡ u → eqb b none ≡ v
-        → cond u b (cond v a (cond (ltb (key b) (key a)) b (cond (ltb (key a) (key b)) a (cond (ltb b a) b a))))
-        ≡ cond u b (cond v a (cond (ltb (key′ b) (key′ a)) b (cond (ltb (key′ a) (key′ b)) a (cond (ltb b a) b a))))
+        → cond u b (cond v a (cond (comesBefore key b a) b a)) ≡ cond u b (cond v a (cond (comesBefore key′ b a) b a))
     go true v d e = refl
     go false true d e = refl
-    go false false d e = rw (p (eqb-false a none d), q (eqb-false b none e))
+    go false false d e = rw (before-keys key key′ b a (q (eqb-false b none e)) (p (eqb-false a none d)))
 
-pub least-append : (key : ℕ → ℕ) (keys : List ℕ) (l m : List ℕ) → occurs none l ≡ 0 → occurs none m ≡ 0
-    → ((i : ℕ) → 1 ≤ occurs i (l ++ m) → key i ≡ getD keys i 0)
-    → leastIn keys (l ++ m) ≡ lesser key (leastIn keys l) (leastIn keys m)
+pub least-append : (keys l m : List ℕ) → occurs none l ≡ 0 → occurs none m ≡ 0
+    → leastIn keys (l ++ m) ≡ lesser (keyIn keys) (leastIn keys l) (leastIn keys m)
 unfolding leastIn leastOf lesser
-least-append key keys [] m p q k = refl
-least-append key keys (x ∷ l) [] p q k =
+least-append keys [] m p q = refl
+least-append keys (x ∷ l) [] p q =
     leastOf-append keys x l [] ∙ rw (ne-eqb (leastOf keys x l) none (least-item keys x l p))
-least-append key keys (x ∷ l) (y ∷ m) p q k =
+least-append keys (x ∷ l) (y ∷ m) p q =
     leastOf-append keys x l (y ∷ m)
     ∙ leastOf-two keys (leastOf keys x l) y m
-    ∙ sym (lesser-two key keys (leastOf keys x l) (leastOf keys y m) (least-item keys x l p) (least-item keys y m q)
-    (k (leastOf keys x l)
-    (omega (arith, leastOf-in keys x l, occurs-append (leastOf keys x l) (x ∷ l) (y ∷ m))))
-    (k (leastOf keys y m)
-    (omega (arith, leastOf-in keys y m, occurs-append (leastOf keys y m) (x ∷ l) (y ∷ m)))))
+    ∙ sym (lesser-two (keyIn keys) (leastOf keys x l) (leastOf keys y m) (least-item keys x l p)
+    (least-item keys y m q))
 
 -- the key of an item outside a list does not matter to its least item
 leastOf-other : (keys : List ℕ) (i k x : ℕ) (l : List ℕ) → occurs i (x ∷ l) ≡ 0

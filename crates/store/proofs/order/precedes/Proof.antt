@@ -1,0 +1,30 @@
+-- `store::order::precedes` meets its contract.
+use borrow.Author.Needs.{needs}
+use native.Mathlib.Omega.{arith}
+use Rattle.rules.specs.Words.{look}
+use Rattle.rules.proofs.Order.{before-number}
+use Rattle.store.specs.ItemOrder.{itemKey}
+use Rattle.store.proofs.order.precedes.Statement.{statement}
+use Rattle.store.proofs.order.precedes.Tie as tie
+
+returns : tie.Need-returns
+returns c =
+    let c2 = c .before .before in
+    let a = c2 .before .before .before .args in
+    rw (
+      before-number (itemKey (look (a .n) (a .s .now))) (a .a) (a .b) (omega arith) (omega arith),
+      ← (c2 .before .key-of .ensures),
+      ← (c2 .key-of2 .ensures),
+      ← (c .before .number-of .ensures),
+      ← (c .number-of2 .ensures),
+    )
+
+pub precedes-spec : {M : Type 1} → statement M
+precedes-spec =
+    tie.close
+    (tie.spec
+    (λ c κs. search needs)
+    (λ c κs. search needs)
+    (λ c κs. search needs)
+    (λ c κs. search needs)
+    returns)

@@ -1,0 +1,55 @@
+// The order of items, on the words of a store.
+ghost use mathlib.Core.Path.{_≡_};
+ghost use Prim.Native.Nat.{_+_, _*_};
+ghost use Rattle.rules.specs.declared.Field.the-variants.{Key};
+ghost use Rattle.rules.specs.Order.{comesBefore, lesser};
+ghost use Rattle.rules.specs.Words.{look};
+ghost use Rattle.store.specs.ItemOrder.{itemKey, TwoItems};
+ghost use Rattle.store.specs.Says.{Within};
+use super::NONE;
+use super::get;
+use rules::Field;
+
+// The key by which an item stands in the order: items are compared by nothing else.
+fn key_of(s: &[u32], n: usize, i: u32) -> u32
+    requires { ⌜ Within n (now s) Key i ⌝ }
+    ensures { λ r. ⌜ r ≡ itemKey (look n (now (s .entry))) i ⌝ }
+{
+    get(s, n, Field::Key, i)
+}
+
+// The place of an item in the order as one number, so that no branch depends on the keys.
+fn number_of(key: u32, i: u32) -> u64
+    ensures { λ r. ⌜ r ≡ key * 4294967296 + i ⌝ }
+{
+    (key as u64) * 4294967296 + (i as u64)
+}
+
+// Item a comes before item b.
+pub fn precedes(s: &[u32], n: usize, a: u32, b: u32) -> bool
+    requires { ⌜ Within n (now s) Key a ⌝ }
+    requires { ⌜ Within n (now s) Key b ⌝ }
+    ensures { λ r. ⌜ r ≡ comesBefore (itemKey (look n (now (s .entry)))) a b ⌝ }
+{
+    let x = key_of(s, n, a);
+    let y = key_of(s, n, b);
+    number_of(x, a) < number_of(y, b)
+}
+
+// The one of two items that comes first; NONE stands for no item.
+pub fn lesser_of(s: &[u32], n: usize, a: u32, b: u32) -> u32
+    requires { ⌜ TwoItems n (now s) a b ⌝ }
+    ensures { λ r. ⌜ r ≡ lesser (itemKey (look n (now (s .entry)))) a b ⌝ }
+{
+    if a == NONE {
+        return b;
+    }
+    if b == NONE {
+        return a;
+    }
+    // The item is read off the lesser number: a choice of the items would become a branch in a loop.
+    let x = number_of(key_of(s, n, a), a);
+    let y = number_of(key_of(s, n, b), b);
+    let least = if y < x { y } else { x };
+    (least % 4294967296) as u32
+}
