@@ -8,7 +8,20 @@ use native.Mathlib.Omega.{arith}
 use lib.Dec.{eqb}
 use borrow.Author.Tests.{eqb-true, eqb-false, ne-eqb}
 use Rattle.rules.specs.declared.Field.{Field}
-use Rattle.rules.specs.declared.Field.the-variants.{FirstTree, LastTree, Minimum, Count, Key, Parent, FirstChild, LastChild, Next, Prev, Rank, State}
+use Rattle.rules.specs.declared.Field.the-variants.{
+  FirstTree,
+  LastTree,
+  Minimum,
+  Count,
+  Key,
+  Parent,
+  FirstChild,
+  LastChild,
+  Next,
+  Prev,
+  Rank,
+  State,
+}
 use Rattle.rules.specs.Forests.{Forests, none, rowOf, childrenOf, parentOf, heapOf, heapNumber, tableSize, count}
 use Rattle.rules.specs.Lists.{occurs}
 use Rattle.rules.specs.Order.{minimum}

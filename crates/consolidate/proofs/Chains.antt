@@ -12,7 +12,16 @@ use Rattle.rules.specs.Forests.{none}
 use Rattle.rules.specs.Words.{headOr, lastOr, nextIn, prevIn}
 use Rattle.rules.proofs.Occurs.{byItem, eqb-self, delta-self, delta-other, occurs-append, occurs-one, occurs-without}
 use Rattle.rules.proofs.Siblings.{Once, last-in, apart}
-use Rattle.rules.proofs.ConcatLinks.{head-concat, last-any, last-concat, next-before, next-behind, prev-before, prev-behind, prev-first}
+use Rattle.rules.proofs.ConcatLinks.{
+  head-concat,
+  last-any,
+  last-concat,
+  next-before,
+  next-behind,
+  prev-before,
+  prev-behind,
+  prev-first,
+}
 use Rattle.rules.proofs.Relinks.{head-removed, next-removed, prev-removed}
 use Rattle.rules.proofs.RemoveLinks.{last-without}
 use Rattle.consolidate.specs.Chain.{Chain}

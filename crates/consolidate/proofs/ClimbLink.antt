@@ -30,7 +30,15 @@ use Rattle.store.specs.Says.{Changes}
 use Rattle.store.specs.Siblings.{AppendReady, RankRises, appended, lastOf}
 use Rattle.consolidate.specs.Consolidating.{Consolidating}
 use Rattle.consolidate.proofs.LinkWords.{keeps, link-beside}
-use Rattle.consolidate.proofs.Climbing.{Climbing, before-says, held, keys-fit, place-at, rank-inside, tree-inside}
+use Rattle.consolidate.proofs.Climbing.{
+  Climbing,
+  before-says,
+  held,
+  keys-fit,
+  place-at,
+  rank-inside,
+  tree-inside,
+}
 
 module _ {n h base : ℕ} {rest : List ℕ} {goal : Linking} {w ps : List ℕ} {x r links : ℕ}
     (G : Climbing n h base rest goal w ps x r links) {a : ℕ} (e : a ≡ getD ps r 0) (z : a ≢ none) where

@@ -7,7 +7,18 @@ use native.Mathlib.Omega.{arith}
 use lib.ListN.{length-append}
 use lib.Seq.{getD-set-same, getD-set-other}
 use borrow.Author.Tests.{ne-eqb}
-use Rattle.rules.specs.declared.Field.the-variants.{FirstTree, LastTree, Minimum, Count, Key, FirstChild, LastChild, Next, Prev, State}
+use Rattle.rules.specs.declared.Field.the-variants.{
+  FirstTree,
+  LastTree,
+  Minimum,
+  Count,
+  Key,
+  FirstChild,
+  LastChild,
+  Next,
+  Prev,
+  State,
+}
 use Rattle.rules.specs.Consolidate.{link}
 use Rattle.rules.specs.Forests.{Forests, none, rowOf, childrenOf, parentOf, heapOf, setRow, tableSize, count}
 use Rattle.rules.specs.Lists.{occurs}
@@ -26,7 +37,15 @@ use Rattle.consolidate.specs.Chain.{Chain}
 use Rattle.consolidate.specs.Stored.{Beside}
 use Rattle.consolidate.proofs.Beside.{not-child, free-child}
 use Rattle.consolidate.proofs.Chains.{chain-append, chain-frame, last-apart}
-use Rattle.consolidate.proofs.MoveWords.{child-next, child-prev, child-first, child-last, child-parent as word-parent, child-rank, child-other}
+use Rattle.consolidate.proofs.MoveWords.{
+  child-next,
+  child-prev,
+  child-first,
+  child-last,
+  child-parent as word-parent,
+  child-rank,
+  child-other,
+}
 
 module _ (n h : ℕ) (v : Values) (t : Forests) (ρ : List ℕ) (S : Formed (setRow h ρ t)) (hh : h < 8)
     (B : Beside n h v t) (a l : ℕ) (ia : 1 ≤ occurs a ρ) (il : 1 ≤ occurs l ρ) (al : a ≢ l) where

@@ -7,14 +7,37 @@ use native.Mathlib.Omega.{arith}
 use lib.Dec.{eqb}
 use borrow.Author.Tests.{eqb-true, eqb-false, ne-eqb}
 use Rattle.rules.specs.declared.Field.{Field}
-use Rattle.rules.specs.declared.Field.the-variants.{FirstTree, LastTree, Parent, FirstChild, LastChild, Next, Prev, Rank, State}
+use Rattle.rules.specs.declared.Field.the-variants.{
+  FirstTree,
+  LastTree,
+  Parent,
+  FirstChild,
+  LastChild,
+  Next,
+  Prev,
+  Rank,
+  State,
+}
 use Rattle.rules.specs.Forests.{none}
 use Rattle.rules.specs.Lists.{delta, occurs, sumBy}
 use Rattle.rules.specs.SetWord.{fieldNumber, setWord}
 use Rattle.rules.proofs.Occurs.{delta-self, delta-other, eqb-self}
 use Rattle.store.specs.declared.Owner.the-variants.{Row, Children}
 use Rattle.store.specs.Says.{Values}
-use Rattle.store.specs.Siblings.{parentIn, firstOf, lastOf, setFirst, setLast, setNext, setPrev, addRank, dropRank, joined, appended, removed}
+use Rattle.store.specs.Siblings.{
+  parentIn,
+  firstOf,
+  lastOf,
+  setFirst,
+  setLast,
+  setNext,
+  setPrev,
+  addRank,
+  dropRank,
+  joined,
+  appended,
+  removed,
+}
 use Rattle.store.proofs.ConcatWords.{Plain, apart}
 use Rattle.consolidate.specs.Released.{released}
 

@@ -8,7 +8,17 @@ use native.Mathlib.Omega.{arith}
 use lib.Dec.{eqb}
 use borrow.Author.Tests.{eqb-true, eqb-false, ne-eqb}
 use Rattle.rules.specs.declared.Field.{Field}
-use Rattle.rules.specs.declared.Field.the-variants.{FirstTree, LastTree, Count, Parent, FirstChild, LastChild, Next, Prev, State}
+use Rattle.rules.specs.declared.Field.the-variants.{
+  FirstTree,
+  LastTree,
+  Count,
+  Parent,
+  FirstChild,
+  LastChild,
+  Next,
+  Prev,
+  State,
+}
 use Rattle.rules.specs.Calls.{removeRoot, setFree, release}
 use Rattle.rules.specs.Forests.{Forests, none, rowOf, childrenOf, parentOf, heapOf, tableSize}
 use Rattle.rules.specs.Lists.{occurs, sumBy, without}
@@ -157,7 +167,8 @@ module _ (n h : ℕ) (v : Values) (t : Forests) (D : Disjoint t) (B : Beside n h
           rw (concat-last (v FirstChild x) (v LastChild x) v2 a (Row h) (Row h), eqb-self h)
           (chain-concat (without x row) cs row₂ family₂ once-after none-after a (v3 FirstTree h) (v3 Next) (v3 Prev)
           (concat-first (v FirstChild x) (v LastChild x) v2 a (Row h) (Row h) ∙ rw (eqb-self h))
-          (concat-next (v FirstChild x) (v LastChild x) v2 a (Row h)) (concat-prev (v FirstChild x) (v LastChild x) v2 a (Row h)))
+          (concat-next (v FirstChild x) (v LastChild x) v2 a (Row h))
+          (concat-prev (v FirstChild x) (v LastChild x) v2 a (Row h)))
 
   -- ---- all other lists
 
@@ -238,4 +249,5 @@ module _ (n h : ℕ) (v : Values) (t : Forests) (D : Disjoint t) (B : Beside n h
       → eqb (fieldNumber State) (fieldNumber f) ≡ false
       → concatenated (Row h) (v FirstChild x) (v LastChild x) (released h cs (removed (Row h) x v)) f i ≡ v f i
   plain f i p e d =
-      concat-other (v FirstChild x) (v LastChild x) v2 (Row h) f i p ∙ released-other h cs v1 f i e d ∙ out-other h x v f i p
+      concat-other (v FirstChild x) (v LastChild x) v2 (Row h) f i p ∙ released-other h cs v1 f i e d
+      ∙ out-other h x v f i p

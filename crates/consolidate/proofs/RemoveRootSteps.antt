@@ -26,7 +26,17 @@ use Rattle.consolidate.specs.Released.{Listed, ReleaseReady, Releases, r
 use Rattle.consolidate.specs.Removed.{RootOf}
 use Rattle.consolidate.specs.Stored.{Rowed}
 use Rattle.consolidate.proofs.Chains.{head-apart, last-apart}
-use Rattle.consolidate.proofs.RemoveRootLinks.{child-out, family, out-keeps, plain, rootRemoved, row₂, row₅, x-in, x-row}
+use Rattle.consolidate.proofs.RemoveRootLinks.{
+  child-out,
+  family,
+  out-keeps,
+  plain,
+  rootRemoved,
+  row₂,
+  row₅,
+  x-in,
+  x-row,
+}
 use Rattle.consolidate.proofs.RemoveRootWords.{remove-beside}
 
 -- whoever is a member unless it is none is in the table, or none

@@ -9,7 +9,20 @@ use lib.Dec.{eqb}
 use lib.ListN.{length-set}
 use lib.Seq.{getD-set-other}
 use borrow.Author.Tests.{eqb-true, ne-eqb}
-use Rattle.rules.specs.declared.Field.the-variants.{FirstTree, LastTree, Minimum, Count, Key, Parent, FirstChild, LastChild, Next, Prev, Rank, State}
+use Rattle.rules.specs.declared.Field.the-variants.{
+  FirstTree,
+  LastTree,
+  Minimum,
+  Count,
+  Key,
+  Parent,
+  FirstChild,
+  LastChild,
+  Next,
+  Prev,
+  Rank,
+  State,
+}
 use Rattle.rules.specs.Calls.{removeRoot, setFree, release}
 use Rattle.rules.specs.Forests.{Forests, none, rowOf, childrenOf, parentOf, heapOf, tableSize, count}
 use Rattle.rules.specs.Lists.{delta, occurs, without}
@@ -20,7 +33,18 @@ use Rattle.rules.proofs.Counts.{count-left}
 use Rattle.rules.proofs.LeastOfTwo.{least-other}
 use Rattle.rules.proofs.Members.{heap-in, not-none, row-root, root-child, child-parent}
 use Rattle.rules.proofs.Occurs.{byItem, eqb-self}
-use Rattle.rules.proofs.RemoveRootKeeps.{byChild, children-x, heap-o, heap-x, key-x, mark-children, mark-o, parent-children, parent-o, parent-x}
+use Rattle.rules.proofs.RemoveRootKeeps.{
+  byChild,
+  children-x,
+  heap-o,
+  heap-x,
+  key-x,
+  mark-children,
+  mark-o,
+  parent-children,
+  parent-o,
+  parent-x,
+}
 use Rattle.store.specs.declared.Owner.the-variants.{Row}
 use Rattle.store.specs.Empty.{freeItem}
 use Rattle.store.specs.Says.{Values}
@@ -86,7 +110,8 @@ module _ (n h : ℕ) (v : Values) (t : Forests) (D : Disjoint t) (B : Beside n h
 
   -- parents and states of those that are neither x nor its children
   at-parent : (i : ℕ) → occurs i cs ≡ 0
-      → concatenated (Row h) (v FirstChild x) (v LastChild x) (released h cs (removed (Row h) x v)) Parent i ≡ v Parent i
+      → concatenated (Row h) (v FirstChild x) (v LastChild x) (released h cs (removed (Row h) x v)) Parent i
+      ≡ v Parent i
   at-parent i k =
       concat-other (v FirstChild x) (v LastChild x) (released h cs (removed (Row h) x v)) (Row h) Parent i refl
       ∙ released-out h cs (removed (Row h) x v) Parent i k

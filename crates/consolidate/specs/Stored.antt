@@ -3,7 +3,20 @@ use Prim.Native.Nat.{ℕ, _<_}
 use mathlib.Core.Path.{_≡_}
 use mathlib.Core.Logic.{_≢_}
 use mathlib.Core.List.{List}
-use Rattle.rules.specs.declared.Field.the-variants.{FirstTree, LastTree, Minimum, Count, Key, Parent, FirstChild, LastChild, Next, Prev, Rank, State}
+use Rattle.rules.specs.declared.Field.the-variants.{
+  FirstTree,
+  LastTree,
+  Minimum,
+  Count,
+  Key,
+  Parent,
+  FirstChild,
+  LastChild,
+  Next,
+  Prev,
+  Rank,
+  State,
+}
 use Rattle.rules.specs.Forests.{Forests, rowOf, childrenOf, parentOf, keyOf, markOf, heapOf, rankOf, tableSize, count}
 use Rattle.rules.specs.Order.{minimum}
 use Rattle.rules.specs.Words.{stateOf}

@@ -34,7 +34,7 @@ use Rattle.finder.specs.Search.{
   begin,
   bestAt,
 }
-use Rattle.finder.specs.Theorems.{forestsOf}
+use Rattle.finder.specs.Theorems.{forestsAfter}
 use Rattle.finder.proofs.Invariant.{isNone, isNone-no, isNone-yes, unsettled}
 use Rattle.finder.proofs.Begin.{sum-zeros, all-unsettled}
 use Rattle.finder.proofs.Offers.{TryingOf, Case, at-unmet, at-smaller, sum-fits, update-trying}
@@ -114,7 +114,7 @@ module _ (stop : Stop) (m : Map) (A : Accepted m) where
         taken-is = omega (arith, C .taken-is, t .left, T .left);
         pays =
             rw (allowed-snoc (Yields c) (empty n) (s .calls))
-            (omega (arith, C .pays, allowance-le (forestsOf m s) c, grows));
+            (omega (arith, C .pays, allowance-le (forestsAfter m s) c, grows));
       }
   update-costs u d k r s T is fu smaller (at-smaller x o w y) C =
       let p : ℕ = toOf m k in
@@ -136,7 +136,7 @@ module _ (stop : Stop) (m : Map) (A : Accepted m) where
         taken-is = omega (arith, C .taken-is, t .left, T .left);
         pays =
             rw (allowed-snoc (Yields c) (empty n) (s .calls))
-            (omega (arith, C .pays, allowance-le (forestsOf m s) c));
+            (omega (arith, C .pays, allowance-le (forestsAfter m s) c));
       }
   update-costs u d k r s T is fu tie c C = no-call m s _ C
   update-costs u d k r s T is fu worse c C = no-call m s _ C
@@ -145,7 +145,7 @@ module _ (stop : Stop) (m : Map) (A : Accepted m) where
       → ServedOf m (extracted u s) → Costs m (extracted u s)
   unfolding price count unsettled
   extracted-costs k s B u e C S =
-      let f : Forests = forestsOf m s in
+      let f : Forests = forestsAfter m s in
       let few : count f 0 ≤ C .entered =
       omega (
         arith,

@@ -32,7 +32,7 @@ use Rattle.finder.specs.Search.{
   search,
   find,
 }
-use Rattle.finder.specs.Theorems.{forestsOf, ViewAgrees, TakesMinimum, AllDone, CallsDone, EndsEmpty}
+use Rattle.finder.specs.Theorems.{forestsAfter, ViewAgrees, TakesMinimum, AllDone, CallsDone, EndsEmpty}
 use Rattle.finder.proofs.Waiting.{next-takes}
 use Rattle.finder.proofs.Offers.{TryingOf, Case, at-unmet, at-smaller, sum-fits}
 use Rattle.finder.proofs.Turns.{
@@ -119,7 +119,7 @@ module _ (stop : Stop) (m : Map) (A : Accepted m) where
   update-served u d k r s T is fu worse c S = S
 
   take-does : (k : ℕ) (s : Search) → Between stop m k s → (u : ℕ) → next stop (s .queue) ≡ takes u → ServedOf m s
-      → Does (answer (forestsOf m s) (Yields (ExtractMin 0))) u (getD (s .queue .key) u 0) (set (s .queue .waits) u 0)
+      → Does (answer (forestsAfter m s) (Yields (ExtractMin 0))) u (getD (s .queue .key) u 0) (set (s .queue .waits) u 0)
       (set (s .queue .key) u 0)
   take-does k s B u e S = leave-served n (s .queue) (s .calls) S stop u (B .invariant .bit) e
 
@@ -155,5 +155,5 @@ endsEmpty m A =
     let s : Search = find m in
     let S = turns-keep never m A (ServedOf m) (served never m A) (m .places) in
     let B = search-between never m A in
-    all-free (forestsOf m s) (m .places) (S .formed .disjoint) (ap length (S .waits) ∙ B .invariant .waitsN)
+    all-free (forestsAfter m s) (m .places) (S .formed .disjoint) (ap length (S .waits) ∙ B .invariant .waitsN)
     (λ x. ap (λ l. getD l x 0) (S .waits) ∙ none-waits m A x)

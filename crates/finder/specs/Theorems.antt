@@ -52,13 +52,13 @@ pub data Moment (stop : Stop) (m : Map) : Search → Type 0 where
       → Moment stop m (tried m u (bestAt (turns stop m k) u) e (extracted u (turns stop m k)))
 
 -- the forests that the calls of a search leave
-abbrev pub forestsOf : Map → Search → Forests
-forestsOf m s = after (empty (m .places)) (s .calls)
+abbrev pub forestsAfter : Map → Search → Forests
+forestsAfter m s = after (empty (m .places)) (s .calls)
 
 -- At every moment the queue that the search sees is that of the forests.
 pub record Agrees (m : Map) (s : Search) : Type 0 where
-  pub waits : (forestsOf m s) .heap ≡ s .queue .waits
-  pub keys : (forestsOf m s) .key ≡ s .queue .key
+  pub waits : (forestsAfter m s) .heap ≡ s .queue .waits
+  pub keys : (forestsAfter m s) .key ≡ s .queue .key
 
 abbrev pub ViewAgrees : Type 0
 ViewAgrees = (stop : Stop) (m : Map) → Accepted m → (s : Search) → Moment stop m s → Agrees m s
@@ -67,7 +67,7 @@ ViewAgrees = (stop : Stop) (m : Map) → Accepted m → (s : Search) → Moment 
 abbrev pub TakesMinimum : Type 0
 TakesMinimum =
     (stop : Stop) (m : Map) → Accepted m → (k u : ℕ) → next stop ((turns stop m k) .queue) ≡ takes u →
-    let a : Answer = (answer (forestsOf m (turns stop m k)) (Yields (ExtractMin 0))) .reply in
+    let a : Answer = (answer (forestsAfter m (turns stop m k)) (Yields (ExtractMin 0))) .reply in
     (a .item ≡ u) × (a .key ≡ bestAt (turns stop m k) u)
 
 -- No call is refused, and those of a full feed call leave the forests empty.
@@ -81,7 +81,7 @@ CallsDone =
     → AllDone (answers (empty (m .places)) (s .calls))
 
 abbrev pub EndsEmpty : Type 0
-EndsEmpty = (m : Map) → Accepted m → forestsOf m (find m) ≡ empty (m .places)
+EndsEmpty = (m : Map) → Accepted m → forestsAfter m (find m) ≡ empty (m .places)
 
 -- ---- the counts
 

@@ -175,10 +175,12 @@ module _ {w : List ℕ} {n i k : ℕ} {tally : Tally} (P : MayMove w n (Decrease
             go : (b : Bool) → eqb h g ≡ b → cond b l (minimum t g) ≡ minimum after g
             go true q =
                 least
-                ∙ sym (lowered-minimum t after W next-formed i k (ok .0) (ok .1) (decrease-heap i k t) (decrease-key i k t))
+                ∙ sym
+                (lowered-minimum t after W next-formed i k (ok .0) (ok .1) (decrease-heap i k t) (decrease-key i k t))
                 ∙ ap (minimum after) (eqb-true h g q)
             go false q =
-                sym (lowered-other t after W next-formed i k (ok .0) (ok .1) (decrease-heap i k t) (decrease-key i k t) g
+                sym
+                (lowered-other t after W next-formed i k (ok .0) (ok .1) (decrease-heap i k t) (decrease-key i k t) g
                 (λ z. eqb-false h g q (sym z)))
 
         words : w₃ ≡ encode after

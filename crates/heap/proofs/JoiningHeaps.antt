@@ -40,7 +40,8 @@ pour-changes {n} {w} {w₁} {w₂} {a} {b} {x} {y} r p q c d =
     record {
       sized = d .sized;
       says = λ v s.
-          subst (λ z. Says n w₂ (emptyHeap b (concatenated (Row a) (v FirstTree b) z v))) (q ∙ s .says LastTree b (r .from))
+          subst (λ z. Says n w₂ (emptyHeap b (concatenated (Row a) (v FirstTree b) z v)))
+          (q ∙ s .says LastTree b (r .from))
           (subst (λ z. Says n w₂ (emptyHeap b (concatenated (Row a) z y v))) (p ∙ s .says FirstTree b (r .from))
           (d .says _ (c .says v s)));
     }

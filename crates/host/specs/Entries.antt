@@ -1,5 +1,5 @@
--- What the entries for hosts in C return and leave, on any input. A library's answer is a struct; C gets it as a number,
--- or as the code and three figures.
+-- What the entries for hosts in C return and leave, on any input. A library's answer is a struct; C gets it as a
+-- number, or as the code and three figures.
 use Prim.Native.Nat.{ℕ}
 use mathlib.Core.Path.{_≡_}
 use mathlib.Core.List.{List, [], _∷_}

@@ -115,13 +115,15 @@ module _ (t t′ : Forests) (W : WellFormed t) (W′ : WellFormed t′) (i k : �
       go true p =
           minimumUnique t′ W′ (heapNumber t i) i (record {
             inside = member;
-            first = λ x q n. byItem {P = λ x. heapOf t′ x ≡ suc (heapNumber t i) → x ≢ i → precedes (t′ .key) i x ≡ true} m
+            first = λ x q n.
+                byItem {P = λ x. heapOf t′ x ≡ suc (heapNumber t i) → x ≢ i → precedes (t′ .key) i x ≡ true} m
                 (λ _ _. p) (λ y d q n. onward p y q n d) x q n;
           })
       go false p =
           minimumUnique t′ W′ (heapNumber t i) m (record {
             inside = same-heap m ∙ M .inside;
-            first = λ x q n. byItem {P = λ x. heapOf t′ x ≡ suc (heapNumber t i) → x ≢ m → precedes (t′ .key) m x ≡ true} i
+            first = λ x q n.
+                byItem {P = λ x. heapOf t′ x ≡ suc (heapNumber t i) → x ≢ m → precedes (t′ .key) m x ≡ true} i
                 (λ q n. precedes-total (t′ .key) i m n p) (λ y d q n. still y d q n) x q n;
           })
         where
@@ -129,10 +131,12 @@ module _ (t t′ : Forests) (W : WellFormed t) (W′ : WellFormed t′) (i k : �
           still : (x : ℕ) → x ≢ i → heapOf t′ x ≡ suc (heapNumber t i) → x ≢ m → precedes (t′ .key) m x ≡ true
           still x d q n =
               let a = is-precedes (t .key) m x (M .first x (sym (same-heap x) ∙ q) n) in
-              precedes-is (t′ .key) m x (omega (arith, a .0, same-key x d, lower-m)) (λ z. a .1 (omega (arith, a .0, same-key x d, lower-m)))
+              precedes-is (t′ .key) m x (omega (arith, a .0, same-key x d, lower-m))
+              (λ z. a .1 (omega (arith, a .0, same-key x d, lower-m)))
             where
               lower-m : keyOf t′ m ≤ keyOf t m
-              lower-m = byItem {P = λ y. keyOf t′ y ≤ keyOf t y} i (rw key-i low) (λ y e. rw (same-key y e) (le-refl _)) m
+              lower-m =
+                  byItem {P = λ y. keyOf t′ y ≤ keyOf t y} i (rw key-i low) (λ y e. rw (same-key y e) (le-refl _)) m
 
 -- ---- i, which is not its heap's minimum, leaves
 

@@ -43,7 +43,8 @@ module _ (s : Forests) (S : Disjoint s) (h x : ℕ) (hx : heapOf s x ≡ suc h) 
   x-row = root-row s S h x hx rx
 
   -- x itself, a child of x, any other
-  pub byChild : {P : ℕ → Type 0} → P x → ((y : ℕ) → y ≢ x → occurs y cs ≡ 1 → heapOf s y ≡ suc h → parentOf s y ≡ x → P y)
+  pub byChild : {P : ℕ → Type 0} → P x
+      → ((y : ℕ) → y ≢ x → occurs y cs ≡ 1 → heapOf s y ≡ suc h → parentOf s y ≡ x → P y)
       → ((y : ℕ) → y ≢ x → occurs y cs ≡ 0 → P y) → (y : ℕ) → P y
   byChild {P} a b c = byItem x a (λ y n. go y n (isChildOf s x y) refl)
     where

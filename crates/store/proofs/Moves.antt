@@ -78,7 +78,8 @@ concat-changes {n} {w} {w₁} o l x y m k e c =
           (subst (λ z. Says n w₁ (joined o z x y v)) (e ∙ last-says o k s) (c .says v s));
     }
 
-pub concat-empty : {n : ℕ} {w : List ℕ} (o : Owner) (x y : ℕ) → x ≡ none → Sized n w → Changes n w (concatenated o x y) w
+pub concat-empty : {n : ℕ} {w : List ℕ} (o : Owner) (x y : ℕ) → x ≡ none → Sized n w
+    → Changes n w (concatenated o x y) w
 unfolding concatenated
 concat-empty o x y e s = record { sized = s; says = λ v t. rw e t }
 

@@ -279,8 +279,8 @@ fn join(s: &mut [u32], n: usize, o: Owner, l: u32, x: u32, y: u32)
     put_last(s, n, o, y);
 }
 
-// The same where the chain may be empty: x is NONE then. Only links are joined: the parents and marks of the chain's items
-// and the rank of the owner are the caller's.
+// The same where the chain may be empty: x is NONE then. Only links are joined: the parents and marks of the chain's
+// items and the rank of the owner are the caller's.
 pub fn concat(s: &mut [u32], n: usize, o: Owner, x: u32, y: u32)
     requires { ⌜ ConcatReady n (now s) o x ⌝ }
     ensures { λ r. ⌜ Changes n (now (s .entry)) (concatenated o x y) (now (s .exit)) ⌝ }

@@ -36,17 +36,20 @@ refuses-larger = refl
 
 -- `3,0` from its first number on, `I,0,1,57` from its first comma on, and `3,` with no number after the comma
 reads-two : numbersFrom (51 ∷ 44 ∷ 48 ∷ []) (numberAt (51 ∷ 44 ∷ 48 ∷ []) 0) ≡ Two 3 0
-unfolding numbersFrom twoFrom threeFrom fieldAt numberAt numberOf digitRun isDigit wellFormed valueFrom endsAt lineLength
+unfolding numbersFrom twoFrom threeFrom fieldAt numberAt numberOf digitRun isDigit wellFormed valueFrom
+    endsAt lineLength
 reads-two = refl
 
 reads-three :
     numbersFrom (73 ∷ 44 ∷ 48 ∷ 44 ∷ 49 ∷ 44 ∷ 53 ∷ 55 ∷ []) (fieldAt (73 ∷ 44 ∷ 48 ∷ 44 ∷ 49 ∷ 44 ∷ 53 ∷ 55 ∷ []) 1)
     ≡ Three 0 1 57
-unfolding numbersFrom twoFrom threeFrom fieldAt numberAt numberOf digitRun isDigit wellFormed valueFrom endsAt lineLength
+unfolding numbersFrom twoFrom threeFrom fieldAt numberAt numberOf digitRun isDigit wellFormed valueFrom
+    endsAt lineLength
 reads-three = refl
 
 refuses-comma : numbersFrom (51 ∷ 44 ∷ []) (numberAt (51 ∷ 44 ∷ []) 0) ≡ Other
-unfolding numbersFrom twoFrom threeFrom fieldAt numberAt numberOf digitRun isDigit wellFormed valueFrom endsAt lineLength
+unfolding numbersFrom twoFrom threeFrom fieldAt numberAt numberOf digitRun isDigit wellFormed valueFrom
+    endsAt lineLength
 refuses-comma = refl
 
 -- `a LF b`, `a LF`, nothing, and `LF`

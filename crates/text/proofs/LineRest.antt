@@ -120,7 +120,8 @@ comma-inside s k h e = ⊎-elim (λ (g : suc k ≤ lineLength s). g) at-end (le-
 
     in-text : k < length s
     in-text =
-        ⊎-elim (λ (g : suc k ≤ length s). g) (λ (g : length s < suc k). beyond (omega arith)) (le-or-lt (suc k) (length s))
+        ⊎-elim (λ (g : suc k ≤ length s). g) (λ (g : length s < suc k). beyond (omega arith))
+        (le-or-lt (suc k) (length s))
 
     at-end : lineLength s < suc k → k < lineLength s
     at-end g =

@@ -1,6 +1,13 @@
 -- `heap::extract_min` meets its contract.
 use borrow.Author.Needs.{needs}
-use Rattle.consolidate.proofs.Extracting.{consolidate-ready, extracted, heap-inside, least-inside, remove-ready, sound-rowed}
+use Rattle.consolidate.proofs.Extracting.{
+  consolidate-ready,
+  extracted,
+  heap-inside,
+  least-inside,
+  remove-ready,
+  sound-rowed,
+}
 use Rattle.consolidate.proofs.extract_min.Statement.{statement}
 use Rattle.consolidate.proofs.extract_min.Tie as tie
 

@@ -10,7 +10,15 @@ use Rattle.rules.specs.WellFormed.{WellFormed}
 use Rattle.rules.specs.Words.{follow, look}
 use Rattle.consolidate.specs.Consolidating.{LinksRow, linkRow}
 use Rattle.consolidate.specs.Stored.{Rowed}
-use Rattle.consolidate.proofs.Walking.{Walking, walk-ends, walk-inside, walk-left, walk-ready, walk-starts, walk-step}
+use Rattle.consolidate.proofs.Walking.{
+  Walking,
+  walk-ends,
+  walk-inside,
+  walk-left,
+  walk-ready,
+  walk-starts,
+  walk-step,
+}
 use Rattle.consolidate.proofs.link_row.Statement.{statement}
 use Rattle.consolidate.proofs.link_row.Tie as tie
 

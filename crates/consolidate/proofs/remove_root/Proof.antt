@@ -1,7 +1,15 @@
 -- `heap::remove_root` meets its contract.
 use native.Mathlib.Omega.{arith}
 use Rattle.consolidate.specs.Removed.{RemovesRoot}
-use Rattle.consolidate.proofs.RemoveRootSteps.{concat-ready, heap-inside, release-ready, remove-ready, root-inside, root-removed, some-left}
+use Rattle.consolidate.proofs.RemoveRootSteps.{
+  concat-ready,
+  heap-inside,
+  release-ready,
+  remove-ready,
+  root-inside,
+  root-removed,
+  some-left,
+}
 use Rattle.consolidate.proofs.remove_root.Statement.{statement}
 use Rattle.consolidate.proofs.remove_root.Tie as tie
 
@@ -58,14 +66,16 @@ free-item-requires : tie.Need-free-item-requires
 free-item-requires c κs =
     let c3 = c .before .before .before in
     let c22 =
-    c3 .before .before .before .before .before .before .before .before .before .before .before .before .before .before .before .before .before .before .before in
+    c3 .before .before .before .before .before .before .before .before .before .before .before .before .before
+    .before .before .before .before .before .before in
     let p = c22 .pre in
     (c3 .concat .ensures .sized, root-inside _ _ _ _ _ (p .rowed) _ (p .rooted))
 
 sub-put : tie.Need-sub-put
 sub-put c =
     let c17 =
-    c .before .before .before .before .before .before .before .before .before .before .before .before .before .before .before .before .before in
+    c .before .before .before .before .before .before .before .before .before .before .before .before .before
+    .before .before .before .before in
     let c26 = c17 .before .before .before .before .before .before .before .before .before in
     let p = c26 .pre in
     omega (arith, some-left _ _ _ _ _ (p .rowed) _ (p .rooted) (c17 .get4 .ensures))
@@ -74,7 +84,8 @@ put-requires : tie.Need-put-requires
 put-requires c κs =
     let c3 = c .before .before .before in
     let c26 =
-    c3 .before .before .before .before .before .before .before .before .before .before .before .before .before .before .before .before .before .before .before .before .before .before .before in
+    c3 .before .before .before .before .before .before .before .before .before .before .before .before .before
+    .before .before .before .before .before .before .before .before .before .before in
     let p = c26 .pre in
     record { sized = c3 .free-item .ensures .sized; inside = heap-inside _ _ _ _ _ (p .rowed) _ (p .rooted) }
 

@@ -10,7 +10,14 @@ use Rattle.rules.specs.Forests.{Forests, none, rowOf, setRow}
 use Rattle.rules.specs.WellFormed.{Disjoint}
 use Rattle.consolidate.specs.Consolidating.{WritesRow}
 use Rattle.consolidate.specs.Writing.{Writing, WritesTree}
-use Rattle.consolidate.proofs.RowWritten.{coming, place-written, places-formed, places-row, row-written, writing-starts}
+use Rattle.consolidate.proofs.RowWritten.{
+  coming,
+  place-written,
+  places-formed,
+  places-row,
+  row-written,
+  writing-starts,
+}
 use Rattle.consolidate.proofs.write_row.Statement.{statement}
 use Rattle.consolidate.proofs.write_row.Tie as tie
 

@@ -21,7 +21,9 @@ ends-at-requires : tie.Need-ends-at-requires
 ends-at-requires c κs = search needs
 
 returns-2 : tie.Need-returns-2
-returns-2 c = three-end _ (c .before .before .before .third .given .1) _ _ (sym (c .before .ends-at .ensures) ∙ c .if1 .taken) refl refl
+returns-2 c =
+    three-end _ (c .before .before .before .third .given .1) _ _
+    (sym (c .before .ends-at .ensures) ∙ c .if1 .taken) refl refl
 
 no-fields-requires-2 : tie.Need-no-fields-requires-2
 no-fields-requires-2 c κs = search needs
@@ -29,7 +31,8 @@ no-fields-requires-2 c κs = search needs
 returns-3 : tie.Need-returns-3
 returns-3 c =
     let tested = c .before .before in
-    three-on _ (tested .before .before .third .given .1) _ _ (sym (tested .ends-at .ensures) ∙ c .before .if1 .left)
+    three-on _ (tested .before .before .third .given .1) _ _
+    (sym (tested .ends-at .ensures) ∙ c .before .if1 .left)
     (c .no-fields2 .ensures)
 
 pub three-from-spec : {M : Type 1} → statement M

@@ -21,7 +21,9 @@ ends-at-requires : tie.Need-ends-at-requires
 ends-at-requires c κs = search needs
 
 returns-2 : tie.Need-returns-2
-returns-2 c = two-end _ (c .before .before .before .second .given .1) _ (sym (c .before .ends-at .ensures) ∙ c .if1 .taken) refl refl
+returns-2 c =
+    two-end _ (c .before .before .before .second .given .1) _
+    (sym (c .before .ends-at .ensures) ∙ c .if1 .taken) refl refl
 
 field-at-requires : tie.Need-field-at-requires
 field-at-requires c κs = search needs
@@ -32,7 +34,8 @@ three-from-requires c κs = search needs
 returns-3 : tie.Need-returns-3
 returns-3 c =
     let tested = c .before .before .before in
-    two-on _ (tested .before .before .second .given .1) _ (sym (tested .ends-at .ensures) ∙ c .before .before .if1 .left)
+    two-on _ (tested .before .before .second .given .1) _
+    (sym (tested .ends-at .ensures) ∙ c .before .before .if1 .left)
     (rw (← c .before .field-at .ensures) (c .three-from .ensures))
 
 pub two-from-spec : {M : Type 1} → statement M
