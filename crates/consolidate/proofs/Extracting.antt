@@ -6,17 +6,13 @@ use native.Mathlib.Omega.{arith}
 use lib.Seq.{getD-set-same, getD-set-other}
 use Rattle.rules.specs.declared.Call.the-variants.{ExtractMin}
 use Rattle.rules.specs.declared.Field.the-variants.{Key, Minimum}
-use Rattle.rules.specs.declared.Line.the-variants.{Yields}
-use Rattle.rules.specs.Answers.{answer, unlessRefused}
 use Rattle.rules.specs.Calls.{extract, perform, release, removeRoot, setFree}
 use Rattle.rules.specs.Forests.{Forests, rowOf, tableSize}
 use Rattle.rules.specs.Lists.{occurs}
 use Rattle.rules.specs.Order.{minimum}
-use Rattle.rules.specs.Theorems.{InRange}
 use Rattle.rules.specs.WellFormed.{KeysFit, WellFormed}
-use Rattle.rules.specs.Words.{Sound, decode, encode, forestsOf, itemsIn, look}
+use Rattle.rules.specs.Words.{decode, encode, forestsOf, itemsIn, look}
 use Rattle.rules.proofs.Excused.{to-formed, well-formed}
-use Rattle.rules.proofs.KeepsWellFormed.{keepsWellFormed}
 use Rattle.rules.proofs.Members.{heap-in, row-root}
 use Rattle.rules.proofs.Occurs.{byItem}
 use Rattle.rules.proofs.Refusals.{extract-ok}
@@ -124,16 +120,3 @@ module _ {n h links : ℕ} {w : List ℕ} (P : ExtractReady n w h links) where
             count = C .count;
             words = C .words;
           })
-
--- ---- sound again
-
--- the words of the rules' next forests are those of a sound store
-pub extract-sound : {n h links : ℕ} {w : List ℕ} → ExtractReady n w h links → (w′ : List ℕ)
-    → w′ ≡ encode ((perform (decode n w) (ExtractMin h)) .next) → Sound w′
-unfolding InRange answer unlessRefused
-extract-sound {n} {h} {links} {w} P w′ e =
-    record {
-      forests = (perform (decode n w) (ExtractMin h)) .next;
-      wellFormed = rw (P .accepted) at (keepsWellFormed (decode n w) (formed P) (Yields (ExtractMin h)) tt);
-      words = e;
-    }

@@ -39,9 +39,6 @@ module _ (s : Forests) (S : Disjoint s) (h x : ℕ) (hx : heapOf s x ≡ suc h) 
   p-in : p < length (s .heap)
   p-in = S .up x live px .0
 
-  p-heap : heapOf s p ≡ suc h
-  p-heap = S .up x live px .1 ∙ hx
-
   h-in : h < length (s .rows)
   h-in = omega (arith, S .rows8, S .heaps x, hx)
 

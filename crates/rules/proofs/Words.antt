@@ -166,8 +166,3 @@ module _ (n : ℕ) (v : Field → ℕ → ℕ) where
       let b : Place n p = at-onto n p (omega arith) in
       subst (λ q. getD w q 0 ≡ getD (wordsOf n v) q 0) (b .there)
       (h (b .field) (b .index) (b .inside) ∙ sym (look-wordsOf (b .field) (b .index) (b .inside))))
-
--- values that agree in the store have the same words
-pub wordsOf-ext : (n : ℕ) (u v : Field → ℕ → ℕ) → ((f : Field) (i : ℕ) → i < room n f → u f i ≡ v f i)
-    → wordsOf n u ≡ wordsOf n v
-wordsOf-ext n u v h = words-equal n v (wordsOf n u) (length-wordsOf n u) (λ f i k. look-wordsOf n u f i k ∙ h f i k)

@@ -83,16 +83,6 @@ module _ {n : ℕ} {w : List ℕ} {counts minima : ℕ → ℕ} {t : Forests} wh
       says-as n w _ _ (H .says) (λ f i k.
       loose-none n (wordBut counts minima t) (H .next) (H .prev) (H .shape .small) f i k)
 
-  -- whatever is said of the links of x may be forgotten
-  pub loosen : (x : ℕ) → Holds n w counts minima t none → Holds n w counts minima t x
-  loosen x H =
-      record {
-        next = _;
-        prev = _;
-        says = says-as n w _ _ (holds-says H) (λ f i _. sym (loose-own (wordBut counts minima t) x f i));
-        shape = H .shape;
-      }
-
 module _ {n : ℕ} {w w′ : List ℕ} {counts minima : ℕ → ℕ} {t : Forests} where
   pub append-holds : (o : Owner) (x : ℕ) → Holds n w counts minima t x → Family n t o → x < n
       → occurs x (listOf t o) ≡ 0 → MayJoin t o x → Changes n w (appended o x) w′

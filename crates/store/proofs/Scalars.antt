@@ -133,16 +133,6 @@ module _ {n : ℕ} {w w′ : List ℕ} {counts minima : ℕ → ℕ} {t : Forest
         shape = reshape (setMark i m t) (H .shape) refl refl refl refl (length-set (t .mark) i m) refl;
       }
 
-  pub count-holds : (h v : ℕ) → Changes n w (setWord Count h v) w′ → Holds n w′ (instead counts h v) minima t x
-  count-holds h v c =
-      record {
-        next = H .next;
-        prev = H .prev;
-        says = says-as n w′ _ _ (c .says _ (H .says)) (λ f j _.
-            count-word n counts minima t x (H .next) (H .prev) (H .shape) h v f j);
-        shape = H .shape;
-      }
-
   pub minimum-holds : (h v : ℕ) → Changes n w (setWord Minimum h v) w′ → Holds n w′ counts (instead minima h v) t x
   minimum-holds h v c =
       record {

@@ -5,7 +5,7 @@ use mathlib.Core.Bool.{Bool, true, false, cond}
 use mathlib.Core.Logic.{_⊎_, ⊎-elim, inl, inr}
 use mathlib.Core.List.{List, [], _∷_, _++_}
 use native.Mathlib.Omega.{arith}
-use lib.ListN.{length, drop, take, drop-of-length-le, length-drop, length-append}
+use lib.ListN.{length, drop, take, drop-of-length-le, length-drop}
 use lib.Seq.{drop-drop}
 use lib.Dec.{eqb, eqb·suc-zero}
 use Rattle.text.specs.Lines.{lineFeed, ahead, lines, lineLength, lineEnd, closed}
@@ -74,7 +74,3 @@ lines-append (x ∷ []) b c = rw c
 lines-append (x ∷ y ∷ a) b c =
     append-cond (eqb x lineFeed) x (lines (y ∷ a ++ b)) (lines (y ∷ a)) (lines b)
     (lines-append (y ∷ a) b (sym (closed-more x y a) ∙ c)) (some-line y a)
-
--- the number of lines adds up likewise
-pub count-append : (a b : List ℕ) → closed a ≡ true → length (lines (a ++ b)) ≡ length (lines a) + length (lines b)
-count-append a b c = rw (lines-append a b c) (length-append (lines a) (lines b))

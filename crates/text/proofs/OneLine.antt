@@ -1,6 +1,6 @@
 -- What is read within the first line of a text is what is read of that line alone.
 use Prim.Native.Nat.{ℕ, _+_, _≤_}
-use mathlib.Core.Path.{_≡_, refl, sym, ap, _∙_}
+use mathlib.Core.Path.{_≡_, refl, sym, _∙_}
 use mathlib.Core.Bool.{Bool, true, false, cond}
 use mathlib.Core.List.{List}
 use native.Mathlib.Omega.{arith}
@@ -9,7 +9,7 @@ use lib.Seq.{getD-drop}
 use lib.Dec.{eqb}
 use borrow.Author.Tests.{eqb-true}
 use Rattle.text.specs.Lines.{lineLength}
-use Rattle.text.specs.Numbers.{digitRun, numberAt, numberOf}
+use Rattle.text.specs.Numbers.{numberAt}
 use Rattle.text.specs.Fields.{comma, endsAt, fieldAt, threeFrom, twoFrom, numbersFrom, InLine}
 use Rattle.text.specs.declared.Number.{Number}
 use Rattle.text.specs.declared.Number.the-variants.{Value, Nothing}
