@@ -5,6 +5,9 @@ ghost use Rattle.rules.specs.Words.{room};
 ghost use Rattle.store.specs.Says.{Sized, Within};
 use libc::STDOUT_FILENO;
 use rules::Field;
+use sheet::Ran;
+use sheet::run_fresh;
+use sheet::run_kept;
 use store::get;
 
 // A number, and a byte after it.
@@ -76,13 +79,12 @@ fn show_words(s: &[u32])
     show_kind(s, Field::State);
 }
 
-// A fresh run of a sheet, and what it leaves.
-fn show_run(name: u8, sheet: &[u8], store: &mut [u32], out: &mut [u8])
+// What a run answered and left, under its name.
+fn show(name: u8, ran: Ran, store: &[u32], out: &[u8])
     requires { ⌜ Sized 9 (now store) ⌝ }
 {
     let line = [name, b'\n'];
     io::write_all(STDOUT_FILENO, &line);
-    let ran = sheet::run_fresh(store, sheet, out);
     let bytes = ran.bytes as usize;
     if bytes <= out.len() {
         io::write_all(STDOUT_FILENO, &out[..bytes]);
@@ -91,6 +93,21 @@ fn show_run(name: u8, sheet: &[u8], store: &mut [u32], out: &mut [u8])
     show_words(store);
 }
 
+fn show_fresh(name: u8, sheet: &[u8], store: &mut [u32], out: &mut [u8])
+    requires { ⌜ Sized 9 (now store) ⌝ }
+{
+    let ran = run_fresh(store, sheet, out);
+    show(name, ran, store, out);
+}
+
+fn show_kept(name: u8, sheet: &[u8], store: &mut [u32], out: &mut [u8])
+    requires { ⌜ Sized 9 (now store) ⌝ }
+{
+    let ran = run_kept(store, sheet, out);
+    show(name, ran, store, out);
+}
+
+// (f), (g) and (h) go on, each on the store that the run before it left.
 fn main() {
     let mut store = [0u32; 104];
     let mut out = [0u8; 512];
@@ -99,24 +116,11 @@ fn main() {
     let d = b"I,0,0,5\nI,0,1,3\nI,0,2,8\nI,0,3,1\nT,0\nD,0,3\n";
     let e =
         b"I,0,0,0\nI,0,1,10\nI,0,2,20\nI,0,3,30\nI,0,4,40\nI,0,5,50\nI,0,6,60\nI,0,7,70\nI,0,8,80\nT,0\n";
-    show_run(b'b', b, &mut store, &mut out);
-    show_run(b'c', c, &mut store, &mut out);
-    show_run(b'd', d, &mut store, &mut out);
-    show_run(b'e', e, &mut store, &mut out);
-    show_later(&mut store, &mut out);
-}
-
-// (f), (g) and (h), each with the lines of those before it.
-fn show_later(store: &mut [u32], out: &mut [u8])
-    requires { ⌜ Sized 9 (now store) ⌝ }
-{
-    let f =
-        b"I,0,0,0\nI,0,1,10\nI,0,2,20\nI,0,3,30\nI,0,4,40\nI,0,5,50\nI,0,6,60\nI,0,7,70\nI,0,8,80\nT,0\nD,8,5\nD,6,4\nD,7,3\n";
-    let g =
-        b"I,0,0,0\nI,0,1,10\nI,0,2,20\nI,0,3,30\nI,0,4,40\nI,0,5,50\nI,0,6,60\nI,0,7,70\nI,0,8,80\nT,0\nD,8,5\nD,6,4\nD,7,3\nX,3\n";
-    let h =
-        b"I,0,0,0\nI,0,1,10\nI,0,2,20\nI,0,3,30\nI,0,4,40\nI,0,5,50\nI,0,6,60\nI,0,7,70\nI,0,8,80\nT,0\nD,8,5\nD,6,4\nD,7,3\nX,3\nT,0\n";
-    show_run(b'f', f, store, out);
-    show_run(b'g', g, store, out);
-    show_run(b'h', h, store, out);
+    show_fresh(b'b', b, &mut store, &mut out);
+    show_fresh(b'c', c, &mut store, &mut out);
+    show_fresh(b'd', d, &mut store, &mut out);
+    show_fresh(b'e', e, &mut store, &mut out);
+    show_kept(b'f', b"D,8,5\nD,6,4\nD,7,3\n", &mut store, &mut out);
+    show_kept(b'g', b"X,3\n", &mut store, &mut out);
+    show_kept(b'h', b"T,0\n", &mut store, &mut out);
 }
