@@ -13,7 +13,7 @@ use Rattle.text.specs.Lines.{lineEnd, lineLength, lines}
 use Rattle.text.proofs.LineEnd.{end-within}
 use Rattle.text.proofs.Lines.{lines-at, lines-end}
 use Rattle.sheet.specs.declared.reader.Next.the-variants.{Found, NoMore}
-use Rattle.sheet.specs.LineAt.{firstOf, lineAt}
+use Rattle.sheet.specs.LineAt.{firstCall, lineAt}
 use Rattle.sheet.specs.Parse.{lineOf, linesOf}
 use Rattle.sheet.proofs.InRange.{line-range}
 
@@ -26,9 +26,9 @@ pub record LineFound (sheet : List ℕ) (at : ℕ) (l : Line) (e : ℕ) : Type 0
   pub rest : linesOf (drop at sheet) ≡ l ∷ linesOf (drop (e + 1) sheet)
 
 module _ (sheet : List ℕ) (at : ℕ) where
-  at-end : at < length sheet → (l : Line) (e : ℕ) → l ≡ firstOf (drop at sheet) → e ≡ lineEnd sheet at
+  at-end : at < length sheet → (l : Line) (e : ℕ) → l ≡ firstCall (drop at sheet) → e ≡ lineEnd sheet at
       → LineFound sheet at l e
-  unfolding firstOf linesOf lineEnd
+  unfolding firstCall linesOf lineEnd
   at-end h l e p q =
       let w = end-within sheet at (omega arith) in
       let k : at + lineLength (drop at sheet) - at ≡ lineLength (drop at sheet) = omega arith in
@@ -45,7 +45,7 @@ module _ (sheet : List ℕ) (at : ℕ) where
   found l e q = go (ltb at (length sheet)) refl q
     where
       go : (t : Bool) → ltb at (length sheet) ≡ t
-          → cond t (Found (firstOf (drop at sheet)) (lineEnd sheet at)) NoMore ≡ Found l e → LineFound sheet at l e
+          → cond t (Found (firstCall (drop at sheet)) (lineEnd sheet at)) NoMore ≡ Found l e → LineFound sheet at l e
       go true p q = at-end (ltb-true _ _ p) l e (cc) (cc)
       go false p q = let z : _≡_ {A = ℕ} 0 1 = cc in absurd (omega arith)
 
@@ -54,7 +54,7 @@ module _ (sheet : List ℕ) (at : ℕ) where
   no-line q = go (ltb at (length sheet)) refl q
     where
       go : (t : Bool) → ltb at (length sheet) ≡ t
-          → cond t (Found (firstOf (drop at sheet)) (lineEnd sheet at)) NoMore ≡ NoMore
+          → cond t (Found (firstCall (drop at sheet)) (lineEnd sheet at)) NoMore ≡ NoMore
           → map lineOf (lines (drop at sheet)) ≡ []
       go true p q = let z : _≡_ {A = ℕ} 0 1 = cc in absurd (omega arith)
       go false p q = ap (map lineOf) (lines-end sheet at (ltb-false _ _ p))

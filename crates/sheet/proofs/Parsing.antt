@@ -20,7 +20,7 @@ use Rattle.text.proofs.LineEnd.{line-short}
 use Rattle.text.proofs.OneLine.{fields-same}
 use Rattle.sheet.specs.declared.calls.Parsed.{Parsed}
 use Rattle.sheet.specs.declared.reader.Next.the-variants.{Found}
-use Rattle.sheet.specs.LineAt.{Parses, firstOf, lineAt}
+use Rattle.sheet.specs.LineAt.{Parses, firstCall, lineAt}
 use Rattle.sheet.specs.Parse.{callOf, lineOf}
 
 pub length-at-start : (s : List ℕ) → lineEnd s 0 ≡ lineLength s
@@ -29,8 +29,8 @@ length-at-start s = omega arith
 
 -- ---- a line without a byte
 
-empty-first : (s : List ℕ) → lineLength s ≡ 0 → firstOf s ≡ NoCall
-unfolding firstOf lineOf callOf fieldAt numbersFrom
+empty-first : (s : List ℕ) → lineLength s ≡ 0 → firstCall s ≡ NoCall
+unfolding firstCall lineOf callOf fieldAt numbersFrom
 empty-first s e = rw e
 
 no-bytes : (s : List ℕ) → length s ≡ 0 → lineLength s ≡ 0
@@ -44,8 +44,8 @@ feed-first [] e = refl
 feed-first (b ∷ bs) e = simp (eq-eqb b lineFeed e)
 
 module _ {text : List ℕ} {r : Parsed} (n : (r .line ≡ NoCall) × (r .bytes ≡ lineLength text)) where
-  pub parses-none : firstOf text ≡ NoCall → Parses text r
-  parses-none e = record { call = n .0 ∙ sym e; length = n .1 }
+  pub parses-none : firstCall text ≡ NoCall → Parses text r
+  parses-none e = record { sameLine = n .0 ∙ sym e; sameBytes = n .1 }
 
   pub parses-empty : length text ≡ 0 → Parses text r
   parses-empty e = parses-none (empty-first text (no-bytes text e))
@@ -73,12 +73,12 @@ module _ (text : List ℕ) (some : 0 < length text) (letter : getD text 0 0 ≢ 
   longer = some-byte text some letter
 
   -- what is read of the text is read of its first line
-  first-call : firstOf text ≡ callOf (getD text 0 0) (numbersFrom text (fieldAt text 1))
-  unfolding firstOf lineOf
+  first-call : firstCall text ≡ callOf (getD text 0 0) (numbersFrom text (fieldAt text 1))
+  unfolding firstCall lineOf
   first-call = rw (getD-take (lineLength text) text 0 0 longer, fields-same text 1 longer)
 
   module _ {n : Number} {R : LineRead} (e : n ≡ fieldAt text 1) (F : FieldsRead text n (numbersFrom text n) R) where
-    called : firstOf text ≡ callOf (getD text 0 0) (R .numbers)
+    called : firstCall text ≡ callOf (getD text 0 0) (R .numbers)
     called = first-call ∙ rw (F .same, e)
 
     pub parses-call : {c : Call} {r : Parsed} → callOf (getD text 0 0) (R .numbers) ≡ Yields c → r .line ≡ Yields c
@@ -86,8 +86,8 @@ module _ (text : List ℕ) (some : 0 < length text) (letter : getD text 0 0 ≢ 
     parses-call y l b =
         let i : InLine text n = subst (InLine text) (sym e) (field-in-line text 1 longer) in
         record {
-          call = l ∙ sym (called ∙ y);
-          length = b ∙ F .ends i (with-numbers (getD text 0 0) (R .numbers) y);
+          sameLine = l ∙ sym (called ∙ y);
+          sameBytes = b ∙ F .ends i (with-numbers (getD text 0 0) (R .numbers) y);
         }
 
     pub parses-no-call : {r : Parsed} → callOf (getD text 0 0) (R .numbers) ≡ NoCall
@@ -98,7 +98,7 @@ module _ (text : List ℕ) (some : 0 < length text) (letter : getD text 0 0 ≢ 
 
 -- a line is no longer than its text
 pub short : {text : List ℕ} {r : Parsed} → Parses text r → r .bytes ≤ length text
-short {text} P = omega (arith, P .length, line-short text)
+short {text} P = omega (arith, P .sameBytes, line-short text)
 
 part-all : (s : List ℕ) (at : ℕ) → take (length s - at) (drop at s) ≡ drop at s
 part-all s at = take-all (length s - at) (drop at s) (omega (arith, length-drop at s))
@@ -107,8 +107,8 @@ module _ (sheet : List ℕ) (at : ℕ) (h : at < length sheet) {r : Parsed}
     (P : Parses (take (length sheet - at) (drop at sheet)) r) where
   end-here : at + r .bytes ≡ lineEnd sheet at
   unfolding lineEnd
-  end-here = rw (P .length, part-all sheet at)
+  end-here = rw (P .sameBytes, part-all sheet at)
 
   pub found-here : Found (r .line) (at + r .bytes) ≡ lineAt sheet at
   unfolding lineAt
-  found-here = rw (lt-ltb at (length sheet) h, end-here, P .call, part-all sheet at)
+  found-here = rw (lt-ltb at (length sheet) h, end-here, P .sameLine, part-all sheet at)

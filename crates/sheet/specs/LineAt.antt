@@ -13,13 +13,13 @@ use Rattle.sheet.specs.declared.reader.Next.the-variants.{Found, NoMore}
 use Rattle.sheet.specs.Parse.{lineOf}
 
 -- the call of the first line of a text
-unfoldable pub firstOf : List ℕ → Line
-firstOf text = lineOf (take (lineLength text) text)
+unfoldable pub firstCall : List ℕ → Line
+firstCall text = lineOf (take (lineLength text) text)
 
 -- the call of the first line, and its length
 pub record Parses (text : List ℕ) (r : Parsed) : Type 0 where
-  pub call : r .line ≡ firstOf text
-  pub length : r .bytes ≡ lineLength text
+  pub sameLine : r .line ≡ firstCall text
+  pub sameBytes : r .bytes ≡ lineLength text
 
 unfoldable pub lineAt : List ℕ → ℕ → Next
-lineAt sheet at = cond (ltb at (length sheet)) (Found (firstOf (drop at sheet)) (lineEnd sheet at)) NoMore
+lineAt sheet at = cond (ltb at (length sheet)) (Found (firstCall (drop at sheet)) (lineEnd sheet at)) NoMore
