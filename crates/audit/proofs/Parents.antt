@@ -7,7 +7,7 @@ use borrow.Author.Tests.{eq-eqb, ne-eqb}
 use Rattle.rules.specs.declared.Field.the-variants.{Minimum, Parent, State}
 use Rattle.rules.specs.Forests.{none}
 use Rattle.rules.specs.Words.{look, stateHeap}
-use Rattle.audit.specs.Check.{heapAt, rootOk, childOk, parentOk}
+use Rattle.soundness.specs.Check.{heapAt, rootOk, childOk, parentOk}
 
 module _ (n : ℕ) (w : List ℕ) (i parent : ℕ) (is : parent ≡ look n w Parent i) where
   pub as-root : (state heap least : ℕ) → state ≡ look n w State i → heap ≡ stateHeap state

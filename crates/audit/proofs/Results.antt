@@ -10,7 +10,7 @@ use borrow.Author.Tests.{eqb-true}
 use Rattle.rules.specs.declared.Field.the-variants.{Count, State}
 use Rattle.rules.specs.Words.{itemsIn, isStore, look}
 use Rattle.rules.proofs.Occurs.{and-false}
-use Rattle.audit.specs.Check.{
+use Rattle.soundness.specs.Check.{
   allTo,
   rowAt,
   listLength,
@@ -22,9 +22,9 @@ use Rattle.audit.specs.Check.{
   soundWords,
 }
 use Rattle.audit.specs.Promises.{ifOk}
-use Rattle.audit.proofs.Passed.{byZero}
-use Rattle.audit.proofs.Booleans.{allTo-at}
-use Rattle.audit.proofs.ItemTests.{is-member}
+use Rattle.soundness.proofs.Passed.{byZero}
+use Rattle.soundness.proofs.Booleans.{allTo-at}
+use Rattle.soundness.proofs.ItemTests.{is-member}
 
 pub ok-is : (ok : Bool) (v r : ℕ) → ok ≡ true → r ≡ v → r + 1 ≡ ifOk ok v
 ok-is ok v r e f = rw e (omega arith)

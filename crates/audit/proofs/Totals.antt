@@ -16,10 +16,10 @@ use Rattle.rules.specs.Lists.{indicator, sumTo}
 use Rattle.rules.specs.Words.{look, stateHeap}
 use Rattle.rules.proofs.Follow.{to-ones}
 use Rattle.rules.proofs.SumTo.{sumTo-add, sumTo-cong}
-use Rattle.audit.specs.Check.{allTo, heapAt, countAt, membersAt}
+use Rattle.soundness.specs.Check.{allTo, heapAt, countAt, membersAt}
 use Rattle.audit.specs.Promises.{StatesLow}
-use Rattle.audit.proofs.Booleans.{allTo-at}
-use Rattle.audit.proofs.States.{heap-low}
+use Rattle.soundness.proofs.Booleans.{allTo-at}
+use Rattle.soundness.proofs.States.{heap-low}
 
 pub sumTo-more : (i : ℕ) (f : ℕ → ℕ) → sumTo (i + 1) f ≡ sumTo i f + f i
 unfolding sumTo

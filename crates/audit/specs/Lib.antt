@@ -1,4 +1,1 @@
-pub mod Check
 pub mod Promises
-pub mod Theorems
-pub mod Examples

@@ -7,7 +7,7 @@ use lib.ListN.{getD}
 use Rattle.rules.specs.declared.Field.the-variants.{State}
 use Rattle.rules.specs.Words.{look}
 use Rattle.store.specs.Says.{Sized}
-use Rattle.audit.specs.Check.{allTo, rowAt, listLength, itemOk, countAt, heapOk, treesAt, ranksAt}
+use Rattle.soundness.specs.Check.{allTo, rowAt, listLength, itemOk, countAt, heapOk, treesAt, ranksAt}
 
 -- item i is in the table
 pub record Item (n : ℕ) (w : List ℕ) (i : ℕ) : Type 0 where

@@ -4,26 +4,18 @@ ghost use mathlib.Core.Path.{_≡_};
 ghost use Prim.Native.Nat.{suc, _<_, _≤_};
 ghost use Rattle.rules.specs.Words.{look, stateHeap, stateMark};
 ghost use Rattle.store.specs.Says.{Sized, Within};
-ghost use Rattle.audit.specs.Check.{linkOk, listLength, parentOk, freeOk, itemOk, minimumOk};
-ghost use Rattle.audit.specs.Check.{countAt, allOk, soundWords};
+ghost use Rattle.soundness.specs.Check.{linkOk, listLength, parentOk, freeOk, itemOk, minimumOk};
+ghost use Rattle.soundness.specs.Check.{countAt, allOk, soundWords};
 ghost use Rattle.audit.specs.Promises.{Item, InHeap, StatesLow, AtMost, Counts};
 ghost use Rattle.audit.specs.Promises.{ranksIfOk, heapIfOk, treesIfOk};
 use rules::Field;
+use soundness::Siblings;
 use store::get;
 use store::is_store;
 use store::items_of;
 use store::order::precedes;
 
 const NONE: usize = 4294967295;
-
-// A list of siblings as its owner has it: the heap (1 + its number) and the parent that each item in it must name, and
-// the words that name its ends.
-pub struct Siblings {
-    pub heap: usize,
-    pub parent: usize,
-    pub first: usize,
-    pub last: usize,
-}
 
 // Word i of a kind: all words are read here, but for the keys that are compared.
 fn word_at(store: &[u32], n: usize, field: Field, i: usize) -> usize

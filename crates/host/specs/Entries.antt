@@ -4,7 +4,7 @@ use Prim.Native.Nat.{ℕ}
 use mathlib.Core.Path.{_≡_}
 use mathlib.Core.List.{List, [], _∷_}
 use mathlib.Core.Bool.{cond}
-use Rattle.audit.specs.Check.{soundWords}
+use Rattle.soundness.specs.Check.{soundWords}
 use Rattle.sheet.specs.Runs.{Run, returned}
 use Rattle.finder.specs.declared.Fed.{Fed}
 use Rattle.finder.specs.Map.{Map}

@@ -4,9 +4,9 @@ use mathlib.Core.Path.{_≡_}
 use mathlib.Core.List.{List}
 use mathlib.Core.Bool.{true}
 use Rattle.rules.specs.Words.{Sound}
-use Rattle.audit.specs.Check.{soundWords}
-use Rattle.audit.specs.Theorems.{SoundExact}
-use Rattle.audit.proofs.SoundExact.{soundExact}
+use Rattle.soundness.specs.Check.{soundWords}
+use Rattle.soundness.specs.Theorems.{SoundExact}
+use Rattle.soundness.proofs.SoundExact.{soundExact}
 
 pub accepted-sound : (w : List ℕ) → soundWords w ≡ true → Sound w
 unfolding SoundExact

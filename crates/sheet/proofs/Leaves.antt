@@ -11,7 +11,7 @@ use Rattle.rules.specs.WellFormed.{WellFormed}
 use Rattle.rules.specs.Words.{Sound, encode, forestsOf, itemsIn}
 use Rattle.rules.proofs.EmptyForests.{emptyWellFormed}
 use Rattle.rules.proofs.SoundWords.{forests-encode, sound-encode, sound-forests}
-use Rattle.audit.specs.Check.{soundWords}
+use Rattle.soundness.specs.Check.{soundWords}
 use Rattle.store.specs.Says.{Sized}
 use Rattle.text.specs.Lines.{lines}
 use Rattle.sheet.specs.declared.Checked.{Checked}

@@ -3,7 +3,7 @@ use Prim.Native.Nat.{ℕ, zero, suc, _≤_}
 use mathlib.Core.Path.{_≡_}
 use mathlib.Core.List.{List}
 use native.Mathlib.Omega.{arith}
-use Rattle.audit.specs.Check.{soundWords}
+use Rattle.soundness.specs.Check.{soundWords}
 use Rattle.text.proofs.Cases.{by-cond}
 use Rattle.sheet.specs.declared.Ran.{Ran}
 use Rattle.sheet.specs.Runs.{

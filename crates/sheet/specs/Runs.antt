@@ -11,7 +11,7 @@ use Rattle.rules.specs.declared.Line.{Line}
 use Rattle.rules.specs.Forests.{Forests, empty}
 use Rattle.rules.specs.Answers.{answers, after}
 use Rattle.rules.specs.Words.{itemsIn, isStore, encode, forestsOf}
-use Rattle.audit.specs.Check.{soundWords}
+use Rattle.soundness.specs.Check.{soundWords}
 use Rattle.text.specs.Lines.{lines}
 use Rattle.sheet.specs.declared.Ran.{Ran}
 use Rattle.sheet.specs.Parse.{linesOf}

@@ -3,6 +3,7 @@
 pub mod campaigns;
 pub mod check;
 pub mod engine;
+pub mod entries;
 pub mod forest;
 pub mod linked;
 pub mod malformed;

@@ -5,6 +5,10 @@
 #[cfg(feature = "engine-host")]
 use crate::engine::FeedLists;
 use crate::engine::{Engine, Part};
+#[cfg(feature = "engine-modem")]
+use crate::own_run;
+#[cfg(feature = "engine-host")]
+use crate::{feed_call, lent_run};
 #[cfg(feature = "engine-host")]
 use reference::feed::Spans;
 use std::io::Write;
@@ -14,47 +18,9 @@ use std::process::{Command, Stdio};
 /// Names the folder that holds the programs `queue` and `feed`.
 pub const PROGRAMS: &str = "CABLE_QUEUE_BIN";
 
-#[cfg(feature = "engine-modem")]
-extern "C" {
-    fn queue_run(sheet: *const u8, sheet_len: usize, out: *mut u8, out_len: usize) -> u32;
-}
-
 #[cfg(feature = "engine-host")]
 extern "C" {
-    fn fresh_run(
-        store: *mut u32,
-        store_len: usize,
-        sheet: *const u8,
-        sheet_len: usize,
-        out: *mut u8,
-        out_len: usize,
-    ) -> u32;
-    fn kept_run(
-        store: *mut u32,
-        store_len: usize,
-        sheet: *const u8,
-        sheet_len: usize,
-        out: *mut u8,
-        out_len: usize,
-    ) -> u32;
     fn store_sound(store: *const u32, store_len: usize) -> u32;
-    fn feed_table(
-        places: u32,
-        start: u32,
-        from: *const u32,
-        from_len: usize,
-        to: *const u32,
-        to_len: usize,
-        loss: *const u32,
-        loss_len: usize,
-        best: *mut u32,
-        best_len: usize,
-        last: *mut u32,
-        last_len: usize,
-        store: *mut u32,
-        store_len: usize,
-        figures: *mut [u32; 3],
-    ) -> u32;
     fn read_map(
         text: *const u8,
         text_len: usize,
@@ -116,56 +82,33 @@ impl Engine for Linked {
 
     #[cfg(feature = "engine-modem")]
     fn queue_run(&self, sheet: &[u8], out: &mut [u8]) -> u32 {
-        // SAFETY: pointers and lengths are those of live slices that do not overlap.
-        unsafe { queue_run(sheet.as_ptr(), sheet.len(), out.as_mut_ptr(), out.len()) }
+        own_run!(queue_run, sheet, out)
     }
 
     #[cfg(feature = "engine-host")]
     fn fresh_run(&self, store: &mut [u32], sheet: &[u8], out: &mut [u8]) -> u32 {
-        // SAFETY: as in queue_run.
-        unsafe { fresh_run(store.as_mut_ptr(), store.len(), sheet.as_ptr(), sheet.len(), out.as_mut_ptr(), out.len()) }
+        lent_run!(fresh_run, store, sheet, out)
     }
 
     #[cfg(feature = "engine-host")]
     fn kept_run(&self, store: &mut [u32], sheet: &[u8], out: &mut [u8]) -> u32 {
-        // SAFETY: as in queue_run.
-        unsafe { kept_run(store.as_mut_ptr(), store.len(), sheet.as_ptr(), sheet.len(), out.as_mut_ptr(), out.len()) }
+        lent_run!(kept_run, store, sheet, out)
     }
 
     #[cfg(feature = "engine-host")]
     fn store_sound(&self, store: &[u32]) -> u32 {
-        // SAFETY: as in queue_run.
+        // SAFETY: pointer and length are those of a live slice.
         unsafe { store_sound(store.as_ptr(), store.len()) }
     }
 
     #[cfg(feature = "engine-host")]
     fn feed_table(&self, places: u32, start: u32, spans: Spans, lists: FeedLists, figures: &mut [u32; 3]) -> u32 {
-        // SAFETY: as in queue_run.
-        unsafe {
-            let (Spans { from, to, loss }, FeedLists { best, last, store }) = (spans, lists);
-            feed_table(
-                places,
-                start,
-                from.as_ptr(),
-                from.len(),
-                to.as_ptr(),
-                to.len(),
-                loss.as_ptr(),
-                loss.len(),
-                best.as_mut_ptr(),
-                best.len(),
-                last.as_mut_ptr(),
-                last.len(),
-                store.as_mut_ptr(),
-                store.len(),
-                figures,
-            )
-        }
+        feed_call!(feed_table, places, start, spans, lists, figures)
     }
 
     #[cfg(feature = "engine-host")]
     fn read_map(&self, text: &[u8], lists: [&mut [u32]; 3], figures: &mut [u32; 3]) -> u32 {
-        // SAFETY: as in queue_run.
+        // SAFETY: pointers and lengths are those of live slices that do not overlap.
         unsafe {
             let [from, to, loss] = lists;
             read_map(

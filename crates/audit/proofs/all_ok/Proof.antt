@@ -7,7 +7,7 @@ use native.Mathlib.Omega.{arith}
 use Rattle.rules.proofs.Occurs.{and-false}
 use Rattle.audit.proofs.Results.{ok-zero, ok-more, states-low}
 use Rattle.audit.proofs.Totals.{members-free}
-use Rattle.audit.specs.Check.{allTo, itemOk, heapOk, treesAt, ranksAt, membersAt, allOk}
+use Rattle.soundness.specs.Check.{allTo, itemOk, heapOk, treesAt, ranksAt, membersAt, allOk}
 use Rattle.audit.proofs.all_ok.Statement.{statement}
 use Rattle.audit.proofs.all_ok.Tie as tie
 

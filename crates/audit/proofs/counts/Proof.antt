@@ -5,7 +5,7 @@ use lib.Dec.{eqb}
 use mathlib.Core.Path.{_≡_, ap, _∙_}
 use native.Mathlib.Omega.{arith}
 use Rattle.audit.proofs.Totals.{CountsTo, countTo, counts-start, counts-more, heap-index, indicators-bound}
-use Rattle.audit.specs.Check.{heapAt, countAt}
+use Rattle.soundness.specs.Check.{heapAt, countAt}
 use Rattle.audit.proofs.counts.Statement.{statement}
 use Rattle.audit.proofs.counts.Tie as tie
 
@@ -59,7 +59,8 @@ loop-again c =
     let a = c .before .before .before .before .before .args in
     let l = c .before .before .before .loop in (
       omega arith,
-      counts-more (a .n) (a .store .now) (l .i) (c .heap-of .result) (l .counts) (cc) (array-read-counts c)
+      counts-more (a .n) (a .store .now) (l .i) (c .heap-of .result) (l .counts)
+          (rw (← c .before .word-at .ensures .is) (c .heap-of .ensures .is)) (array-read-counts c)
           (l .inv .1),
     )
 

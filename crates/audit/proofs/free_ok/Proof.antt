@@ -1,5 +1,5 @@
 -- `audit::free_ok` meets its contract.
-use Rattle.audit.specs.Check.{freeOk}
+use Rattle.soundness.specs.Check.{freeOk}
 use borrow.Author.Needs.{needs}
 use Rattle.audit.proofs.free_ok.Statement.{statement}
 use Rattle.audit.proofs.free_ok.Tie as tie
@@ -27,7 +27,16 @@ word-at-requires-7 c κs = search needs
 
 returns : tie.Need-returns
 unfolding freeOk
-returns c = cc
+returns c =
+    rw (
+      ← c .before .before .before .before .before .before .word-at .ensures .is,
+      ← c .before .before .before .before .before .word-at2 .ensures .is,
+      ← c .before .before .before .before .word-at3 .ensures .is,
+      ← c .before .before .before .word-at4 .ensures .is,
+      ← c .before .before .word-at5 .ensures .is,
+      ← c .before .word-at6 .ensures .is,
+      ← c .word-at7 .ensures .is,
+    )
 
 pub free-ok-spec : {M : Type 1} → statement M
 free-ok-spec =

@@ -8,7 +8,7 @@ use native.Mathlib.Omega.{arith}
 use Rattle.rules.specs.Words.{look}
 use Rattle.rules.specs.declared.Field.the-variants.{Count}
 use Rattle.audit.proofs.Results.{heap-right, heap-wrong}
-use Rattle.audit.specs.Check.{rowAt, listLength, minimumOk, countAt}
+use Rattle.soundness.specs.Check.{rowAt, listLength, minimumOk, countAt}
 use Rattle.audit.proofs.heap_length.Statement.{statement}
 use Rattle.audit.proofs.heap_length.Tie as tie
 
@@ -36,10 +36,18 @@ returns c =
     let e : a .h + 1 ≡ suc (a .h) = omega arith in
     let f : c .before .before .before .list-length .result ≡ listLength (a .n) (a .store .now)
     (rowAt (a .n) (a .store .now) (a .h)) =
-    cc in
+    rw (
+      ← c .before .before .before .before .before .word-at .ensures .is,
+      ← c .before .before .before .before .word-at2 .ensures .is,
+      ← e,
+    ) (c .before .before .before .list-length .ensures .is) in
     let t : (minimumOk (a .n) (a .store .now) (a .h) && eqb (look (a .n) (a .store .now) Count (a .h))
     (countAt (a .n) (a .store .now) (suc (a .h)))) ≡ true =
-    cc in
+    rw (
+      ← c .before .before .minimum-ok .ensures,
+      ← c .before .word-at3 .ensures .is,
+      ← c .before .before .before .before .before .before .before .pre .1 .1,
+    ) (c .if1 .taken) in
     record {
       is = f
           ∙ heap-right (a .n) (a .store .now) (a .h) t;
@@ -51,7 +59,11 @@ returns-2 c =
     let a = c .before .before .before .before .before .before .before .args in
     let t : (minimumOk (a .n) (a .store .now) (a .h) && eqb (look (a .n) (a .store .now) Count (a .h))
     (countAt (a .n) (a .store .now) (suc (a .h)))) ≡ false =
-    cc in
+    rw (
+      ← c .before .before .minimum-ok .ensures,
+      ← c .before .word-at3 .ensures .is,
+      ← c .before .before .before .before .before .before .before .pre .1 .1,
+    ) (c .if1 .left) in
     record { is = heap-wrong (a .n) (a .store .now) (a .h) t; most = omega arith }
 
 pub heap-length-spec : {M : Type 1} → statement M

@@ -1,7 +1,7 @@
 -- `audit::heap_of` meets its contract.
 use borrow.Author.Needs.{needs}
 use native.Mathlib.Omega.{arith}
-use Rattle.audit.proofs.States.{heap-half}
+use Rattle.soundness.proofs.States.{heap-half}
 use Rattle.audit.proofs.heap_of.Statement.{statement}
 use Rattle.audit.proofs.heap_of.Tie as tie
 

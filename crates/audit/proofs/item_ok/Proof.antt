@@ -6,7 +6,7 @@ use native.Mathlib.Numerals.{add-one}
 use native.Mathlib.Omega.{arith}
 use Rattle.rules.specs.Words.{at, look}
 use Rattle.rules.specs.declared.Field.the-variants.{Key, Rank}
-use Rattle.audit.specs.Check.{heapAt, memberOk, itemOk}
+use Rattle.soundness.specs.Check.{heapAt, memberOk, itemOk}
 use Rattle.audit.proofs.item_ok.Statement.{statement}
 use Rattle.audit.proofs.item_ok.Tie as tie
 
@@ -18,7 +18,7 @@ free-ok-requires c κs = search needs
 
 returns : tie.Need-returns
 unfolding itemOk
-returns c = rw (← c .before .before .word-at .ensures .is, eq-eqb _ _ (c .before .if1 .taken)) (cc)
+returns c = rw (← c .before .before .word-at .ensures .is, eq-eqb _ _ (c .before .if1 .taken)) (c .free-ok .ensures)
 
 returns-2 : tie.Need-returns-2
 unfolding itemOk memberOk
@@ -66,9 +66,14 @@ returns-3 c =
       ne-eqb (state .result) 0 (c .before .before .before .before .before .before .before .if1 .left),
       le-leb (state .result) 16 (c .before .before .before .before .before .before .if2 .left),
       le-leb (look (a .n) (a .store .now) Key (a .i)) 4294967295 k,
-      ← add-one (look (a .n) (a .store .now) Rank (a .i)),
+      ← c .word-at4 .ensures .is,
+      ← add-one (c .word-at4 .result),
+      ← c .before .before .before .before .before .parent-ok .ensures,
+      ← c .before .before .before .before .heap-of .ensures .is,
+      ← c .before .before .before .word-at2 .ensures .is,
+      ← c .before .before .word-at3 .ensures .is,
+      ← c .before .list-length .ensures .is,
     )
-    (cc)
 
 pub item-ok-spec : {M : Type 1} → statement M
 item-ok-spec =

@@ -3,7 +3,7 @@ use Prim.Native.Nat.{_<_}
 use borrow.Author.Needs.{needs}
 use borrow.Author.Tests.{lt-ltb, le-ltb}
 use native.Mathlib.Omega.{arith}
-use Rattle.audit.specs.Check.{heapAt, markAt, linkOk}
+use Rattle.soundness.specs.Check.{heapAt, markAt, linkOk}
 use Rattle.audit.proofs.link_ok.Statement.{statement}
 use Rattle.audit.proofs.link_ok.Tie as tie
 
@@ -37,7 +37,15 @@ unfolding linkOk heapAt markAt
 returns-2 c =
     let a = c .before .before .before .before .before .before .before .before .before .before .before .args in
     let h : a .x < a .n = omega arith in
-    rw (lt-ltb (a .x) (a .n) h) (cc)
+    rw (
+      lt-ltb (a .x) (a .n) h,
+      ← c .before .before .before .before .before .before .before .before .word-at .ensures .is,
+      ← c .before .before .before .before .before .before .before .word-at2 .ensures .is,
+      ← c .before .before .before .before .before .before .word-at3 .ensures .is,
+      ← c .before .before .before .before .before .word-at4 .ensures .is,
+      ← c .before .before .before .before .heap-of .ensures .is,
+      ← c .before .before .before .mark-of .ensures .is,
+    )
 
 pub link-ok-spec : {M : Type 1} → statement M
 link-ok-spec =

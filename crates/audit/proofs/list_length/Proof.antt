@@ -5,9 +5,9 @@ use mathlib.Core.Logic.{⊎-elim, inl, inr}
 use mathlib.Core.Path.{_≡_, _∙_}
 use native.Mathlib.Nat.{sub-zero}
 use native.Mathlib.Omega.{arith}
-use Rattle.audit.proofs.Booleans.{told-true, told-false}
+use Rattle.soundness.proofs.Booleans.{told-true, told-false}
 use Rattle.audit.proofs.Walks.{link-inside, walk-refused, walk-done, walk-fails, walk-more}
-use Rattle.audit.specs.Check.{linkOk, lengthFrom, listLength}
+use Rattle.soundness.specs.Check.{linkOk, lengthFrom, listLength}
 use Rattle.audit.proofs.list_length.Statement.{statement}
 use Rattle.audit.proofs.list_length.Tie as tie
 

@@ -2,7 +2,7 @@
 use borrow.Author.Needs.{needs}
 use native.Mathlib.Omega.{arith}
 use Rattle.rules.specs.Words.{stateMark}
-use Rattle.audit.proofs.States.{mark-odd}
+use Rattle.soundness.proofs.States.{mark-odd}
 use Rattle.audit.proofs.mark_of.Statement.{statement}
 use Rattle.audit.proofs.mark_of.Tie as tie
 

@@ -4,7 +4,7 @@ use borrow.Author.Needs.{needs}
 use borrow.Author.Tests.{lt-ltb, le-ltb, eq-eqb, ne-eqb}
 use native.Mathlib.Numerals.{add-one}
 use native.Mathlib.Omega.{arith}
-use Rattle.audit.specs.Check.{heapAt, leastOk, minimumOk}
+use Rattle.soundness.specs.Check.{heapAt, leastOk, minimumOk}
 use Rattle.audit.proofs.minimum_ok.Statement.{statement}
 use Rattle.audit.proofs.minimum_ok.Tie as tie
 
@@ -16,7 +16,12 @@ word-at-requires-2 c κs = search needs
 
 returns : tie.Need-returns
 unfolding minimumOk
-returns c = rw (← c .before .before .word-at .ensures .is, eq-eqb _ _ (c .if1 .taken)) (cc)
+returns c =
+    rw (
+      ← c .before .before .word-at .ensures .is,
+      eq-eqb _ _ (c .if1 .taken),
+      ← c .before .word-at2 .ensures .is,
+    )
 
 returns-2 : tie.Need-returns-2
 unfolding minimumOk leastOk
@@ -52,8 +57,10 @@ returns-3 c =
       ← least .ensures .is,
       lt-ltb _ _ h,
       add-one,
+      ← c .before .before .word-at3 .ensures .is,
+      ← c .before .heap-of .ensures .is,
+      ← c .word-at4 .ensures .is,
     )
-    (cc)
 
 pub minimum-ok-spec : {M : Type 1} → statement M
 minimum-ok-spec =

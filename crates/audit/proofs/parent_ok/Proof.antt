@@ -5,8 +5,8 @@ use borrow.Author.Tests.{lt-ltb, le-ltb}
 use native.Mathlib.Omega.{arith}
 use Rattle.rules.proofs.Occurs.{and-false}
 use Rattle.audit.proofs.Parents.{as-root, as-child}
-use Rattle.audit.proofs.States.{heap-some, heap-low}
-use Rattle.audit.specs.Check.{heapAt, markAt, rootOk, childOk}
+use Rattle.soundness.proofs.States.{heap-some, heap-low}
+use Rattle.soundness.specs.Check.{heapAt, markAt, rootOk, childOk}
 use Rattle.audit.proofs.parent_ok.Statement.{statement}
 use Rattle.audit.proofs.parent_ok.Tie as tie
 
@@ -63,7 +63,13 @@ returns-2 c =
     (c .before .before .word-at2 .ensures .is) (c .before .before .before .before .if1 .taken) in
     let least = c .before .before .word-at2 .result in
     let h : least < a .n = omega arith in
-    rw (r, lt-ltb least (a .n) h) (cc)
+    rw (
+      r,
+      lt-ltb least (a .n) h,
+      ← c .before .before .before .before .before .before .before .before .pre .is,
+      ← c .before .before .before .mark-of .ensures .is,
+      ← c .precedes .ensures,
+    )
 
 returns-3 : tie.Need-returns-3
 unfolding childOk
@@ -94,7 +100,15 @@ returns-4 c =
     (c .before .before .before .before .if1 .left) in
     let parent = c .before .before .before .before .before .word-at .result in
     let h : parent < a .n = omega arith in
-    rw (r, lt-ltb parent (a .n) h) (cc)
+    rw (
+      r,
+      lt-ltb parent (a .n) h,
+      ← c .before .before .word-at3 .ensures .is,
+      ← c .before .heap-of2 .ensures .is,
+      ← c .before .before .before .before .before .before .before .before .pre .is,
+      ← c .before .before .before .before .before .before .heap-of .ensures .is,
+      ← c .precedes2 .ensures,
+    )
 
 pub parent-ok-spec : {M : Type 1} → statement M
 parent-ok-spec =

@@ -7,10 +7,10 @@ use native.Mathlib.Omega.{arith}
 use Rattle.rules.specs.Lists.{sumTo}
 use Rattle.rules.specs.Words.{look}
 use Rattle.rules.specs.declared.Field.the-variants.{Rank}
-use Rattle.audit.proofs.Booleans.{told-true, told-false}
+use Rattle.soundness.proofs.Booleans.{told-true, told-false}
 use Rattle.audit.proofs.Results.{ok-is, ok-not}
 use Rattle.audit.proofs.Totals.{sumTo-more, allTo-more, allTo-not}
-use Rattle.audit.specs.Check.{allTo, itemOk, ranksAt}
+use Rattle.soundness.specs.Check.{allTo, itemOk, ranksAt}
 use Rattle.audit.proofs.ranks.Statement.{statement}
 use Rattle.audit.proofs.ranks.Tie as tie
 
@@ -60,7 +60,7 @@ loop-again c =
       omega arith,
       allTo-more (l .i) (itemOk (a .n) (a .store .now)) (l .inv .1)
           (told-true _ _ (c .before .before .item-ok .ensures) (c .before .if1 .left)),
-      rw sumTo-more (cc),
+      rw (sumTo-more, ← l .inv .2, ← c .word-at .ensures .is),
       omega arith,
     )
 

@@ -2,7 +2,7 @@
 use mathlib.Core.Path.{_∙_}
 use borrow.Author.Needs.{needs}
 use Rattle.store.proofs.Sizes.{store-sized}
-use Rattle.audit.proofs.Booleans.{told-false, told-true}
+use Rattle.soundness.proofs.Booleans.{told-false, told-true}
 use Rattle.audit.proofs.Results.{sound-wrong, sound-all}
 use Rattle.audit.proofs.sound.Statement.{statement}
 use Rattle.audit.proofs.sound.Tie as tie

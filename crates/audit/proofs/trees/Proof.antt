@@ -7,7 +7,7 @@ use native.Mathlib.Omega.{arith}
 use Rattle.rules.specs.Lists.{sumTo}
 use Rattle.audit.proofs.Results.{ok-is, ok-not, heap-zero, heap-more}
 use Rattle.audit.proofs.Totals.{sumTo-more, allTo-more, allTo-not}
-use Rattle.audit.specs.Check.{allTo, rowAt, listLength, heapOk, treesAt}
+use Rattle.soundness.specs.Check.{allTo, rowAt, listLength, heapOk, treesAt}
 use Rattle.audit.proofs.trees.Statement.{statement}
 use Rattle.audit.proofs.trees.Tie as tie
 
@@ -74,8 +74,7 @@ loop-again c =
     (c .if1 .left) in (
       omega arith,
       allTo-more (l .h) (heapOk (a .n) (a .store .now)) (l .inv .1) (m .0),
-      rw sumTo-more
-          (cc),
+      rw (sumTo-more, ← l .inv .2, ← m .1),
       omega arith,
     )
 

@@ -16,14 +16,14 @@ use Rattle.rules.specs.Words.{look, listFrom, decode}
 use Rattle.rules.proofs.Occurs.{eqb-self}
 use Rattle.rules.proofs.Siblings.{Once}
 use Rattle.rules.proofs.SumTo.{sumTo-cong}
-use Rattle.audit.specs.declared.Siblings.{Siblings}
-use Rattle.audit.specs.Check.{heapAt, rowAt, childrenAt, listLength, treesAt, ranksAt, membersAt}
-use Rattle.audit.proofs.Passed.{Passed, byPlace, byZero}
-use Rattle.audit.proofs.Decoded.{parent-at, heap-at, row-at, children-at, out-row, out-heap}
-use Rattle.audit.proofs.Links.{prevs-once, occurs-bound}
-use Rattle.audit.proofs.Lists.{Listed, length-listed}
-use Rattle.audit.proofs.States.{heap-zero, zero-heap, heap-low}
-use Rattle.audit.proofs.Tight.{tight-rows, tight-children, one-place}
+use Rattle.soundness.specs.declared.Siblings.{Siblings}
+use Rattle.soundness.specs.Check.{heapAt, rowAt, childrenAt, listLength, treesAt, ranksAt, membersAt}
+use Rattle.soundness.proofs.Passed.{Passed, byPlace, byZero}
+use Rattle.soundness.proofs.Decoded.{parent-at, heap-at, row-at, children-at, out-row, out-heap}
+use Rattle.soundness.proofs.Links.{prevs-once, occurs-bound}
+use Rattle.soundness.proofs.Lists.{Listed, length-listed}
+use Rattle.soundness.proofs.States.{heap-zero, zero-heap, heap-low}
+use Rattle.soundness.proofs.Tight.{tight-rows, tight-children, one-place}
 
 module _ (n : ℕ) (w : List ℕ) (A : Passed n w) where
   abbrev s : Forests

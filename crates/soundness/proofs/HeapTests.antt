@@ -9,8 +9,8 @@ use borrow.Author.Tests.{eqb-true, eqb-false, ltb-true, lt-ltb, eq-eqb, ne-eqb, 
 use Rattle.rules.specs.declared.Field.the-variants.{FirstTree, Minimum, Count, Parent}
 use Rattle.rules.specs.Forests.{none}
 use Rattle.rules.specs.Words.{look}
-use Rattle.audit.specs.Check.{heapAt, rowAt, listLength, leastOk, minimumOk, countAt, heapOk}
-use Rattle.audit.proofs.Booleans.{and-split}
+use Rattle.soundness.specs.Check.{heapAt, rowAt, listLength, leastOk, minimumOk, countAt, heapOk}
+use Rattle.soundness.proofs.Booleans.{and-split}
 
 module _ (n : ℕ) (w : List ℕ) where
   -- item `least` is a root of heap h

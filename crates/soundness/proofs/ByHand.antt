@@ -23,7 +23,7 @@ use Rattle.rules.specs.Words.{
   encode,
 }
 use Rattle.store.specs.ItemOrder.{itemKey}
-use Rattle.audit.specs.Check.{
+use Rattle.soundness.specs.Check.{
   allTo,
   heapAt,
   markAt,
@@ -46,7 +46,7 @@ use Rattle.audit.specs.Check.{
   allOk,
   soundWords,
 }
-use Rattle.audit.specs.Examples.{
+use Rattle.soundness.specs.Examples.{
   byCheck,
   but,
   sample,

@@ -8,11 +8,11 @@ use lib.Dec.{eqb, ltb}
 use borrow.Author.Tests.{eqb-true, eqb-false, ltb-true, ltb-false, eq-eqb}
 use Rattle.rules.specs.declared.Field.the-variants.{State}
 use Rattle.rules.specs.Words.{look}
-use Rattle.audit.specs.Check.{allTo, heapAt, itemOk, heapOk, treesAt, ranksAt, membersAt, allOk}
-use Rattle.audit.proofs.Booleans.{and-split, and-join, allTo-at, allTo-all}
-use Rattle.audit.proofs.HeapTests.{HeapRight, is-heap, heap-passes}
-use Rattle.audit.proofs.ItemTests.{Free, Member, is-free, is-member, free-passes, member-passes}
-use Rattle.audit.proofs.States.{heap-zero, zero-heap}
+use Rattle.soundness.specs.Check.{allTo, heapAt, itemOk, heapOk, treesAt, ranksAt, membersAt, allOk}
+use Rattle.soundness.proofs.Booleans.{and-split, and-join, allTo-at, allTo-all}
+use Rattle.soundness.proofs.HeapTests.{HeapRight, is-heap, heap-passes}
+use Rattle.soundness.proofs.ItemTests.{Free, Member, is-free, is-member, free-passes, member-passes}
+use Rattle.soundness.proofs.States.{heap-zero, zero-heap}
 
 pub record Passed (n : ℕ) (w : List ℕ) : Type 0 where
   pub small : n ≤ 4096

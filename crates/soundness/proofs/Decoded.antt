@@ -24,7 +24,7 @@ use Rattle.rules.proofs.SumTo.{sumTo-cong, sumBy-places}
 use Rattle.rules.proofs.Tabulate.{length-tabulate, getD-tabulate}
 use Rattle.store.specs.ItemOrder.{itemKey}
 use Rattle.store.proofs.ItemOrder.{key-is}
-use Rattle.audit.specs.Check.{heapAt, markAt, countAt}
+use Rattle.soundness.specs.Check.{heapAt, markAt, countAt}
 
 -- the children of item i, as `decode` reads them
 abbrev childrenRead : ℕ → List ℕ → ℕ → List ℕ

@@ -8,7 +8,7 @@ use mathlib.Core.Bool.{true, false}
 use Rattle.rules.specs.Forests.{Forests}
 use Rattle.rules.specs.WellFormed.{WellFormed}
 use Rattle.rules.specs.Words.{Sound, encode, forestsOf}
-use Rattle.audit.specs.Check.{soundWords}
+use Rattle.soundness.specs.Check.{soundWords}
 
 -- The check says yes of the words of well-formed forests, and of no others.
 unfoldable pub SoundExact : Type 0

@@ -21,7 +21,7 @@ use Rattle.rules.specs.Forests.{none}
 use Rattle.rules.specs.Order.{comesBefore}
 use Rattle.rules.specs.Words.{look}
 use Rattle.store.specs.ItemOrder.{itemKey}
-use Rattle.audit.specs.Check.{
+use Rattle.soundness.specs.Check.{
   heapAt,
   markAt,
   childrenAt,
@@ -33,7 +33,7 @@ use Rattle.audit.specs.Check.{
   freeOk,
   itemOk,
 }
-use Rattle.audit.proofs.Booleans.{and-split}
+use Rattle.soundness.proofs.Booleans.{and-split}
 
 module _ (n : ℕ) (w : List ℕ) where
   -- all words of a free item are 0

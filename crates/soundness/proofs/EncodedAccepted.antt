@@ -30,9 +30,9 @@ use Rattle.rules.proofs.Members.{out-heap, heap-in, root-row, row-root, free-ch
 use Rattle.rules.proofs.Minimum.{leastOf-in, none-before, minimum-in-row}
 use Rattle.rules.proofs.Occurs.{delta-self}
 use Rattle.rules.proofs.SumTo.{sumTo-cong}
-use Rattle.audit.specs.Check.{heapAt, rowAt, listLength, treesAt, ranksAt, membersAt}
-use Rattle.audit.proofs.Passed.{Passed}
-use Rattle.audit.proofs.Encoded.{
+use Rattle.soundness.specs.Check.{heapAt, rowAt, listLength, treesAt, ranksAt, membersAt}
+use Rattle.soundness.proofs.Passed.{Passed}
+use Rattle.soundness.proofs.Encoded.{
   says,
   heap-is,
   mark-is,
@@ -41,10 +41,10 @@ use Rattle.audit.proofs.Encoded.{
   row-length,
   children-length,
 }
-use Rattle.audit.proofs.HeapTests.{Least, HeapRight}
-use Rattle.audit.proofs.ItemTests.{Free, Root, Child, Member}
-use Rattle.audit.proofs.States.{state-low}
-use Rattle.audit.proofs.Tight.{both-sum, one-place}
+use Rattle.soundness.proofs.HeapTests.{Least, HeapRight}
+use Rattle.soundness.proofs.ItemTests.{Free, Root, Child, Member}
+use Rattle.soundness.proofs.States.{state-low}
+use Rattle.soundness.proofs.Tight.{both-sum, one-place}
 
 module _ (s : Forests) (W : WellFormed s) where
   abbrev n : ℕ

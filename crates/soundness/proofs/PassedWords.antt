@@ -45,11 +45,11 @@ use Rattle.rules.proofs.Minimum.{minimum-unique}
 use Rattle.rules.proofs.Occurs.{delta-self}
 use Rattle.rules.proofs.Words.{words-equal}
 use Rattle.store.specs.ItemOrder.{itemKey}
-use Rattle.audit.specs.Check.{heapAt, markAt, rowAt, listLength}
-use Rattle.audit.proofs.Passed.{Passed, byZero}
-use Rattle.audit.proofs.PassedForests.{disjoint}
-use Rattle.audit.proofs.PassedLists.{Whole, row-list, children-list, rank-is}
-use Rattle.audit.proofs.Decoded.{
+use Rattle.soundness.specs.Check.{heapAt, markAt, rowAt, listLength}
+use Rattle.soundness.proofs.Passed.{Passed, byZero}
+use Rattle.soundness.proofs.PassedForests.{disjoint}
+use Rattle.soundness.proofs.PassedLists.{Whole, row-list, children-list, rank-is}
+use Rattle.soundness.proofs.Decoded.{
   key-at,
   parent-at,
   heap-at,
@@ -58,8 +58,8 @@ use Rattle.audit.proofs.Decoded.{
   precedes-at,
   count-at,
 }
-use Rattle.audit.proofs.Links.{prevs-in}
-use Rattle.audit.proofs.States.{state-again}
+use Rattle.soundness.proofs.Links.{prevs-in}
+use Rattle.soundness.proofs.States.{state-again}
 
 module _ (n : ℕ) (w : List ℕ) (A : Passed n w) where
   abbrev s : Forests

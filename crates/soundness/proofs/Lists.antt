@@ -14,10 +14,10 @@ use Rattle.rules.specs.Forests.{none}
 use Rattle.rules.specs.Words.{look, headOr, lastOr, nextIn, prevIn, follow}
 use Rattle.rules.proofs.Occurs.{eqb-self, delta-self}
 use Rattle.rules.proofs.Siblings.{Once, once-tail, head-out, tail-in}
-use Rattle.audit.specs.declared.Siblings.{Siblings}
-use Rattle.audit.specs.Check.{heapAt, markAt, linkOk, lengthFrom}
-use Rattle.audit.proofs.Booleans.{and-split}
-use Rattle.audit.proofs.Links.{Prevs, Places}
+use Rattle.soundness.specs.declared.Siblings.{Siblings}
+use Rattle.soundness.specs.Check.{heapAt, markAt, linkOk, lengthFrom}
+use Rattle.soundness.proofs.Booleans.{and-split}
+use Rattle.soundness.proofs.Links.{Prevs, Places}
 
 -- what an item shows against its place among children
 abbrev pub shown : ℕ → List ℕ → ℕ → ℕ

@@ -6,13 +6,13 @@ use Rattle.rules.specs.Words.{itemsIn, isStore, Sound, encode, forestsOf}
 use Rattle.rules.proofs.DecodeEncode.{encode-length}
 use Rattle.store.specs.Says.{Sized}
 use Rattle.store.proofs.Sizes.{store-sized, sized-store, sized-items}
-use Rattle.audit.specs.Check.{soundWords}
-use Rattle.audit.specs.Theorems.{SoundExact, SoundDecoded, RefusedUnsound, EncodedAccepted}
-use Rattle.audit.proofs.Passed.{passed, passes}
-use Rattle.audit.proofs.PassedForests.{wellFormed}
-use Rattle.audit.proofs.PassedWords.{words}
-use Rattle.audit.proofs.Booleans.{and-split}
-use Rattle.audit.proofs.EncodedAccepted.{accepted}
+use Rattle.soundness.specs.Check.{soundWords}
+use Rattle.soundness.specs.Theorems.{SoundExact, SoundDecoded, RefusedUnsound, EncodedAccepted}
+use Rattle.soundness.proofs.Passed.{passed, passes}
+use Rattle.soundness.proofs.PassedForests.{wellFormed}
+use Rattle.soundness.proofs.PassedWords.{words}
+use Rattle.soundness.proofs.Booleans.{and-split}
+use Rattle.soundness.proofs.EncodedAccepted.{accepted}
 
 pub soundDecoded : SoundDecoded
 unfolding SoundDecoded soundWords forestsOf

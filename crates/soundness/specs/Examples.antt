@@ -18,7 +18,7 @@ use Rattle.rules.specs.declared.Field.the-variants.{
 }
 use Rattle.rules.specs.Forests.{Forests, none, empty}
 use Rattle.rules.specs.Words.{at, encode}
-use Rattle.audit.specs.Check.{soundWords}
+use Rattle.soundness.specs.Check.{soundWords}
 
 pub data Example : Type 0 where
   accepted : List ℕ → Example

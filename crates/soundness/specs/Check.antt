@@ -18,7 +18,7 @@ use Rattle.rules.specs.declared.Field.the-variants.{
   Rank,
   State,
 }
-use Rattle.audit.specs.declared.Siblings.{Siblings}
+use Rattle.soundness.specs.declared.Siblings.{Siblings}
 use Rattle.rules.specs.Lists.{indicator, sumTo}
 use Rattle.rules.specs.Forests.{none}
 use Rattle.rules.specs.Order.{comesBefore}

@@ -29,8 +29,8 @@ use Rattle.rules.proofs.SiblingLists.{once-row, once-children, siblings-row, si
 use Rattle.rules.proofs.Siblings.{Once}
 use Rattle.rules.proofs.Words.{look-wordsOf}
 use Rattle.store.specs.ItemOrder.{itemKey}
-use Rattle.audit.specs.declared.Siblings.{Siblings}
-use Rattle.audit.specs.Check.{
+use Rattle.soundness.specs.declared.Siblings.{Siblings}
+use Rattle.soundness.specs.Check.{
   heapAt,
   markAt,
   rowAt,
@@ -38,9 +38,9 @@ use Rattle.audit.specs.Check.{
   listLength,
   countAt,
 }
-use Rattle.audit.proofs.Decoded.{heap-at, mark-at, precedes-at, count-at}
-use Rattle.audit.proofs.Links.{Places, ranks-places}
-use Rattle.audit.proofs.Lists.{shown, listed-length}
+use Rattle.soundness.proofs.Decoded.{heap-at, mark-at, precedes-at, count-at}
+use Rattle.soundness.proofs.Links.{Places, ranks-places}
+use Rattle.soundness.proofs.Lists.{shown, listed-length}
 
 module _ (s : Forests) (W : WellFormed s) where
   abbrev n : ℕ

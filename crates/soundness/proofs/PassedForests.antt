@@ -8,9 +8,9 @@ use Rattle.rules.specs.declared.Field.the-variants.{Parent, State}
 use Rattle.rules.specs.Forests.{Forests, none, childrenOf, parentOf, keyOf, markOf, heapOf}
 use Rattle.rules.specs.WellFormed.{Disjoint, HeapOrdered, RankRule, KeysFit, WellFormed}
 use Rattle.rules.specs.Words.{look, decode}
-use Rattle.audit.specs.Check.{heapAt, markAt}
-use Rattle.audit.proofs.Passed.{Passed, byPlace, byZero}
-use Rattle.audit.proofs.PassedLists.{
+use Rattle.soundness.specs.Check.{heapAt, markAt}
+use Rattle.soundness.proofs.Passed.{Passed, byPlace, byZero}
+use Rattle.soundness.proofs.PassedLists.{
   children-list,
   no-children,
   rank-is,
@@ -18,7 +18,7 @@ use Rattle.audit.proofs.PassedLists.{
   in-row,
   in-children,
 }
-use Rattle.audit.proofs.Decoded.{
+use Rattle.soundness.proofs.Decoded.{
   key-at,
   parent-at,
   heap-at,
@@ -35,10 +35,10 @@ use Rattle.audit.proofs.Decoded.{
   out-mark,
   precedes-at,
 }
-use Rattle.audit.proofs.ItemTests.{Child}
-use Rattle.audit.proofs.Links.{places-ranks}
-use Rattle.audit.proofs.Lists.{shown}
-use Rattle.audit.proofs.States.{heap-zero, zero-mark, mark-low}
+use Rattle.soundness.proofs.ItemTests.{Child}
+use Rattle.soundness.proofs.Links.{places-ranks}
+use Rattle.soundness.proofs.Lists.{shown}
+use Rattle.soundness.proofs.States.{heap-zero, zero-mark, mark-low}
 
 module _ (n : ℕ) (w : List ℕ) (A : Passed n w) where
   abbrev s : Forests

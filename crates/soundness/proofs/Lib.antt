@@ -1,0 +1,16 @@
+pub mod Booleans
+pub mod ByHand
+pub mod Decoded
+pub mod Encoded
+pub mod EncodedAccepted
+pub mod HeapTests
+pub mod ItemTests
+pub mod Links
+pub mod Lists
+pub mod Passed
+pub mod PassedForests
+pub mod PassedLists
+pub mod PassedWords
+pub mod SoundExact
+pub mod States
+pub mod Tight
