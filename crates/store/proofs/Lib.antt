@@ -5,6 +5,7 @@ pub mod Owners
 pub mod Moves
 pub mod Families
 pub mod Listed
+pub mod KeptWords
 pub mod AppendWords
 pub mod RemoveWords
 pub mod Ready
