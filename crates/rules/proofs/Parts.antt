@@ -28,6 +28,7 @@ use Rattle.rules.specs.SetWord.{fieldNumber}
 use Rattle.rules.specs.Kinds.{isOneOf, Apart}
 use Rattle.rules.specs.Words.{fields, siblings, unlessFree, word}
 use Rattle.rules.proofs.ByKind.{Each, From, from-each}
+use Rattle.rules.proofs.Occurs.{and-split}
 use Rattle.rules.proofs.Places.{field-number, number-bound}
 
 -- the lists that forests consist of
@@ -113,10 +114,6 @@ same-part p q e =
     ∙ ap (λ k. getD (rows ∷ children ∷ parents ∷ keys ∷ marks ∷ heaps ∷ []) k rows) e
     ∙ number-part q
 
-and-both : (a b : Bool) → (a && b) ≡ true → (a ≡ true) × (b ≡ true)
-and-both true b e = (refl, e)
-and-both false b e = absurd (true≢false (sym e))
-
 one-of : (P : Part → Type 0) (ps : List Part) (q : Part) → Each P ps → isPart ps q ≡ true → P q
 one-of P [] q e i = absurd (true≢false (sym i))
 one-of P (p ∷ ps) q e i = go (eqb (partNumber p) (partNumber q)) refl i (λ j. one-of P ps q (e .1) j)
@@ -129,16 +126,16 @@ one-of P (p ∷ ps) q e i = go (eqb (partNumber p) (partNumber q)) refl i (λ j.
 some-of : (P : Part → Type 0) (ps qs : List Part) → Each P ps → within ps qs ≡ true → Each P qs
 some-of P ps [] e i = tt
 some-of P ps (q ∷ qs) e i =
-    let b = and-both (isPart ps q) (within ps qs) i in
+    let b = and-split (isPart ps q) (within ps qs) i in
     (one-of P ps q e (b .0), some-of P ps qs e (b .1))
 
 -- what was computed of all kinds holds of one
 only-one : (ps : List Part) (gs fs : List Field) (k : ℕ) → k < length fs → onlyFrom ps gs fs ≡ true
     → (isOneOf gs (getD fs k State) || within ps (reads (getD fs k State))) ≡ true
 only-one ps gs [] k h e = absurd (omega arith)
-only-one ps gs (f ∷ fs) zero h e = and-both _ (onlyFrom ps gs fs) e .0
+only-one ps gs (f ∷ fs) zero h e = and-split _ (onlyFrom ps gs fs) e .0
 only-one ps gs (f ∷ fs) (suc k) h e =
-    only-one ps gs fs k (omega arith) (and-both (isOneOf gs f || within ps (reads f)) _ e .1)
+    only-one ps gs fs k (omega arith) (and-split (isOneOf gs f || within ps (reads f)) _ e .1)
 
 -- Forests that have the parts ps alike have the same words of every kind apart from gs.
 pub kept-each : (ps : List Part) (gs : List Field) (s t : Forests) → onlyFrom ps gs fields ≡ true → Each (Alike s t) ps

@@ -14,3 +14,4 @@ pub mod Encoded
 pub mod Scalars
 pub mod ConcatWords
 pub mod Emptying
+pub mod Heaps
