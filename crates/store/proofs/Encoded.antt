@@ -9,9 +9,10 @@ use Rattle.rules.specs.declared.Field.{Field}
 use Rattle.rules.specs.declared.Field.the-variants.{Minimum, Count}
 use Rattle.rules.specs.Forests.{Forests, none, heapOf, tableSize, count}
 use Rattle.rules.specs.Order.{minimum}
+use Rattle.rules.specs.Kinds.{Apart}
 use Rattle.rules.specs.WellFormed.{Disjoint}
 use Rattle.rules.specs.Words.{room, word, wordsOf, encode}
-use Rattle.rules.proofs.ByKind.{apart-from, by-kinds}
+use Rattle.rules.proofs.ByKind.{apart-from, by-kinds, by-others}
 use Rattle.rules.proofs.Members.{heap-in, not-none, row-root, child-parent}
 use Rattle.rules.proofs.SiblingLists.{once-row, once-children}
 use Rattle.rules.proofs.Words.{length-wordsOf, look-wordsOf, words-equal}
@@ -19,14 +20,21 @@ use Rattle.store.specs.declared.Owner.the-variants.{Row, Children}
 use Rattle.store.specs.Families.{listOf, ownerOf, wordBut, Shape, Family, Holds}
 use Rattle.store.proofs.Holds.{says-holds, holds-says}
 
--- the true counts and minima are those of `word`
-but-word : (n : ℕ) (counts minima : ℕ → ℕ) (t : Forests) → ((h : ℕ) → h < 8 → counts h ≡ count t h)
-    → ((h : ℕ) → h < 8 → minima h ≡ minimum t h) → (f : Field) (i : ℕ) → i < room n f
-    → wordBut counts minima t f i ≡ word t f i
-unfolding wordBut word
-but-word n counts minima t c m =
-    by-kinds (Count ∷ Minimum ∷ []) (λ f. (i : ℕ) → i < room n f → wordBut counts minima t f i ≡ word t f i) c m
-    (λ f o i k. let e = apart-from (Count ∷ Minimum ∷ []) f o in rw (e Count refl, e Minimum refl))
+-- the true counts are those of `word`, and so are the true minima
+module _ (n : ℕ) (counts minima : ℕ → ℕ) (t : Forests) (c : (h : ℕ) → h < 8 → counts h ≡ count t h) where
+  abbrev Agree : Field → Type 0
+  Agree f = (i : ℕ) → i < room n f → wordBut counts minima t f i ≡ word t f i
+
+  pub but-minima : (f : Field) → Apart (Minimum ∷ []) f → (i : ℕ) → i < room n f
+      → wordBut counts minima t f i ≡ word t f i
+  unfolding wordBut word
+  but-minima =
+      by-others (Minimum ∷ []) (Count ∷ []) Agree c
+      (λ f o i k. let e = apart-from (Count ∷ Minimum ∷ []) f o in rw (e Count refl, e Minimum refl))
+
+  but-word : ((h : ℕ) → h < 8 → minima h ≡ minimum t h) → (f : Field) → Agree f
+  unfolding wordBut word
+  but-word m = by-kinds (Minimum ∷ []) Agree m but-minima
 
 -- the lengths of disjoint forests, and their lists
 pub disjoint-shape : (s : Forests) → Disjoint s → Shape (tableSize s) s
