@@ -33,6 +33,8 @@ pub mod RankOfAny
 pub mod EmptyForests
 pub mod Sizes
 pub mod Places
+pub mod ByKind
+pub mod Parts
 pub mod Words
 pub mod Siblings
 pub mod LeastOfTwo

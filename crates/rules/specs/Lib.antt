@@ -11,4 +11,5 @@ pub mod Ledger
 pub mod Words
 pub mod ByHand
 pub mod SetWord
+pub mod Kinds
 pub mod Theorems

@@ -2,7 +2,7 @@
 use Prim.Native.Nat.{ℕ, _+_, _-_, _<_}
 use mathlib.Core.Path.{_≡_, refl, sym, ap, _∙_}
 use mathlib.Core.Logic.{_≢_}
-use mathlib.Core.List.{[], _∷_, _++_}
+use mathlib.Core.List.{List, [], _∷_, _++_}
 use mathlib.Core.Bool.{Bool, true, false, cond}
 use native.Mathlib.Omega.{arith}
 use lib.ListN.{length, length-append}
@@ -13,20 +13,18 @@ use Rattle.rules.specs.declared.Field.{Field}
 use Rattle.rules.specs.declared.Field.the-variants.{
   FirstTree,
   LastTree,
-  Minimum,
-  Count,
-  Key,
   Parent,
   FirstChild,
   LastChild,
   Next,
   Prev,
   Rank,
-  State,
 }
 use Rattle.rules.specs.Lists.{occurs}
 use Rattle.rules.specs.Forests.{Forests, none, rowOf, childrenOf, heapOf}
 use Rattle.rules.specs.Words.{room, headOr, lastOr, nextIn, prevIn, siblings, unlessFree, word}
+use Rattle.rules.proofs.ByKind.{apart-from, by-kinds}
+use Rattle.rules.proofs.Parts.{rows, children, keys, marks, heaps}
 use Rattle.rules.proofs.Siblings.{last-in}
 use Rattle.rules.proofs.Relinks.{at-end, head-appended, last-appended, next-appended, prev-appended, next-new, prev-new}
 use Rattle.store.specs.declared.Owner.{Owner}
@@ -44,6 +42,7 @@ use Rattle.store.proofs.Families.{
   outside-relisted,
   getD-set,
 }
+use Rattle.store.proofs.KeptWords.{kept-but}
 use Rattle.store.proofs.Listed.{none-out, absent, not-none, set-at}
 
 module _ (n : ℕ) (t : Forests) (x : ℕ) (S : Shape n t) (k : x < n) where
@@ -136,63 +135,61 @@ module _ (n : ℕ) (t : Forests) (o : Owner) (x : ℕ) (S : Shape n t) (F : Fami
       go false e (outside m) = sym (outside-relisted R j (prevIn none j) (λ z. eqb-false x j e (sym z)) m)
 
 module _ (n : ℕ) (counts minima : ℕ → ℕ) (t : Forests) (x a b : ℕ) (S : Shape n t) (k : x < n) where
-  -- x joins the row h
-  row-word : (h : ℕ) → Family n t (Row h) → occurs x (listOf t (Row h)) ≡ 0 → MayJoin t (Row h) x → (f : Field) (j : ℕ)
-      → j < room n f
-      → appended (Row h) x (loose x a b (wordBut counts minima t)) f j
-      ≡ wordBut counts minima (appendTo (Row h) x t) f j
-  unfolding appended joined setLast setFirst setNext firstOf lastOf addRank parentIn loose wordBut appendTo listOf word
-      unlessFree
-  row-word h F out J FirstTree j i =
-      set-at (t .rows) h j _ (rowOf t h ++ (x ∷ [])) (λ _. headOr none) (omega (arith, F .present, S .rows8))
-      (sym (head-appended x (rowOf t h) (none-out n t (Row h) S F)))
-  row-word h F out J LastTree j i =
-      set-at (t .rows) h j _ (rowOf t h ++ (x ∷ [])) (λ _. lastOr none) (omega (arith, F .present, S .rows8))
-      (sym (last-appended x (rowOf t h)))
-  row-word h F out J Minimum j i = refl
-  row-word h F out J Count j i = refl
-  row-word h F out J Key j i = refl
-  row-word h F out J Parent j i = sym (getD-set (t .parent) x j none 0 (omega (arith, S .parentN)))
-  row-word h F out J FirstChild j i = refl
-  row-word h F out J LastChild j i = refl
-  row-word h F out J Next j i = next-law n t (Row h) x S F k out J _ a j refl i
-  row-word h F out J Prev j i = prev-law n t (Row h) x S F k out J _ b j refl i
-  row-word h F out J Rank j i = refl
-  row-word h F out J State j i = refl
-
-  -- x joins the children of p
-  children-word : (p : ℕ) → Family n t (Children p) → occurs x (listOf t (Children p)) ≡ 0 → MayJoin t (Children p) x
-      → (f : Field) (j : ℕ) → j < room n f
-      → appended (Children p) x (loose x a b (wordBut counts minima t)) f j
-      ≡ wordBut counts minima (appendTo (Children p) x t) f j
-  unfolding appended joined setLast setFirst setNext firstOf lastOf addRank parentIn loose wordBut appendTo listOf word
-      unlessFree
-  children-word p F out J FirstTree j i = refl
-  children-word p F out J LastTree j i = refl
-  children-word p F out J Minimum j i = refl
-  children-word p F out J Count j i = refl
-  children-word p F out J Key j i = refl
-  children-word p F out J Parent j i = sym (getD-set (t .parent) x j p 0 (omega (arith, S .parentN)))
-  children-word p F out J FirstChild j i =
-      set-at (t .children) p j _ (childrenOf t p ++ (x ∷ [])) (λ q l. unlessFree t q (headOr none l))
-      (omega (arith, F .present .0, S .childrenN))
-      (rw (ne-eqb (heapOf t p) 0 (F .present .1))
-      (sym (head-appended x (childrenOf t p) (none-out n t (Children p) S F))))
-  children-word p F out J LastChild j i =
-      set-at (t .children) p j _ (childrenOf t p ++ (x ∷ [])) (λ q l. unlessFree t q (lastOr none l))
-      (omega (arith, F .present .0, S .childrenN))
-      (rw (ne-eqb (heapOf t p) 0 (F .present .1)) (sym (last-appended x (childrenOf t p))))
-  children-word p F out J Next j i =
-      next-law n t (Children p) x S F k out J _ a j (rw (ne-eqb (heapOf t p) 0 (F .present .1))) i
-  children-word p F out J Prev j i =
-      prev-law n t (Children p) x S F k out J _ b j (rw (ne-eqb (heapOf t p) 0 (F .present .1))) i
-  children-word p F out J Rank j i =
-      set-at (t .children) p j _ (childrenOf t p ++ (x ∷ [])) (λ _. length)
-      (omega (arith, F .present .0, S .childrenN)) (sym (length-append (childrenOf t p) (x ∷ [])))
-  children-word p F out J State j i = refl
-
-  pub append-word : (o : Owner) → Family n t o → occurs x (listOf t o) ≡ 0 → MayJoin t o x → (f : Field) (j : ℕ)
-      → j < room n f
+  abbrev pub Appends : Owner → Field → Type 0
+  Appends o f =
+      (j : ℕ) → j < room n f
       → appended o x (loose x a b (wordBut counts minima t)) f j ≡ wordBut counts minima (appendTo o x t) f j
-  append-word (Row h) F out J f j i = row-word h F out J f j i
-  append-word (Children p) F out J f j i = children-word p F out J f j i
+
+  -- the kinds of which words change where x joins a row, or the children of an item
+  abbrev rowKinds : List Field
+  rowKinds = FirstTree ∷ LastTree ∷ Parent ∷ Next ∷ Prev ∷ []
+
+  abbrev childKinds : List Field
+  childKinds = FirstChild ∷ LastChild ∷ Parent ∷ Next ∷ Prev ∷ Rank ∷ []
+
+  row-word : (h : ℕ) → Family n t (Row h) → occurs x (listOf t (Row h)) ≡ 0 → MayJoin t (Row h) x → (f : Field)
+      → Appends (Row h) f
+  unfolding appended joined setLast setFirst setNext firstOf lastOf addRank parentIn loose wordBut appendTo listOf word
+      unlessFree
+  row-word h F out J =
+      by-kinds rowKinds (Appends (Row h))
+      (λ j i. set-at (t .rows) h j _ (rowOf t h ++ (x ∷ [])) (λ _. headOr none) (omega (arith, F .present, S .rows8))
+      (sym (head-appended x (rowOf t h) (none-out n t (Row h) S F))))
+      (λ j i. set-at (t .rows) h j _ (rowOf t h ++ (x ∷ [])) (λ _. lastOr none) (omega (arith, F .present, S .rows8))
+      (sym (last-appended x (rowOf t h))))
+      (λ j i. sym (getD-set (t .parent) x j none 0 (omega (arith, S .parentN))))
+      (λ j i. next-law n t (Row h) x S F k out J _ a j refl i)
+      (λ j i. prev-law n t (Row h) x S F k out J _ b j refl i)
+      (λ f o j i.
+      let e = apart-from rowKinds f o in
+      rw (e FirstTree refl, e LastTree refl, e Parent refl, e Next refl, e Prev refl)
+      (kept-but (children ∷ keys ∷ marks ∷ heaps ∷ []) rowKinds counts minima t (appendTo (Row h) x t) refl
+      refl refl refl refl f o j))
+
+  children-word : (p : ℕ) → Family n t (Children p) → occurs x (listOf t (Children p)) ≡ 0 → MayJoin t (Children p) x
+      → (f : Field) → Appends (Children p) f
+  unfolding appended joined setLast setFirst setNext firstOf lastOf addRank parentIn loose wordBut appendTo listOf word
+      unlessFree
+  children-word p F out J =
+      let live = ne-eqb (heapOf t p) 0 (F .present .1) in
+      by-kinds childKinds (Appends (Children p))
+      (λ j i. set-at (t .children) p j _ (childrenOf t p ++ (x ∷ [])) (λ q l. unlessFree t q (headOr none l))
+      (omega (arith, F .present .0, S .childrenN))
+      (rw live (sym (head-appended x (childrenOf t p) (none-out n t (Children p) S F)))))
+      (λ j i. set-at (t .children) p j _ (childrenOf t p ++ (x ∷ [])) (λ q l. unlessFree t q (lastOr none l))
+      (omega (arith, F .present .0, S .childrenN))
+      (rw live (sym (last-appended x (childrenOf t p)))))
+      (λ j i. sym (getD-set (t .parent) x j p 0 (omega (arith, S .parentN))))
+      (λ j i. next-law n t (Children p) x S F k out J _ a j (rw live) i)
+      (λ j i. prev-law n t (Children p) x S F k out J _ b j (rw live) i)
+      (λ j i. set-at (t .children) p j _ (childrenOf t p ++ (x ∷ [])) (λ _. length)
+      (omega (arith, F .present .0, S .childrenN)) (sym (length-append (childrenOf t p) (x ∷ []))))
+      (λ f o j i.
+      let e = apart-from childKinds f o in
+      rw (e FirstChild refl, e LastChild refl, e Parent refl, e Next refl, e Prev refl, e Rank refl)
+      (kept-but (rows ∷ keys ∷ marks ∷ heaps ∷ []) childKinds counts minima t (appendTo (Children p) x t) refl
+      refl refl refl refl f o j))
+
+  pub append-word : (o : Owner) → Family n t o → occurs x (listOf t o) ≡ 0 → MayJoin t o x → (f : Field) → Appends o f
+  append-word (Row h) F out J = row-word h F out J
+  append-word (Children p) F out J = children-word p F out J

@@ -2,13 +2,15 @@
 use Prim.Native.Nat.{ℕ}
 use mathlib.Core.Path.{_≡_, refl}
 use mathlib.Core.Logic.{_≢_}
-use mathlib.Core.Bool.{Bool, true, false, cond, _||_, true≢false}
+use mathlib.Core.List.{List, [], _∷_}
+use mathlib.Core.Bool.{Bool, true, false, cond}
 use lib.Dec.{eqb}
 use borrow.Author.Tests.{ne-eqb}
 use Rattle.rules.specs.declared.Field.{Field}
 use Rattle.rules.specs.declared.Field.the-variants.{FirstTree, LastTree, FirstChild, LastChild, Next, Prev}
 use Rattle.rules.specs.Forests.{none}
-use Rattle.rules.specs.SetWord.{fieldNumber}
+use Rattle.rules.specs.Kinds.{Apart}
+use Rattle.rules.proofs.ByKind.{apart-from}
 use Rattle.store.specs.declared.Owner.{Owner}
 use Rattle.store.specs.declared.Owner.the-variants.{Row, Children}
 use Rattle.store.specs.Says.{Values}
@@ -30,47 +32,30 @@ abbrev pub lastKind : Owner → Field
 lastKind (Row h) = LastTree
 lastKind (Children p) = LastChild
 
--- a kind of word that is no link of a list of this owner
-abbrev pub Plain : Owner → Field → Type 0
-Plain o f =
-    (eqb (fieldNumber (firstKind o)) (fieldNumber f) || (eqb (fieldNumber (lastKind o)) (fieldNumber f)
-    || (eqb (fieldNumber Next) (fieldNumber f) || eqb (fieldNumber Prev) (fieldNumber f))))
-    ≡ false
-
-or-false : (a b : Bool) → (a || b) ≡ false → (a ≡ false) × (b ≡ false)
-or-false true b e = absurd (true≢false e)
-or-false false b e = (refl, e)
-
--- it is none of the four
-pub record Apart (o : Owner) (f : Field) : Type 0 where
-  pub first : eqb (fieldNumber (firstKind o)) (fieldNumber f) ≡ false
-  pub last : eqb (fieldNumber (lastKind o)) (fieldNumber f) ≡ false
-  pub next : eqb (fieldNumber Next) (fieldNumber f) ≡ false
-  pub prev : eqb (fieldNumber Prev) (fieldNumber f) ≡ false
-
-pub apart : (o : Owner) (f : Field) → Plain o f → Apart o f
-apart o f e =
-    let a = or-false (eqb (fieldNumber (firstKind o)) (fieldNumber f)) _ e in
-    let b = or-false (eqb (fieldNumber (lastKind o)) (fieldNumber f)) _ (a .1) in
-    let c = or-false (eqb (fieldNumber Next) (fieldNumber f)) _ (b .1) in
-    record { first = a .0; last = b .0; next = c .0; prev = c .1 }
+-- the kinds of the links of a list of this owner
+abbrev pub linkKinds : Owner → List Field
+linkKinds o = firstKind o ∷ lastKind o ∷ Next ∷ Prev ∷ []
 
 module _ (x y : ℕ) (v : Values) where
   pub concat-none : (o : Owner) → x ≡ none → (f : Field) (i : ℕ) → concatenated o x y v f i ≡ v f i
   unfolding concatenated
   concat-none o e f i = rw e
 
-  pub concat-other : (o : Owner) (f : Field) (i : ℕ) → Plain o f → concatenated o x y v f i ≡ v f i
+  pub concat-other : (o : Owner) (f : Field) (i : ℕ) → Apart (linkKinds o) f → concatenated o x y v f i ≡ v f i
   unfolding concatenated joined setNext setFirst setLast firstOf lastOf
-  concat-other o f i e = go (eqb x none)
+  concat-other o f i a = go (eqb x none)
     where
-      kept : (o : Owner) → Apart o f → joined o (lastOf o v) x y v f i ≡ v f i
-      kept (Row h) e = simp (e .first, e .last, e .next, e .prev)
-      kept (Children p) e = simp (e .first, e .last, e .next, e .prev)
+      kept : (o : Owner) → Apart (linkKinds o) f → joined o (lastOf o v) x y v f i ≡ v f i
+      kept (Row h) a =
+          let e = apart-from (linkKinds (Row h)) f a in
+          simp (e FirstTree refl, e LastTree refl, e Next refl, e Prev refl)
+      kept (Children p) a =
+          let e = apart-from (linkKinds (Children p)) f a in
+          simp (e FirstChild refl, e LastChild refl, e Next refl, e Prev refl)
 
       go : (t : Bool) → cond t v (joined o (lastOf o v) x y v) f i ≡ v f i
       go true = refl
-      go false = kept o (apart o f e)
+      go false = kept o a
 
   module _ (some : x ≢ none) where
     pub concat-next : (o : Owner) (j : ℕ) → concatenated o x y v Next j ≡ cond (eqb (lastOf o v) j) x (v Next j)

@@ -2,7 +2,7 @@
 use Prim.Native.Nat.{ℕ, zero, suc, _+_, _<_}
 use mathlib.Core.Path.{_≡_, refl, sym, ap, subst, _∙_}
 use mathlib.Core.Bool.{Bool, true, false, cond}
-use mathlib.Core.List.{List, []}
+use mathlib.Core.List.{List, [], _∷_}
 use native.Mathlib.Omega.{arith}
 use lib.ListN.{length, replicate, length-replicate}
 use lib.Dec.{eqb, ltb, eqb·zero-suc}
@@ -22,44 +22,32 @@ use Rattle.rules.specs.declared.Field.the-variants.{
   Rank,
   State,
 }
+use Rattle.rules.specs.Kinds.{isOneOf}
 use Rattle.rules.specs.Lists.{sumBy}
 use Rattle.rules.specs.Forests.{none, empty, count}
 use Rattle.rules.specs.Order.{leastIn, minimum}
 use Rattle.rules.specs.Words.{room, at, headOr, lastOr, stateOf, unlessFree, word, wordsOf, encode}
+use Rattle.rules.proofs.ByKind.{apart-from, by-kinds}
 use Rattle.rules.proofs.EmptyForests.{getD-all}
 use Rattle.rules.proofs.Words.{words-equal}
 use Rattle.store.specs.Says.{Sized, Values, Says, Changes}
 use Rattle.store.specs.Empty.{emptyHeap}
 use Rattle.store.proofs.Says.{says-as}
 
+-- the kinds that are not 0 in an empty heap
+abbrev links : List Field
+links = FirstTree ∷ LastTree ∷ Minimum ∷ []
+
 -- the first k heaps are empty, all other words 0
 abbrev pub emptied : ℕ → Values
-emptied k FirstTree h = cond (ltb h k) none 0
-emptied k LastTree h = cond (ltb h k) none 0
-emptied k Minimum h = cond (ltb h k) none 0
-emptied k Count i = 0
-emptied k Key i = 0
-emptied k Parent i = 0
-emptied k FirstChild i = 0
-emptied k LastChild i = 0
-emptied k Next i = 0
-emptied k Prev i = 0
-emptied k Rank i = 0
-emptied k State i = 0
+emptied k f i = cond (isOneOf links f) (cond (ltb i k) none 0) 0
 
 emptied-none : (f : Field) (i : ℕ) → 0 ≡ emptied 0 f i
-emptied-none FirstTree i = rw (le-ltb i 0 (omega arith))
-emptied-none LastTree i = rw (le-ltb i 0 (omega arith))
-emptied-none Minimum i = rw (le-ltb i 0 (omega arith))
-emptied-none Count i = refl
-emptied-none Key i = refl
-emptied-none Parent i = refl
-emptied-none FirstChild i = refl
-emptied-none LastChild i = refl
-emptied-none Next i = refl
-emptied-none Prev i = refl
-emptied-none Rank i = refl
-emptied-none State i = refl
+emptied-none f i = rw (le-ltb i 0 (omega arith)) (go (isOneOf links f))
+  where
+    go : (t : Bool) → 0 ≡ cond {A = ℕ} t 0 0
+    go true = refl
+    go false = refl
 
 -- one heap more
 one-more : (k i : ℕ) → cond (eqb k i) none (cond (ltb i k) none 0) ≡ cond (ltb i (k + 1)) none 0
@@ -74,22 +62,16 @@ one-more k i = go (eqb k i) (ltb i k) refl refl
 
 emptied-more : (k : ℕ) (f : Field) (i : ℕ) → emptyHeap k (emptied k) f i ≡ emptied (k + 1) f i
 unfolding emptyHeap
-emptied-more k FirstTree i = one-more k i
-emptied-more k LastTree i = one-more k i
-emptied-more k Minimum i = one-more k i
-emptied-more k Count i = go (eqb k i)
+emptied-more k =
+    by-kinds (Count ∷ links) (λ f. (i : ℕ) → emptyHeap k (emptied k) f i ≡ emptied (k + 1) f i)
+    (λ i. go (eqb k i)) (one-more k) (one-more k) (one-more k)
+    (λ f o i.
+    let e = apart-from (Count ∷ links) f o in
+    rw (e Count refl, e FirstTree refl, e LastTree refl, e Minimum refl))
   where
     go : (t : Bool) → cond {A = ℕ} t 0 0 ≡ 0
     go true = refl
     go false = refl
-emptied-more k Key i = refl
-emptied-more k Parent i = refl
-emptied-more k FirstChild i = refl
-emptied-more k LastChild i = refl
-emptied-more k Next i = refl
-emptied-more k Prev i = refl
-emptied-more k Rank i = refl
-emptied-more k State i = refl
 
 count-empty : (n h : ℕ) → count (empty n) h ≡ 0
 unfolding count sumBy

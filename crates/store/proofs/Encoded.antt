@@ -2,28 +2,17 @@
 use Prim.Native.Nat.{ℕ, _<_}
 use mathlib.Core.Path.{_≡_, refl, sym, ap, _∙_}
 use mathlib.Core.Logic.{_≢_}
-use mathlib.Core.List.{List}
+use mathlib.Core.List.{List, [], _∷_}
 use native.Mathlib.Omega.{arith}
 use borrow.Author.Tests.{ne-eqb}
 use Rattle.rules.specs.declared.Field.{Field}
-use Rattle.rules.specs.declared.Field.the-variants.{
-  FirstTree,
-  LastTree,
-  Minimum,
-  Count,
-  Key,
-  Parent,
-  FirstChild,
-  LastChild,
-  Next,
-  Prev,
-  Rank,
-  State,
-}
+use Rattle.rules.specs.declared.Field.the-variants.{Minimum, Count}
 use Rattle.rules.specs.Forests.{Forests, none, heapOf, tableSize, count}
 use Rattle.rules.specs.Order.{minimum}
+use Rattle.rules.specs.Kinds.{Apart}
 use Rattle.rules.specs.WellFormed.{Disjoint}
 use Rattle.rules.specs.Words.{room, word, wordsOf, encode}
+use Rattle.rules.proofs.ByKind.{apart-from, by-kinds, by-others}
 use Rattle.rules.proofs.Members.{heap-in, not-none, row-root, child-parent}
 use Rattle.rules.proofs.SiblingLists.{once-row, once-children}
 use Rattle.rules.proofs.Words.{length-wordsOf, look-wordsOf, words-equal}
@@ -31,23 +20,21 @@ use Rattle.store.specs.declared.Owner.the-variants.{Row, Children}
 use Rattle.store.specs.Families.{listOf, ownerOf, wordBut, Shape, Family, Holds}
 use Rattle.store.proofs.Holds.{says-holds, holds-says}
 
--- the true counts and minima are those of `word`
-but-word : (n : ℕ) (counts minima : ℕ → ℕ) (t : Forests) → ((h : ℕ) → h < 8 → counts h ≡ count t h)
-    → ((h : ℕ) → h < 8 → minima h ≡ minimum t h) → (f : Field) (i : ℕ) → i < room n f
-    → wordBut counts minima t f i ≡ word t f i
-unfolding wordBut word
-but-word n counts minima t c m FirstTree i k = refl
-but-word n counts minima t c m LastTree i k = refl
-but-word n counts minima t c m Minimum i k = m i k
-but-word n counts minima t c m Count i k = c i k
-but-word n counts minima t c m Key i k = refl
-but-word n counts minima t c m Parent i k = refl
-but-word n counts minima t c m FirstChild i k = refl
-but-word n counts minima t c m LastChild i k = refl
-but-word n counts minima t c m Next i k = refl
-but-word n counts minima t c m Prev i k = refl
-but-word n counts minima t c m Rank i k = refl
-but-word n counts minima t c m State i k = refl
+-- the true counts are those of `word`, and so are the true minima
+module _ (n : ℕ) (counts minima : ℕ → ℕ) (t : Forests) (c : (h : ℕ) → h < 8 → counts h ≡ count t h) where
+  abbrev Agree : Field → Type 0
+  Agree f = (i : ℕ) → i < room n f → wordBut counts minima t f i ≡ word t f i
+
+  pub but-minima : (f : Field) → Apart (Minimum ∷ []) f → (i : ℕ) → i < room n f
+      → wordBut counts minima t f i ≡ word t f i
+  unfolding wordBut word
+  but-minima =
+      by-others (Minimum ∷ []) (Count ∷ []) Agree c
+      (λ f o i k. let e = apart-from (Count ∷ Minimum ∷ []) f o in rw (e Count refl, e Minimum refl))
+
+  but-word : ((h : ℕ) → h < 8 → minima h ≡ minimum t h) → (f : Field) → Agree f
+  unfolding wordBut word
+  but-word m = by-kinds (Minimum ∷ []) Agree m but-minima
 
 -- the lengths of disjoint forests, and their lists
 pub disjoint-shape : (s : Forests) → Disjoint s → Shape (tableSize s) s

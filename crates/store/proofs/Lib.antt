@@ -5,6 +5,7 @@ pub mod Owners
 pub mod Moves
 pub mod Families
 pub mod Listed
+pub mod KeptWords
 pub mod AppendWords
 pub mod RemoveWords
 pub mod Ready
@@ -13,3 +14,4 @@ pub mod Encoded
 pub mod Scalars
 pub mod ConcatWords
 pub mod Emptying
+pub mod Heaps

@@ -2,29 +2,19 @@
 use Prim.Native.Nat.{ℕ, _-_, _≤_, _<_}
 use mathlib.Core.Path.{_≡_, refl, sym}
 use mathlib.Core.Logic.{_≢_}
+use mathlib.Core.List.{List, [], _∷_}
 use mathlib.Core.Bool.{Bool, true, false, cond}
 use native.Mathlib.Omega.{arith}
 use lib.ListN.{length}
 use lib.Dec.{eqb}
 use borrow.Author.Tests.{eqb-true, eqb-false, ne-eqb}
 use Rattle.rules.specs.declared.Field.{Field}
-use Rattle.rules.specs.declared.Field.the-variants.{
-  FirstTree,
-  LastTree,
-  Minimum,
-  Count,
-  Key,
-  Parent,
-  FirstChild,
-  LastChild,
-  Next,
-  Prev,
-  Rank,
-  State,
-}
+use Rattle.rules.specs.declared.Field.the-variants.{FirstTree, LastTree, FirstChild, LastChild, Next, Prev, Rank}
 use Rattle.rules.specs.Lists.{occurs, without}
 use Rattle.rules.specs.Forests.{Forests, none, rowOf, childrenOf, heapOf}
 use Rattle.rules.specs.Words.{room, headOr, lastOr, nextIn, prevIn, unlessFree, word}
+use Rattle.rules.proofs.ByKind.{apart-from, by-kinds}
+use Rattle.rules.proofs.Parts.{rows, children, parents, keys, marks, heaps}
 use Rattle.rules.proofs.RemoveLinks.{prev-in, last-without, next-out}
 use Rattle.rules.proofs.Sums.{length-without}
 use Rattle.rules.proofs.Relinks.{at-end, head-removed, next-removed, prev-removed}
@@ -44,6 +34,7 @@ use Rattle.store.proofs.Families.{
   row-relisted,
   children-relisted,
 }
+use Rattle.store.proofs.KeptWords.{kept-but}
 use Rattle.store.proofs.Listed.{none-out, absent, not-none, set-at}
 
 relisted : (n : ℕ) (t : Forests) (x : ℕ) (o : Owner) → Shape n t → Present n t o
@@ -125,57 +116,57 @@ module _ (n : ℕ) (t : Forests) (o : Owner) (x : ℕ) (S : Shape n t) (F : Fami
   last-law = rw (prev-of, next-of) (sym (last-without none x (listOf t o) (none-out n t o S F) k))
 
 module _ (n : ℕ) (counts minima : ℕ → ℕ) (t : Forests) (x : ℕ) (S : Shape n t) where
-  row-word : (h : ℕ) → Family n t (Row h) → 1 ≤ occurs x (listOf t (Row h)) → (f : Field) (j : ℕ) → j < room n f
-      → removed (Row h) x (wordBut counts minima t) f j
-      ≡ loose x (word t Next x) (word t Prev x) (wordBut counts minima (removeFrom (Row h) x t)) f j
-  unfolding removed setLast setFirst setNext setPrev firstOf lastOf dropRank loose wordBut removeFrom listOf word
-      unlessFree
-  row-word h F k FirstTree j i =
-      set-at (t .rows) h j _ (without x (rowOf t h)) (λ _. headOr none) (omega (arith, F .present, S .rows8))
-      (first-law n t (Row h) x S F k)
-  row-word h F k LastTree j i =
-      set-at (t .rows) h j _ (without x (rowOf t h)) (λ _. lastOr none) (omega (arith, F .present, S .rows8))
-      (last-law n t (Row h) x S F k)
-  row-word h F k Minimum j i = refl
-  row-word h F k Count j i = refl
-  row-word h F k Key j i = refl
-  row-word h F k Parent j i = refl
-  row-word h F k FirstChild j i = refl
-  row-word h F k LastChild j i = refl
-  row-word h F k Next j i = next-law n t (Row h) x S F k j i
-  row-word h F k Prev j i = prev-law n t (Row h) x S F k j i
-  row-word h F k Rank j i = refl
-  row-word h F k State j i = refl
-
-  children-word : (p : ℕ) → Family n t (Children p) → 1 ≤ occurs x (listOf t (Children p)) → (f : Field) (j : ℕ)
-      → j < room n f
-      → removed (Children p) x (wordBut counts minima t) f j
-      ≡ loose x (word t Next x) (word t Prev x) (wordBut counts minima (removeFrom (Children p) x t)) f j
-  unfolding removed setLast setFirst setNext setPrev firstOf lastOf dropRank loose wordBut removeFrom listOf word
-      unlessFree
-  children-word p F k FirstTree j i = refl
-  children-word p F k LastTree j i = refl
-  children-word p F k Minimum j i = refl
-  children-word p F k Count j i = refl
-  children-word p F k Key j i = refl
-  children-word p F k Parent j i = refl
-  children-word p F k FirstChild j i =
-      set-at (t .children) p j _ (without x (childrenOf t p)) (λ q l. unlessFree t q (headOr none l))
-      (omega (arith, F .present .0, S .childrenN))
-      (rw (ne-eqb (heapOf t p) 0 (F .present .1)) (first-law n t (Children p) x S F k))
-  children-word p F k LastChild j i =
-      set-at (t .children) p j _ (without x (childrenOf t p)) (λ q l. unlessFree t q (lastOr none l))
-      (omega (arith, F .present .0, S .childrenN))
-      (rw (ne-eqb (heapOf t p) 0 (F .present .1)) (last-law n t (Children p) x S F k))
-  children-word p F k Next j i = next-law n t (Children p) x S F k j i
-  children-word p F k Prev j i = prev-law n t (Children p) x S F k j i
-  children-word p F k Rank j i =
-      set-at (t .children) p j _ (without x (childrenOf t p)) (λ _. length) (omega (arith, F .present .0, S .childrenN))
-      (omega (arith, length-without x (childrenOf t p) k))
-  children-word p F k State j i = refl
-
-  pub remove-word : (o : Owner) → Family n t o → 1 ≤ occurs x (listOf t o) → (f : Field) (j : ℕ) → j < room n f
+  abbrev pub Removes : Owner → Field → Type 0
+  Removes o f =
+      (j : ℕ) → j < room n f
       → removed o x (wordBut counts minima t) f j
       ≡ loose x (word t Next x) (word t Prev x) (wordBut counts minima (removeFrom o x t)) f j
-  remove-word (Row h) F k f j i = row-word h F k f j i
-  remove-word (Children p) F k f j i = children-word p F k f j i
+
+  -- the kinds of which words change where x leaves a row, or the children of an item
+  abbrev rowKinds : List Field
+  rowKinds = FirstTree ∷ LastTree ∷ Next ∷ Prev ∷ []
+
+  abbrev childKinds : List Field
+  childKinds = FirstChild ∷ LastChild ∷ Next ∷ Prev ∷ Rank ∷ []
+
+  row-word : (h : ℕ) → Family n t (Row h) → 1 ≤ occurs x (listOf t (Row h)) → (f : Field) → Removes (Row h) f
+  unfolding removed setLast setFirst setNext setPrev firstOf lastOf dropRank loose wordBut removeFrom listOf word
+      unlessFree
+  row-word h F k =
+      by-kinds rowKinds (Removes (Row h))
+      (λ j i. set-at (t .rows) h j _ (without x (rowOf t h)) (λ _. headOr none)
+      (omega (arith, F .present, S .rows8)) (first-law n t (Row h) x S F k))
+      (λ j i. set-at (t .rows) h j _ (without x (rowOf t h)) (λ _. lastOr none)
+      (omega (arith, F .present, S .rows8)) (last-law n t (Row h) x S F k))
+      (λ j i. next-law n t (Row h) x S F k j i)
+      (λ j i. prev-law n t (Row h) x S F k j i)
+      (λ f o j i.
+      let e = apart-from rowKinds f o in
+      rw (e FirstTree refl, e LastTree refl, e Next refl, e Prev refl)
+      (kept-but (children ∷ parents ∷ keys ∷ marks ∷ heaps ∷ []) rowKinds counts minima t (removeFrom (Row h) x t) refl
+      refl refl refl refl refl f o j))
+
+  children-word : (p : ℕ) → Family n t (Children p) → 1 ≤ occurs x (listOf t (Children p)) → (f : Field)
+      → Removes (Children p) f
+  unfolding removed setLast setFirst setNext setPrev firstOf lastOf dropRank loose wordBut removeFrom listOf word
+      unlessFree
+  children-word p F k =
+      let live = ne-eqb (heapOf t p) 0 (F .present .1) in
+      by-kinds childKinds (Removes (Children p))
+      (λ j i. set-at (t .children) p j _ (without x (childrenOf t p)) (λ q l. unlessFree t q (headOr none l))
+      (omega (arith, F .present .0, S .childrenN)) (rw live (first-law n t (Children p) x S F k)))
+      (λ j i. set-at (t .children) p j _ (without x (childrenOf t p)) (λ q l. unlessFree t q (lastOr none l))
+      (omega (arith, F .present .0, S .childrenN)) (rw live (last-law n t (Children p) x S F k)))
+      (λ j i. next-law n t (Children p) x S F k j i)
+      (λ j i. prev-law n t (Children p) x S F k j i)
+      (λ j i. set-at (t .children) p j _ (without x (childrenOf t p)) (λ _. length)
+      (omega (arith, F .present .0, S .childrenN)) (omega (arith, length-without x (childrenOf t p) k)))
+      (λ f o j i.
+      let e = apart-from childKinds f o in
+      rw (e FirstChild refl, e LastChild refl, e Next refl, e Prev refl, e Rank refl)
+      (kept-but (rows ∷ parents ∷ keys ∷ marks ∷ heaps ∷ []) childKinds counts minima t (removeFrom (Children p) x t)
+      refl refl refl refl refl refl f o j))
+
+  pub remove-word : (o : Owner) → Family n t o → 1 ≤ occurs x (listOf t o) → (f : Field) → Removes o f
+  remove-word (Row h) F k = row-word h F k
+  remove-word (Children p) F k = children-word p F k

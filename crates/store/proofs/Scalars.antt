@@ -1,114 +1,74 @@
 -- Words of one item or heap stored: its key, its state, the count and the minimum of a heap.
 use Prim.Native.Nat.{ℕ, _<_}
 use mathlib.Core.Path.{_≡_, refl, sym, subst}
-use mathlib.Core.List.{List}
+use mathlib.Core.List.{List, [], _∷_}
 use mathlib.Core.Bool.{Bool, true, false, cond}
 use native.Mathlib.Omega.{arith}
 use lib.ListN.{length-set}
 use lib.Dec.{eqb}
 use borrow.Author.Tests.{eqb-true}
 use Rattle.rules.specs.declared.Field.{Field}
-use Rattle.rules.specs.declared.Field.the-variants.{
-  FirstTree,
-  LastTree,
-  Minimum,
-  Count,
-  Key,
-  Parent,
-  FirstChild,
-  LastChild,
-  Next,
-  Prev,
-  Rank,
-  State,
-}
+use Rattle.rules.specs.declared.Field.the-variants.{Minimum, Key, State}
 use Rattle.rules.specs.Forests.{Forests, markOf, heapOf, setKey, setMark}
 use Rattle.rules.specs.SetWord.{setWord}
-use Rattle.rules.specs.Words.{siblings, unlessFree, stateOf, word}
-use Rattle.store.specs.Says.{Changes}
+use Rattle.rules.specs.Words.{stateOf, word}
+use Rattle.rules.proofs.ByKind.{apart-from, by-kinds}
+use Rattle.rules.proofs.Parts.{rows, children, parents, keys, marks, heaps}
+use Rattle.store.specs.Says.{Changes, Values}
 use Rattle.store.specs.Families.{wordBut, loose, Shape, Holds}
 use Rattle.store.proofs.Says.{says-as}
 use Rattle.store.proofs.Families.{getD-set}
 use Rattle.store.proofs.Holds.{reshape}
+use Rattle.store.proofs.KeptWords.{kept-but}
 
 -- a function with one value changed
 abbrev pub instead : (ℕ → ℕ) → ℕ → ℕ → ℕ → ℕ
 instead g h v i = cond (eqb h i) v (g i)
 
 module _ (n : ℕ) (counts minima : ℕ → ℕ) (t : Forests) (x a b : ℕ) (S : Shape n t) where
+  abbrev words : (ℕ → ℕ) → (ℕ → ℕ) → Forests → Values
+  words c m s = loose x a b (wordBut c m s)
+
   key-word : (i k : ℕ) → i < n → (f : Field) (j : ℕ)
-      → setWord Key i k (loose x a b (wordBut counts minima t)) f j
-      ≡ loose x a b (wordBut counts minima (setKey i k t)) f j
-  unfolding loose wordBut word unlessFree siblings
-  key-word i k l FirstTree j = refl
-  key-word i k l LastTree j = refl
-  key-word i k l Minimum j = refl
-  key-word i k l Count j = refl
-  key-word i k l Key j = sym (getD-set (t .key) i j k 0 (omega (arith, S .keyN)))
-  key-word i k l Parent j = refl
-  key-word i k l FirstChild j = refl
-  key-word i k l LastChild j = refl
-  key-word i k l Next j = refl
-  key-word i k l Prev j = refl
-  key-word i k l Rank j = refl
-  key-word i k l State j = refl
+      → setWord Key i k (words counts minima t) f j ≡ words counts minima (setKey i k t) f j
+  unfolding loose wordBut word
+  key-word i k l =
+      by-kinds (Key ∷ [])
+      (λ f. (j : ℕ) → setWord Key i k (words counts minima t) f j ≡ words counts minima (setKey i k t) f j)
+      (λ j. sym (getD-set (t .key) i j k 0 (omega (arith, S .keyN))))
+      (λ f o j. rw (
+        apart-from (Key ∷ []) f o Key refl,
+        kept-but (rows ∷ children ∷ parents ∷ marks ∷ heaps ∷ []) (Key ∷ []) counts minima t (setKey i k t) refl
+            refl refl refl refl refl f o j,
+      ))
 
   mark-word : (i m : ℕ) → i < n → (f : Field) (j : ℕ)
-      → setWord State i (stateOf (heapOf t i) m) (loose x a b (wordBut counts minima t)) f j
-      ≡ loose x a b (wordBut counts minima (setMark i m t)) f j
-  unfolding loose wordBut word unlessFree siblings
-  mark-word i m l FirstTree j = refl
-  mark-word i m l LastTree j = refl
-  mark-word i m l Minimum j = refl
-  mark-word i m l Count j = refl
-  mark-word i m l Key j = refl
-  mark-word i m l Parent j = refl
-  mark-word i m l FirstChild j = refl
-  mark-word i m l LastChild j = refl
-  mark-word i m l Next j = refl
-  mark-word i m l Prev j = refl
-  mark-word i m l Rank j = refl
-  mark-word i m l State j = rw (getD-set (t .mark) i j m 0 (omega (arith, S .markN))) (go (eqb i j) refl)
+      → setWord State i (stateOf (heapOf t i) m) (words counts minima t) f j ≡ words counts minima (setMark i m t) f j
+  unfolding loose wordBut word
+  mark-word i m l =
+      by-kinds (State ∷ [])
+      (λ f. (j : ℕ) → setWord State i (stateOf (heapOf t i) m) (words counts minima t) f j
+      ≡ words counts minima (setMark i m t) f j)
+      (λ j. rw (getD-set (t .mark) i j m 0 (omega (arith, S .markN))) (go j (eqb i j) refl))
+      (λ f o j. rw (
+        apart-from (State ∷ []) f o State refl,
+        kept-but (rows ∷ children ∷ parents ∷ keys ∷ heaps ∷ []) (State ∷ []) counts minima t (setMark i m t) refl
+            refl refl refl refl refl f o j,
+      ))
     where
-      go : (c : Bool) → eqb i j ≡ c
+      go : (j : ℕ) (c : Bool) → eqb i j ≡ c
           → cond c (stateOf (heapOf t i) m) (stateOf (heapOf t j) (markOf t j))
           ≡ stateOf (heapOf t j) (cond c m (markOf t j))
-      go true e = rw (eqb-true i j e)
-      go false e = refl
-
-  count-word : (h v : ℕ) (f : Field) (j : ℕ)
-      → setWord Count h v (loose x a b (wordBut counts minima t)) f j
-      ≡ loose x a b (wordBut (instead counts h v) minima t) f j
-  unfolding loose wordBut
-  count-word h v FirstTree j = refl
-  count-word h v LastTree j = refl
-  count-word h v Minimum j = refl
-  count-word h v Count j = refl
-  count-word h v Key j = refl
-  count-word h v Parent j = refl
-  count-word h v FirstChild j = refl
-  count-word h v LastChild j = refl
-  count-word h v Next j = refl
-  count-word h v Prev j = refl
-  count-word h v Rank j = refl
-  count-word h v State j = refl
+      go j true e = rw (eqb-true i j e)
+      go j false e = refl
 
   minimum-word : (h v : ℕ) (f : Field) (j : ℕ)
-      → setWord Minimum h v (loose x a b (wordBut counts minima t)) f j
-      ≡ loose x a b (wordBut counts (instead minima h v) t) f j
+      → setWord Minimum h v (words counts minima t) f j ≡ words counts (instead minima h v) t f j
   unfolding loose wordBut
-  minimum-word h v FirstTree j = refl
-  minimum-word h v LastTree j = refl
-  minimum-word h v Minimum j = refl
-  minimum-word h v Count j = refl
-  minimum-word h v Key j = refl
-  minimum-word h v Parent j = refl
-  minimum-word h v FirstChild j = refl
-  minimum-word h v LastChild j = refl
-  minimum-word h v Next j = refl
-  minimum-word h v Prev j = refl
-  minimum-word h v Rank j = refl
-  minimum-word h v State j = refl
+  minimum-word h v =
+      by-kinds (Minimum ∷ [])
+      (λ f. (j : ℕ) → setWord Minimum h v (words counts minima t) f j ≡ words counts (instead minima h v) t f j)
+      (λ j. refl) (λ f o j. rw (apart-from (Minimum ∷ []) f o Minimum refl))
 
 module _ {n : ℕ} {w w′ : List ℕ} {counts minima : ℕ → ℕ} {t : Forests} {x : ℕ} (H : Holds n w counts minima t x) where
   pub key-holds : (i k : ℕ) → i < n → Changes n w (setWord Key i k) w′ → Holds n w′ counts minima (setKey i k t) x

@@ -47,8 +47,8 @@ removeFrom (Children p) x t = setChildren p (without x (childrenOf t p)) t
 -- them.
 unfoldable pub wordBut : (ℕ → ℕ) → (ℕ → ℕ) → Forests → Values
 wordBut counts minima t f i =
-    cond (eqb (fieldNumber f) (fieldNumber Count)) (counts i)
-    (cond (eqb (fieldNumber f) (fieldNumber Minimum)) (minima i) (word t f i))
+    cond (eqb (fieldNumber Count) (fieldNumber f)) (counts i)
+    (cond (eqb (fieldNumber Minimum) (fieldNumber f)) (minima i) (word t f i))
 
 -- The links of x are a and b, whatever the forests say.
 unfoldable pub loose : ℕ → ℕ → ℕ → Values → Values
