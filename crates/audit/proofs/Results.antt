@@ -7,9 +7,10 @@ use mathlib.Core.Bool.{Bool, true, false, cond, not, _&&_}
 use native.Mathlib.Omega.{arith}
 use lib.Dec.{eqb}
 use borrow.Author.Tests.{eqb-true}
-use Rattle.rules.specs.declared.Field.the-variants.{Count, State}
+use Rattle.rules.specs.declared.Field.the-variants.{FirstTree, LastTree, Minimum, State}
 use Rattle.rules.specs.Words.{itemsIn, isStore, look}
 use Rattle.rules.proofs.Occurs.{and-false}
+use Rattle.store.specs.Heaps.{heapIs}
 use Rattle.soundness.specs.Check.{
   allTo,
   rowAt,
@@ -46,10 +47,13 @@ module _ (n : ℕ) (w : List ℕ) (h : ℕ) where
   abbrev trees : ℕ
   trees = listLength n w (rowAt n w h)
 
-  abbrev Rest : Bool → Type 0
-  Rest t = (minimumOk n w h && eqb (look n w Count h) (countAt n w (suc h))) ≡ t
+  -- what is tested of a heap besides its row
+  abbrev pub rest : Bool
+  rest =
+      minimumOk n w h
+      && heapIs n w h (look n w FirstTree h) (look n w LastTree h) (look n w Minimum h) (countAt n w (suc h))
 
-  pub heap-right : Rest true → trees ≡ cond (heapOk n w h) trees 0
+  pub heap-right : rest ≡ true → trees ≡ cond (heapOk n w h) trees 0
   unfolding heapOk
   heap-right e = rw e (go (eqb trees 0) refl)
     where
@@ -57,7 +61,7 @@ module _ (n : ℕ) (w : List ℕ) (h : ℕ) where
       go true q = eqb-true trees 0 q
       go false q = refl
 
-  pub heap-wrong : Rest false → 0 ≡ cond (heapOk n w h) trees 0
+  pub heap-wrong : rest ≡ false → 0 ≡ cond (heapOk n w h) trees 0
   unfolding heapOk
   heap-wrong e = rw (e, and-false)
 

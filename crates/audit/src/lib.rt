@@ -11,13 +11,14 @@ ghost use Rattle.audit.specs.Promises.{ranksIfOk, heapIfOk, treesIfOk};
 use rules::Field;
 use soundness::Siblings;
 use store::get;
+use store::heap_is;
 use store::is_store;
 use store::items_of;
 use store::order::precedes;
 
 const NONE: usize = 4294967295;
 
-// Word i of a kind: all words are read here, but for the keys that are compared.
+// Word i of a kind, as a number of any width.
 fn word_at(store: &[u32], n: usize, field: Field, i: usize) -> usize
     requires { ⌜ Within n (now store) field i ⌝ }
     ensures { λ r. ⌜ AtMost (look n (now (store .entry)) field i) 4294967295 r ⌝ }
@@ -214,21 +215,22 @@ fn heap_length(store: &[u32], n: usize, h: usize, count: usize) -> usize
     requires { ⌜ count ≡ countAt n (now store) (suc h) ⌝ }
     ensures { λ r. ⌜ AtMost (heapIfOk n (now (store .entry)) h) 4097 r ⌝ }
 {
-    let first = word_at(store, n, Field::FirstTree, h);
-    let last = word_at(store, n, Field::LastTree, h);
+    let first = get(store, n, Field::FirstTree, h as u32);
+    let last = get(store, n, Field::LastTree, h as u32);
+    let least = get(store, n, Field::Minimum, h as u32);
     let length = list_length(
         store,
         n,
         Siblings {
             heap: h + 1,
             parent: NONE,
-            first: first,
-            last: last,
+            first: first as usize,
+            last: last as usize,
         },
     );
-    let least = minimum_ok(store, n, h);
-    let said = word_at(store, n, Field::Count, h);
-    if least & (said == count) { length } else { 0 }
+    let placed = minimum_ok(store, n, h);
+    let words = heap_is(store, n, h as u32, first, last, least, count as u32);
+    if placed & words { length } else { 0 }
 }
 
 // One more than the number of all trees, 0 if some heap is not right.

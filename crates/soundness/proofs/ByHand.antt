@@ -23,6 +23,7 @@ use Rattle.rules.specs.Words.{
   encode,
 }
 use Rattle.store.specs.ItemOrder.{itemKey}
+use Rattle.store.specs.Heaps.{have, heapIs}
 use Rattle.soundness.specs.Check.{
   allTo,
   heapAt,
@@ -61,7 +62,7 @@ use Rattle.soundness.specs.Examples.{
 pub examplesHold : ExamplesHold
 unfolding ExamplesHold examples byCheck but sample full small ownParent threeTrees soundWords isStore itemsIn
     storeSize allOk membersAt
-    ranksAt treesAt heapOk countAt minimumOk leastOk itemOk freeOk memberOk parentOk childOk rootOk listLength
+    ranksAt treesAt heapOk heapIs have countAt minimumOk leastOk itemOk freeOk memberOk parentOk childOk rootOk listLength
     lengthFrom linkOk itemKey markAt heapAt allTo encode wordsOf storeFields storeField word stateMark stateHeap
     stateOf unlessFree siblings prevIn nextIn lastOr headOr minimum leastIn leastOf comesBefore sumTo sumBy count
 examplesHold = refl

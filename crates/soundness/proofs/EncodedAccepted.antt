@@ -9,8 +9,8 @@ use lib.ListN.{length}
 use lib.Dec.{eqb, eqb·zero-suc}
 use Rattle.rules.specs.declared.Field.the-variants.{
   FirstTree,
+  LastTree,
   Minimum,
-  Count,
   Key,
   Parent,
   FirstChild,
@@ -30,6 +30,7 @@ use Rattle.rules.proofs.Members.{out-heap, heap-in, root-row, row-root, free-ch
 use Rattle.rules.proofs.Minimum.{leastOf-in, none-before, minimum-in-row}
 use Rattle.rules.proofs.Occurs.{delta-self}
 use Rattle.rules.proofs.SumTo.{sumTo-cong}
+use Rattle.store.proofs.Heaps.{room-heap, word-heap}
 use Rattle.soundness.specs.Check.{heapAt, rowAt, listLength, treesAt, ranksAt, membersAt}
 use Rattle.soundness.proofs.Passed.{Passed}
 use Rattle.soundness.proofs.Encoded.{
@@ -155,7 +156,9 @@ module _ (s : Forests) (W : WellFormed s) where
               heap = heap-is s W (minimum s h) j ∙ d .0;
               root = says s W Parent (minimum s h) j ∙ d .1;
             });
-        count = says s W Count h k ∙ sym (count-is s W h);
+        words = λ f o.
+            rw (says s W FirstTree h k, says s W LastTree h k, v, count-is s W h)
+            (says s W f h (rw (room-heap n f o) k) ∙ word-heap s h f o);
       }
 
   -- ---- the count

@@ -6,9 +6,12 @@ use mathlib.Core.List.{List}
 use mathlib.Core.Bool.{Bool, true, false, cond, not, _&&_}
 use lib.Dec.{eqb, ltb}
 use borrow.Author.Tests.{eqb-true, eqb-false, ltb-true, lt-ltb, eq-eqb, ne-eqb, not-true}
-use Rattle.rules.specs.declared.Field.the-variants.{FirstTree, Minimum, Count, Parent}
+use Rattle.rules.specs.declared.Field.{Field}
+use Rattle.rules.specs.declared.Field.the-variants.{FirstTree, LastTree, Minimum, Parent}
 use Rattle.rules.specs.Forests.{none}
 use Rattle.rules.specs.Words.{look}
+use Rattle.store.specs.Heaps.{ofHeap, heapWord}
+use Rattle.store.proofs.Heaps.{heap-looks, heap-is}
 use Rattle.soundness.specs.Check.{heapAt, rowAt, listLength, leastOk, minimumOk, countAt, heapOk}
 use Rattle.soundness.proofs.Booleans.{and-split}
 
@@ -23,7 +26,9 @@ module _ (n : ℕ) (w : List ℕ) where
     pub row : listLength n w (rowAt n w h) ≢ 0
     pub noTree : look n w FirstTree h ≡ none → look n w Minimum h ≡ none
     pub least : look n w FirstTree h ≢ none → Least h (look n w Minimum h)
-    pub count : look n w Count h ≡ countAt n w (suc h)
+    pub words : (f : Field) → ofHeap f ≡ true
+        → look n w f h
+        ≡ heapWord (look n w FirstTree h) (look n w LastTree h) (look n w Minimum h) (countAt n w (suc h)) f
 
   is-least : (h least : ℕ) → leastOk n w h least ≡ true → Least h least
   unfolding leastOk
@@ -48,7 +53,7 @@ module _ (n : ℕ) (w : List ℕ) where
         row = eqb-false (listLength n w (rowAt n w h)) 0 (not-true (eqb (listLength n w (rowAt n w h)) 0) (a .0));
         noTree = λ p. eqb-true (look n w Minimum h) none (rw (eq-eqb (look n w FirstTree h) none p) at (b .0));
         least = λ p. is-least h (look n w Minimum h) (rw (ne-eqb (look n w FirstTree h) none p) at (b .0));
-        count = eqb-true (look n w Count h) (countAt n w (suc h)) (b .1);
+        words = heap-looks n w h _ _ _ _ (b .1);
       }
 
   pub heap-passes : (h : ℕ) → HeapRight h → heapOk n w h ≡ true
@@ -56,7 +61,7 @@ module _ (n : ℕ) (w : List ℕ) where
   heap-passes h r =
       rw (
         ne-eqb (listLength n w (rowAt n w h)) 0 (r .row),
-        eq-eqb (look n w Count h) (countAt n w (suc h)) (r .count),
+        heap-is n w h _ _ _ _ (r .words),
       )
       (go (eqb (look n w FirstTree h) none) refl)
     where

@@ -13,7 +13,6 @@ use Rattle.rules.specs.declared.Field.the-variants.{
   FirstTree,
   LastTree,
   Minimum,
-  Count,
   Key,
   Parent,
   FirstChild,
@@ -44,7 +43,9 @@ use Rattle.rules.proofs.Members.{root-row, parent-child}
 use Rattle.rules.proofs.Minimum.{minimum-unique}
 use Rattle.rules.proofs.Occurs.{delta-self}
 use Rattle.rules.proofs.Words.{words-equal}
+use Rattle.store.specs.Heaps.{ofHeap}
 use Rattle.store.specs.ItemOrder.{itemKey}
+use Rattle.store.proofs.Heaps.{by-heaps, room-heap, word-heap}
 use Rattle.soundness.specs.Check.{heapAt, markAt, rowAt, listLength}
 use Rattle.soundness.proofs.Passed.{Passed, byZero}
 use Rattle.soundness.proofs.PassedForests.{disjoint}
@@ -142,26 +143,29 @@ module _ (n : ℕ) (w : List ℕ) (A : Passed n w) where
 
   -- ---- every word
 
+  heap-says : (f : Field) → ofHeap f ≡ true → (h : ℕ) → h < room n f → look n w f h ≡ word s f h
+  heap-says f o h k =
+      let j : h < 8 = rw (room-heap n f o) at k in
+      let r = row-list n w A h j in
+      rw (word-heap s h f o, r .head, r .last, minimum-at h j, count-at n w h) (A .heap h j .words f o)
+
   says : (f : Field) (i : ℕ) → i < room n f → look n w f i ≡ word s f i
   unfolding word heapAt markAt
-  says FirstTree h k = sym (row-list n w A h k .head)
-  says LastTree h k = sym (row-list n w A h k .last)
-  says Minimum h k = sym (minimum-at h k)
-  says Count h k = A .heap h k .count ∙ sym (count-at n w h)
-  says Key i k = sym (key-at n w i k)
-  says Parent i k = sym (parent-at n w i k)
-  says FirstChild i k =
+  says =
+      by-heaps (λ f. (i : ℕ) → i < room n f → look n w f i ≡ word s f i)
+      heap-says
+      (λ i k. sym (key-at n w i k))
+      (λ i k. sym (parent-at n w i k))
+      (λ i k.
       item-word FirstChild (headOr none (childrenOf s i)) i k (λ e. A .free i k e .first)
-      (λ m. children-list n w A i k m .head)
-  says LastChild i k =
+      (λ m. children-list n w A i k m .head))
+      (λ i k.
       item-word LastChild (lastOr none (childrenOf s i)) i k (λ e. A .free i k e .last)
-      (λ m. children-list n w A i k m .last)
-  says Next i k =
-      item-word Next (nextIn i (siblings s i)) i k (λ e. A .free i k e .next) (λ m. links i k m .0)
-  says Prev i k =
-      item-word Prev (prevIn none i (siblings s i)) i k (λ e. A .free i k e .prev) (λ m. links i k m .1)
-  says Rank i k = rank-is n w A i k
-  says State i k = rw (heap-at n w i k, mark-at n w i k) (sym (state-again (look n w State i)))
+      (λ m. children-list n w A i k m .last))
+      (λ i k. item-word Next (nextIn i (siblings s i)) i k (λ e. A .free i k e .next) (λ m. links i k m .0))
+      (λ i k. item-word Prev (prevIn none i (siblings s i)) i k (λ e. A .free i k e .prev) (λ m. links i k m .1))
+      (λ i k. rank-is n w A i k)
+      (λ i k. rw (heap-at n w i k, mark-at n w i k) (sym (state-again (look n w State i))))
 
   pub words : length w ≡ storeSize n → w ≡ encode s
   unfolding encode

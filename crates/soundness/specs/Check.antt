@@ -8,7 +8,6 @@ use Rattle.rules.specs.declared.Field.the-variants.{
   FirstTree,
   LastTree,
   Minimum,
-  Count,
   Key,
   Parent,
   FirstChild,
@@ -23,6 +22,7 @@ use Rattle.rules.specs.Lists.{indicator, sumTo}
 use Rattle.rules.specs.Forests.{none}
 use Rattle.rules.specs.Order.{comesBefore}
 use Rattle.rules.specs.Words.{itemsIn, isStore, look, stateHeap, stateMark}
+use Rattle.store.specs.Heaps.{heapIs}
 use Rattle.store.specs.ItemOrder.{itemKey}
 
 -- f holds of 0 to n - 1
@@ -115,9 +115,11 @@ minimumOk n w h =
 unfoldable pub countAt : ℕ → List ℕ → ℕ → ℕ
 countAt n w v = sumTo n (λ i. indicator (eqb (heapAt n w i) v))
 
+-- the words of the heap are those that one with these ends, this minimum and so many items has
 unfoldable pub heapOk : ℕ → List ℕ → ℕ → Bool
 heapOk n w h =
-    not (eqb (listLength n w (rowAt n w h)) 0) && (minimumOk n w h && eqb (look n w Count h) (countAt n w (suc h)))
+    not (eqb (listLength n w (rowAt n w h)) 0) && (minimumOk n w h
+    && heapIs n w h (look n w FirstTree h) (look n w LastTree h) (look n w Minimum h) (countAt n w (suc h)))
 
 -- ---- the whole store
 

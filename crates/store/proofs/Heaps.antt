@@ -24,7 +24,7 @@ use Rattle.rules.specs.Forests.{Forests, none, rowOf, count}
 use Rattle.rules.specs.Kinds.{isOneOf}
 use Rattle.rules.specs.Order.{minimum}
 use Rattle.rules.specs.SetWord.{fieldNumber}
-use Rattle.rules.specs.Words.{look, headOr, lastOr, word}
+use Rattle.rules.specs.Words.{room, look, headOr, lastOr, word}
 use Rattle.rules.proofs.Occurs.{and-split, and-true, eqb-self}
 use Rattle.rules.proofs.Places.{number-injective}
 use Rattle.store.specs.Heaps.{heapKinds, ofHeap, heapWord, have, heapIs}
@@ -44,6 +44,20 @@ by-heaps P h key parent first last next prev rank state Next = next
 by-heaps P h key parent first last next prev rank state Prev = prev
 by-heaps P h key parent first last next prev rank state Rank = rank
 by-heaps P h key parent first last next prev rank state State = state
+
+pub room-heap : (n : ℕ) (f : Field) → ofHeap f ≡ true → room n f ≡ 8
+room-heap n FirstTree e = refl
+room-heap n LastTree e = refl
+room-heap n Minimum e = refl
+room-heap n Count e = refl
+room-heap n Key e = absurd (true≢false (sym e))
+room-heap n Parent e = absurd (true≢false (sym e))
+room-heap n FirstChild e = absurd (true≢false (sym e))
+room-heap n LastChild e = absurd (true≢false (sym e))
+room-heap n Next e = absurd (true≢false (sym e))
+room-heap n Prev e = absurd (true≢false (sym e))
+room-heap n Rank e = absurd (true≢false (sym e))
+room-heap n State e = absurd (true≢false (sym e))
 
 -- the words of a heap of forests
 pub word-heap : (s : Forests) (h : ℕ) (f : Field) → ofHeap f ≡ true
