@@ -16,8 +16,8 @@ use Rattle.heap.specs.declared.Reply.{Reply}
 use Rattle.heap.specs.Performed.{Performed, Ready}
 use Rattle.text.specs.Output.{Wrote}
 use Rattle.sheet.specs.Promises.{Answerable, Answered}
-use Rattle.sheet.specs.Print.{answerRow}
-use Rattle.sheet.proofs.Printed.{row-32}
+use Rattle.lines.specs.Print.{answerRow}
+use Rattle.lines.proofs.Printed.{row-32}
 
 abbrev pub six : Answer
 six = record { code = 6; item = 0; key = 0; links = 0; cuts = 0 }

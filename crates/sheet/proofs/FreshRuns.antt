@@ -15,12 +15,12 @@ use Rattle.rules.proofs.EmptyForests.{emptyWellFormed}
 use Rattle.rules.proofs.Sizes.{same-items, same-store}
 use Rattle.text.specs.Lines.{lines}
 use Rattle.text.proofs.Cases.{by-cond}
-use Rattle.sheet.specs.Parse.{linesOf}
-use Rattle.sheet.specs.Print.{printed}
+use Rattle.lines.specs.Parse.{linesOf}
+use Rattle.lines.specs.Print.{printed}
 use Rattle.sheet.specs.Runs.{Run, doneRun, freshRun, limitCode, refusedRun, unlessLimit}
-use Rattle.sheet.proofs.InRange.{lines-range}
+use Rattle.lines.proofs.InRange.{lines-range}
 use Rattle.sheet.proofs.Limits.{within}
-use Rattle.sheet.proofs.Printed.{printed-32}
+use Rattle.lines.proofs.Printed.{printed-32}
 use Rattle.sheet.proofs.Runs.{run-room}
 
 -- the limits look at a store's length alone

@@ -4,7 +4,7 @@ use mathlib.Core.Path.{_≡_, refl, sym, _∙_}
 use mathlib.Core.List.{List}
 use mathlib.Core.Bool.{Bool, true, false, cond}
 use native.Mathlib.Omega.{arith}
-use lib.ListN.{length, length-map}
+use lib.ListN.{length}
 use lib.Dec.{ltb}
 use borrow.Author.Tests.{ltb-false, lt-ltb, le-ltb}
 use Rattle.rules.specs.Words.{itemsIn, isStore}
@@ -12,7 +12,7 @@ use Rattle.store.specs.Says.{Sized}
 use Rattle.store.proofs.Sizes.{store-sized}
 use Rattle.text.specs.Lines.{lines}
 use Rattle.sheet.specs.declared.Checked.{Checked}
-use Rattle.sheet.specs.Parse.{lineOf, linesOf}
+use Rattle.lines.proofs.LinesOf.{lines-length}
 use Rattle.sheet.specs.Promises.{Limited}
 use Rattle.sheet.specs.Runs.{limitCode}
 
@@ -37,10 +37,6 @@ within store sheet out e =
     go true false true d p q r e = absurd (omega arith)
     go true true c d p q r e = absurd (omega arith)
     go false b c d p q r e = absurd (omega arith)
-
-pub lines-length : (sheet : List ℕ) → length (linesOf sheet) ≡ length (lines sheet)
-unfolding linesOf
-lines-length sheet = length-map (lines sheet) lineOf
 
 -- ---- the codes
 

@@ -10,8 +10,8 @@ use Rattle.rules.specs.Words.{Sound, encode, forestsOf, itemsIn}
 use Rattle.text.specs.Lines.{lines}
 use Rattle.text.specs.Output.{Wrote}
 use Rattle.sheet.specs.declared.Checked.{Checked}
-use Rattle.sheet.specs.Parse.{linesOf}
-use Rattle.sheet.specs.Print.{answerRow, printed}
+use Rattle.lines.specs.Parse.{linesOf}
+use Rattle.lines.specs.Print.{answerRow, printed}
 use Rattle.sheet.specs.Runs.{limitCode}
 
 -- a sound store, room for a line of output, and a call whose numbers are words

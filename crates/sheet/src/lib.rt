@@ -3,21 +3,17 @@ ghost use mathlib.Core.Path.{_≡_};
 ghost use Prim.Native.Nat.{_≤_};
 ghost use Rattle.sheet.specs.Promises.{Answerable, Answered, Runnable, RanLines, Limited};
 ghost use Rattle.sheet.specs.Runs.{freshRun, keptRun, Leaves, resultNumber};
-use answers::put_answer;
 use audit::sound;
 use heap::perform::perform;
-use reader::Next;
-use reader::read_line;
+use lines::answers::put_answer;
+use lines::reader::Next;
+use lines::reader::read_line;
 use rules::Answer;
 use rules::Line;
 use rules::Tally;
 use store::is_store;
 use store::items_of;
 use store::make_empty;
-
-pub mod answers;
-pub mod calls;
-pub mod reader;
 
 // ---- the lines of a sheet
 
