@@ -1,4 +1,3 @@
-pub mod Booleans
 pub mod Accepted
 pub mod Answered
 pub mod RanLines
@@ -6,6 +5,5 @@ pub mod Limits
 pub mod Runs
 pub mod Leaves
 pub mod FreshRuns
-pub mod Returned
 pub mod Continuation
 pub mod Histories

@@ -1,6 +1,5 @@
 // Sheets of queue calls: each line is read and answered, in fresh and in kept runs.
 ghost use mathlib.Core.Path.{_≡_};
-ghost use Prim.Native.Nat.{_≤_};
 ghost use Rattle.sheet.specs.Promises.{Answerable, Answered, Runnable, RanLines, Limited};
 ghost use Rattle.sheet.specs.Runs.{freshRun, keptRun, Leaves, resultNumber};
 use audit::sound;
@@ -70,19 +69,19 @@ fn run_lines(store: &mut [u32], sheet: &[u8], out: &mut [u8]) -> usize
 
 // What a run answers: its code, 0 if it is done, the lines answered and the bytes written; two zeros after a refusal.
 pub struct Ran {
-    pub code: u32,
+    pub code: u8,
     pub lines: u32,
     pub bytes: u32,
 }
 
 // The first of the codes 1 to 4 whose condition is met; else 0, the items of the store and the lines of the sheet.
 struct Checked {
-    code: u32,
+    code: u8,
     items: usize,
     lines: u32,
 }
 
-fn beyond(code: u32) -> Checked
+fn beyond(code: u8) -> Checked
     ensures { λ r. ⌜ r .code ≡ code ⌝ }
 {
     Checked {
@@ -169,12 +168,11 @@ pub fn run_kept(store: &mut [u32], sheet: &[u8], out: &mut [u8]) -> Ran
 }
 
 // The number that C gets of a run: the bytes written, or 100,000 and the code.
-pub fn result_number(code: u32, bytes: u32) -> u32
-    requires { ⌜ code ≤ 5 ⌝ }
+pub fn result_number(code: u8, bytes: u32) -> u32
     ensures { λ r. ⌜ r ≡ resultNumber code bytes ⌝ }
 {
     if code == 0 {
         return bytes;
     }
-    100000 + code
+    100000 + code as u32
 }

@@ -1,6 +1,6 @@
 -- `run_kept` meets its contract.
 use native.Mathlib.Omega.{arith}
-use Rattle.sheet.proofs.Booleans.{denied, not-denied}
+use Rattle.audit.proofs.Booleans.{told-false, told-true}
 use Rattle.sheet.proofs.Leaves.{kept-refused, unsound, kept-runnable, kept-fits, kept-ran}
 use borrow.Author.Needs.{needs}
 use Rattle.sheet.proofs.run_kept.Statement.{statement}
@@ -32,7 +32,7 @@ returns-2 c =
     let check = c .before in
     let test = check .before .before in
     unsound (test .before .check-limits .ensures) (test .if1 .left)
-    (denied _ (check .sound .ensures) (c .if2 .taken))
+    (told-false _ _ (check .sound .ensures) (c .if2 .taken))
 
 run-lines-requires : tie.Need-run-lines-requires
 run-lines-requires c κs =
@@ -40,7 +40,7 @@ run-lines-requires c κs =
     let check = passed .before in
     let test = check .before .before in
     kept-runnable (test .before .check-limits .ensures) (test .if1 .left)
-    (not-denied _ (check .sound .ensures) (passed .if2 .left))
+    (told-true _ _ (check .sound .ensures) (passed .if2 .left))
 
 cast-t19 : tie.Need-cast-t19
 cast-t19 c =
@@ -51,7 +51,7 @@ cast-t19 c =
     omega (
       arith,
       kept-fits (test .before .check-limits .ensures) (test .if1 .left)
-          (not-denied _ (check .sound .ensures) (passed .if2 .left)) (ran .run-lines .ensures),
+          (told-true _ _ (check .sound .ensures) (passed .if2 .left)) (ran .run-lines .ensures),
     )
 
 same-length-5 : tie.Need-same-length-5
@@ -67,7 +67,7 @@ returns-3 c =
     let check = passed .before in
     let test = check .before .before in
     kept-ran (test .before .check-limits .ensures) (test .if1 .left)
-    (not-denied _ (check .sound .ensures) (passed .if2 .left)) (ran .run-lines .ensures)
+    (told-true _ _ (check .sound .ensures) (passed .if2 .left)) (ran .run-lines .ensures)
 
 pub run-kept-spec : {M : Type 1} → statement M
 run-kept-spec =
