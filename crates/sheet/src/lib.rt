@@ -1,6 +1,6 @@
 // Sheets of queue calls: each line is read and answered, in fresh and in kept runs.
 ghost use mathlib.Core.Path.{_≡_};
-ghost use Rattle.sheet.specs.Promises.{Answerable, Answered, Runnable, RanLines, Limited};
+ghost use Rattle.sheet.specs.Promises.{Answerable, Answered, Runnable, RanLines, Limited, Refuses};
 ghost use Rattle.sheet.specs.Runs.{freshRun, keptRun, Leaves, resultNumber};
 use audit::sound;
 use heap::perform::perform;
@@ -115,6 +115,17 @@ fn check_limits(store: &[u32], sheet: &[u8], out: &[u8]) -> Checked
     }
 }
 
+// A run that is refused under a code.
+fn refused(code: u8) -> Ran
+    ensures { λ r. ⌜ Refuses code r ⌝ }
+{
+    Ran {
+        code,
+        lines: 0,
+        bytes: 0,
+    }
+}
+
 // Runs a sheet on the store made empty.
 pub fn run_fresh(store: &mut [u32], sheet: &[u8], out: &mut [u8]) -> Ran
     ensures { λ r. ⌜ Leaves (freshRun (now (store .entry)) (now (sheet .entry)) (now (out .entry))) r
@@ -123,11 +134,7 @@ pub fn run_fresh(store: &mut [u32], sheet: &[u8], out: &mut [u8]) -> Ran
     let within = check_limits(store, sheet, out);
     let code = within.code;
     if code != 0 {
-        return Ran {
-            code,
-            lines: 0,
-            bytes: 0,
-        };
+        return refused(code);
     }
     make_empty(store, within.items);
     let bytes = run_lines(store, sheet, out);
@@ -146,18 +153,10 @@ pub fn run_kept(store: &mut [u32], sheet: &[u8], out: &mut [u8]) -> Ran
     let within = check_limits(store, sheet, out);
     let code = within.code;
     if code != 0 {
-        return Ran {
-            code,
-            lines: 0,
-            bytes: 0,
-        };
+        return refused(code);
     }
     if !sound(store) {
-        return Ran {
-            code: 5,
-            lines: 0,
-            bytes: 0,
-        };
+        return refused(5);
     }
     let bytes = run_lines(store, sheet, out);
     Ran {
