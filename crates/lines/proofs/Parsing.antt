@@ -1,12 +1,12 @@
 -- The call of the first line of a text, as `parse` finds it.
-use Prim.Native.Nat.{ℕ, _+_, _-_, _<_, _≤_}
+use Prim.Native.Nat.{ℕ, _<_, _≤_}
 use mathlib.Core.Path.{_≡_, refl, sym, subst, _∙_}
 use mathlib.Core.Logic.{_≢_}
 use mathlib.Core.List.{List, [], _∷_}
 use native.Mathlib.Omega.{arith}
-use lib.ListN.{length, getD, take, drop, length-drop}
-use lib.Seq.{getD-take, take-all}
-use borrow.Author.Tests.{eq-eqb, lt-ltb, ne-eqb}
+use lib.ListN.{length, getD}
+use lib.Seq.{getD-take}
+use borrow.Author.Tests.{eq-eqb, ne-eqb}
 use Rattle.rules.specs.declared.Call.{Call}
 use Rattle.rules.specs.declared.Line.the-variants.{NoCall, Yields}
 use Rattle.text.specs.declared.LineRead.{LineRead}
@@ -16,11 +16,9 @@ use Rattle.text.specs.declared.Numbers.the-variants.{Other}
 use Rattle.text.specs.Fields.{FieldsRead, InLine, fieldAt, numbersFrom}
 use Rattle.text.specs.Lines.{lineEnd, lineFeed, lineLength}
 use Rattle.text.proofs.Fields.{field-in-line}
-use Rattle.text.proofs.LineEnd.{line-short}
 use Rattle.text.proofs.OneLine.{fields-same}
 use Rattle.lines.specs.declared.calls.Parsed.{Parsed}
-use Rattle.lines.specs.declared.reader.Next.the-variants.{Found}
-use Rattle.lines.specs.LineAt.{Parses, firstCall, lineAt}
+use Rattle.lines.specs.LineAt.{Parses, firstCall}
 use Rattle.lines.specs.Parse.{callOf, lineOf}
 
 pub length-at-start : (s : List ℕ) → lineEnd s 0 ≡ lineLength s
@@ -44,7 +42,7 @@ feed-first [] e = refl
 feed-first (b ∷ bs) e = simp (eq-eqb b lineFeed e)
 
 module _ {text : List ℕ} {r : Parsed} (n : (r .line ≡ NoCall) × (r .bytes ≡ lineLength text)) where
-  pub parses-none : firstCall text ≡ NoCall → Parses text r
+  parses-none : firstCall text ≡ NoCall → Parses text r
   parses-none e = record { sameLine = n .0 ∙ sym e; sameBytes = n .1 }
 
   pub parses-empty : length text ≡ 0 → Parses text r
@@ -93,22 +91,3 @@ module _ (text : List ℕ) (some : 0 < length text) (letter : getD text 0 0 ≢ 
     pub parses-no-call : {r : Parsed} → callOf (getD text 0 0) (R .numbers) ≡ NoCall
         → (r .line ≡ NoCall) × (r .bytes ≡ lineLength text) → Parses text r
     parses-no-call y m = parses-none m (called ∙ y)
-
--- ---- the line at a position
-
--- a line is no longer than its text
-pub short : {text : List ℕ} {r : Parsed} → Parses text r → r .bytes ≤ length text
-short {text} P = omega (arith, P .sameBytes, line-short text)
-
-part-all : (s : List ℕ) (at : ℕ) → take (length s - at) (drop at s) ≡ drop at s
-part-all s at = take-all (length s - at) (drop at s) (omega (arith, length-drop at s))
-
-module _ (sheet : List ℕ) (at : ℕ) (h : at < length sheet) {r : Parsed}
-    (P : Parses (take (length sheet - at) (drop at sheet)) r) where
-  end-here : at + r .bytes ≡ lineEnd sheet at
-  unfolding lineEnd
-  end-here = rw (P .sameBytes, part-all sheet at)
-
-  pub found-here : Found (r .line) (at + r .bytes) ≡ lineAt sheet at
-  unfolding lineAt
-  found-here = rw (lt-ltb at (length sheet) h, end-here, P .sameLine, part-all sheet at)

@@ -29,7 +29,7 @@ row-32 a S =
       decimal-short 4 (a .cuts) (omega (arith, S .moves)),
     )
 
-pub printed-append : (a b : List Answer) → printed (a ++ b) ≡ printed a ++ printed b
+printed-append : (a b : List Answer) → printed (a ++ b) ≡ printed a ++ printed b
 unfolding printed
 printed-append [] b = refl
 printed-append (x ∷ a) b = rw (printed-append a b, append-assoc)

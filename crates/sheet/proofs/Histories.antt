@@ -19,9 +19,8 @@ use Rattle.lines.specs.Print.{printed}
 use Rattle.sheet.specs.Runs.{Run, doneRun, keptRun, limitCode, refusedRun, unlessLimit}
 use Rattle.sheet.specs.Theorems.{FreshIsKept, HistoryLedger, HistoryOneList}
 use Rattle.sheet.proofs.Accepted.{sound-accepted}
-use Rattle.sheet.proofs.FreshRuns.{same-limits}
 use Rattle.lines.proofs.InRange.{lines-range}
-use Rattle.sheet.proofs.Limits.{within}
+use Rattle.sheet.proofs.Limits.{same-limits, within}
 use Rattle.lines.proofs.Printed.{printed-after}
 use Rattle.sheet.proofs.Runs.{fresh-done, kept-done, run-room, wrote}
 

@@ -1,7 +1,7 @@
 -- `put_answer` meets its contract: three numbers, and the two counts after them.
 use Rattle.text.proofs.Row.{wrote-row-more}
 use Rattle.lines.specs.Print.{answerRow}
-use Rattle.lines.proofs.RowRoom.{room-first, room-rest}
+use Rattle.text.proofs.RowRoom.{room-first, room-rest}
 use borrow.Author.Needs.{needs}
 use Rattle.lines.proofs.answers.put_answer.Statement.{statement}
 use Rattle.lines.proofs.answers.put_answer.Tie as tie

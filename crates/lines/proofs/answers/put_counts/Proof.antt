@@ -1,7 +1,7 @@
 -- `put_counts` meets its contract: a row of two numbers.
 use mathlib.Core.List.{[]}
 use Rattle.text.proofs.Row.{wrote-row-last, wrote-row-more}
-use Rattle.lines.proofs.RowRoom.{room-first, room-rest, room-last}
+use Rattle.text.proofs.RowRoom.{room-first, room-rest, room-last}
 use borrow.Author.Needs.{needs}
 use Rattle.lines.proofs.answers.put_counts.Statement.{statement}
 use Rattle.lines.proofs.answers.put_counts.Tie as tie

@@ -2,7 +2,7 @@
 use native.Mathlib.Omega.{arith}
 use borrow.Author.Tests.{le-ltb}
 use Rattle.lines.specs.LineAt.{lineAt}
-use Rattle.lines.proofs.Parsing.{found-here, short}
+use Rattle.lines.proofs.LineAt.{found-here, short}
 use borrow.Author.Needs.{needs}
 use Rattle.lines.proofs.reader.line_at.Statement.{statement}
 use Rattle.lines.proofs.reader.line_at.Tie as tie
