@@ -8,6 +8,7 @@ use rules::Call;
 use rules::Line;
 use text::Numbers;
 
+// The call of a letter and one number.
 fn of_one(letter: u8, x: u32) -> Line
     ensures { λ r. ⌜ r ≡ ofOne letter x ⌝ }
 {
@@ -23,6 +24,7 @@ fn of_one(letter: u8, x: u32) -> Line
     Line::NoCall
 }
 
+// The call of a letter and two numbers.
 fn of_two(letter: u8, x: u32, y: u32) -> Line
     ensures { λ r. ⌜ r ≡ ofTwo letter x y ⌝ }
 {
@@ -35,6 +37,7 @@ fn of_two(letter: u8, x: u32, y: u32) -> Line
     Line::NoCall
 }
 
+// The call of a letter and three numbers.
 fn of_three(letter: u8, x: u32, y: u32, z: u32) -> Line
     ensures { λ r. ⌜ r ≡ ofThree letter x y z ⌝ }
 {
@@ -48,6 +51,7 @@ fn of_three(letter: u8, x: u32, y: u32, z: u32) -> Line
     Line::NoCall
 }
 
+// The call of a letter and the numbers after it.
 fn call_of(letter: u8, numbers: Numbers) -> Line
     ensures { λ r. ⌜ r ≡ callOf letter numbers ⌝ }
 {

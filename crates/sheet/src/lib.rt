@@ -81,6 +81,7 @@ struct Checked {
     lines: u32,
 }
 
+// Beyond a limit only the code counts.
 fn beyond(code: u8) -> Checked
     ensures { λ r. ⌜ r .code ≡ code ⌝ }
 {
