@@ -13,7 +13,8 @@ use Rattle.text.proofs.Row.{field-short}
 use Rattle.text.proofs.Wrote.{wrote-length}
 use Rattle.sheet.specs.declared.Ran.{Ran}
 use Rattle.sheet.specs.Runs.{Leaves, freshRun}
-use Rattle.sheet.proofs.FreshRuns.{fresh-code, fresh-length, fresh-room, limit-le}
+use Rattle.sheet.proofs.FreshRuns.{fresh-code, fresh-length, fresh-room}
+use Rattle.sheet.proofs.Limits.{limit-le}
 use Rattle.queue.specs.Shown.{Shows, shown}
 
 module _ (store sheet out : List ℕ) {store′ out′ : List ℕ} {r : Ran}

@@ -17,7 +17,7 @@ fn answer_sheet(store: &mut [u32], sheet: &[u8], out: &mut [u8]) -> usize
     if code == 0 {
         return ran.bytes as usize;
     }
-    text::output::put_field(out, 0, code, b'\n')
+    text::output::put_field(out, 0, code as u32, b'\n')
 }
 
 // 8,224 words are a store for 1,024 items; a sheet of 60,001 bytes is one byte too long; 64,000 bytes are room for the

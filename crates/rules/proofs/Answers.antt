@@ -1,14 +1,12 @@
--- A list of lines in two parts, and what a list keeps.
-use Prim.Native.Nat.{suc}
-use mathlib.Core.Path.{_≡_, refl, ap, _∙_}
+-- A list of lines in two parts, and that a list keeps the forests well-formed.
+use mathlib.Core.Path.{_≡_, refl, ap}
 use mathlib.Core.List.{List, [], _∷_, _++_}
-use lib.ListN.{length}
 use Rattle.rules.specs.declared.Line.{Line}
 use Rattle.rules.specs.Answers.{after, answer, answers}
-use Rattle.rules.specs.Forests.{Forests, tableSize}
+use Rattle.rules.specs.Forests.{Forests}
 use Rattle.rules.specs.Theorems.{InRange}
 use Rattle.rules.specs.WellFormed.{WellFormed}
-use Rattle.rules.proofs.KeepsWellFormed.{keepsTableSize, keepsWellFormed}
+use Rattle.rules.proofs.KeepsWellFormed.{keepsWellFormed}
 
 pub after-append : (s : Forests) (a b : List Line) → after s (a ++ b) ≡ after (after s a) b
 unfolding after
@@ -19,16 +17,6 @@ pub answers-append : (s : Forests) (a b : List Line) → answers s (a ++ b) ≡ 
 unfolding answers after
 answers-append s [] b = refl
 answers-append s (l ∷ a) b = ap (λ r. (answer s l) .reply ∷ r) (answers-append ((answer s l) .next) a b)
-
-pub answers-length : (s : Forests) (ls : List Line) → length (answers s ls) ≡ length ls
-unfolding answers
-answers-length s [] = refl
-answers-length s (l ∷ ls) = ap suc (answers-length ((answer s l) .next) ls)
-
-pub after-size : (s : Forests) (ls : List Line) → tableSize (after s ls) ≡ tableSize s
-unfolding after
-after-size s [] = refl
-after-size s (l ∷ ls) = after-size ((answer s l) .next) ls ∙ keepsTableSize s l
 
 -- every line's numbers are words
 abbrev pub AllInRange : List Line → Type 0

@@ -9,15 +9,15 @@ use native.Mathlib.Omega.{arith}
 use lib.ListN.{length, getD, set, length-set}
 use lib.Seq.{getD-set-same, getD-set-other}
 use lib.Dec.{eqb}
-use borrow.Author.Tests.{eqb-true, ne-eqb}
+use borrow.Author.Tests.{eqb-true}
 use Rattle.rules.specs.Cut.{Standing, cascadingCut, cut, cutOut, cutWithin, marked, root, standing, unmarked}
 use Rattle.rules.specs.Forests.{Forests, childrenOf, heapOf, markOf, marks, none, parentOf, setMark}
 use Rattle.rules.specs.Lists.{delta, occurs, sumBy}
 use Rattle.rules.specs.WellFormed.{Disjoint}
 use Rattle.rules.proofs.CutKeeps.{cut-disjoint, cut-ordered, cut-ranked}
 use Rattle.rules.proofs.Excused.{Formed, FormedBut, OrderedBut, RankedBut, exact, ranks-mono}
-use Rattle.rules.proofs.Members.{heap-in, not-none}
-use Rattle.rules.proofs.Occurs.{and-false, byItem, delta-other, delta-self}
+use Rattle.rules.proofs.Members.{heap-in, not-none, root-child}
+use Rattle.rules.proofs.Occurs.{byItem, delta-other, delta-self}
 use Rattle.rules.proofs.Potential.{cut-marks, marked-standing}
 
 standing-root : (s : Forests) (p : ℕ) → standing s p ≡ root → parentOf s p ≡ none
@@ -54,11 +54,12 @@ pub root-ranked : (s : Forests) (p : ℕ) → Disjoint s → parentOf s p ≡ no
 unfolding RankedBut
 root-ranked s p S r K =
     λ q k. ranks-mono (delta p) exact (s .children) (s .children) (s .mark) (s .mark) 0 (childrenOf s q)
-    (λ c i. omega (arith, delta-other p c (λ e. omega (arith, no-child q k, ap (λ z. occurs z (childrenOf s q)) e))))
+    (λ c i. omega (
+      arith,
+      delta-other p c (λ e.
+          omega (arith, root-child s S q p k r, ap (λ z. occurs z (childrenOf s q)) e)),
+    ))
     (K q k)
-  where
-    no-child : (q : ℕ) → q < length (s .heap) → occurs p (childrenOf s q) ≡ 0
-    no-child q k = S .inChildren q p k ∙ rw (r, ne-eqb none q (not-none s S q k), and-false)
 
 -- a child without a mark gets one
 module _ (s : Forests) (p h : ℕ) (S : Disjoint s) (hp : heapOf s p ≡ suc h) (c : parentOf s p ≢ none)

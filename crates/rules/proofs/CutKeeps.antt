@@ -1,6 +1,6 @@
 -- A cut keeps the forests formed, but that the parent may lack one of rank.
 use Prim.Native.Nat.{ℕ, suc, _+_, _≤_, _<_, zero-le}
-use mathlib.Core.Path.{_≡_, sym, ap, _∙_}
+use mathlib.Core.Path.{_≡_, refl, sym, ap, _∙_}
 use mathlib.Core.Logic.{_≢_}
 use mathlib.Core.List.{List, [], _∷_}
 use native.Mathlib.Omega.{arith}
@@ -13,7 +13,7 @@ use Rattle.rules.specs.Forests.{Forests, childrenOf, heapOf, markOf, non
 use Rattle.rules.specs.Lists.{delta, indicator, occurs}
 use Rattle.rules.specs.WellFormed.{Disjoint}
 use Rattle.rules.proofs.Excused.{ChildRanksBut, OrderedBut, RankedBut, ranks-mono, ranks-without}
-use Rattle.rules.proofs.Members.{heap-in, not-none}
+use Rattle.rules.proofs.Members.{heap-in, not-none, parent-child, root-child}
 use Rattle.rules.proofs.Occurs.{
   and-false,
   byItem,
@@ -43,7 +43,7 @@ module _ (s : Forests) (S : Disjoint s) (h x : ℕ) (hx : heapOf s x ≡ suc h) 
   h-in = omega (arith, S .rows8, S .heaps x, hx)
 
   x-child : occurs x (childrenOf s p) ≡ 1
-  x-child = S .inChildren p x p-in ∙ rw (ne-eqb (heapOf s x) 0 live, eqb-self p)
+  x-child = parent-child s S p x p-in live refl
 
   x-row : (g : ℕ) → occurs x (rowOf s g) ≡ 0
   x-row g = S .inRow g x ∙ rw (ne-eqb p none px) (ap indicator (and-false (eqb (heapOf s x) (suc g))))
@@ -133,7 +133,7 @@ module _ (s : Forests) (S : Disjoint s) (h x : ℕ) (hx : heapOf s x ≡ suc h) 
   -- x is no child now
   gone : (q : ℕ) → q < length (s .heap) → occurs x (childrenOf (cut h x s) q) ≡ 0
   unfolding cut
-  gone q k = cut-disjoint .inChildren q x k ∙ rw (parent-x, ne-eqb none q (not-none s S q k), and-false)
+  gone q k = root-child (cut h x s) cut-disjoint q x k parent-x
 
   pub cut-ranked : RankedBut (delta x) s → RankedBut (delta p) (cut h x s)
   unfolding RankedBut cut

@@ -1,5 +1,4 @@
 -- Who stands in a row or among children, in disjoint forests.
--- an item outside the table is in no heap
 use Prim.Native.Nat.{ℕ, suc, _≤_, _<_}
 use mathlib.Core.Path.{_≡_, refl, sym, ap, _∙_}
 use mathlib.Core.Logic.{_≢_}
@@ -8,13 +7,13 @@ use mathlib.Core.Bool.{Bool, true, false, not, _&&_}
 use native.Mathlib.Omega.{arith}
 use lib.ListN.{length, List·getD-eq-default}
 use lib.Dec.{eqb, ltb}
-use borrow.Author.Tests.{eqb-true, eqb-false, ne-eqb, ltb-true, ltb-false}
+use borrow.Author.Tests.{eqb-true, eqb-false, ne-eqb, ltb-true, ltb-false, not-true}
 use Rattle.rules.specs.Forests.{Forests, childrenOf, heapOf, none, parentOf, rowOf}
 use Rattle.rules.specs.Lists.{indicator, occurs, sumBy}
 use Rattle.rules.specs.WellFormed.{Disjoint}
-use Rattle.rules.specs.Words.{at}
 use Rattle.rules.proofs.Occurs.{and-false, delta-self, eqb-self}
 
+-- an item outside the table is in no heap
 pub out-heap : (s : Forests) (x : ℕ) → length (s .heap) ≤ x → heapOf s x ≡ 0
 out-heap s x k = List·getD-eq-default (s .heap) 0 k
 
@@ -33,16 +32,18 @@ both true true h = (refl, refl)
 both true false h = absurd (omega arith)
 both false b h = absurd (omega arith)
 
-not-true : (a : Bool) → not a ≡ true → a ≡ false
-not-true true e = sym e
-not-true false e = refl
-
 -- who stands in a row or among children
 pub row-root : (s : Forests) → Disjoint s → (h x : ℕ) → 1 ≤ occurs x (rowOf s h)
     → (heapOf s x ≡ suc h) × (parentOf s x ≡ none)
 row-root s S h x k =
     let b = both (eqb (heapOf s x) (suc h)) (eqb (parentOf s x) none) (rw (S .inRow h x) at k) in
     (eqb-true (heapOf s x) (suc h) (b .0), eqb-true (parentOf s x) none (b .1))
+
+-- it is in the table
+pub row-small : (s : Forests) → Disjoint s → (h x : ℕ) → 1 ≤ occurs x (rowOf s h) → x ≤ 4096
+row-small s S h x k =
+    let i = heap-in s x (λ e. omega (arith, row-root s S h x k .0)) in
+    omega (arith, S .small)
 
 pub child-parent : (s : Forests) → Disjoint s → (q c : ℕ) → q < length (s .heap) → 1 ≤ occurs c (childrenOf s q)
     → (heapOf s c ≢ 0) × (parentOf s c ≡ q)

@@ -9,14 +9,13 @@ use native.Mathlib.Omega.{arith}
 use lib.ListN.{length, getD}
 use lib.Dec.{eqb}
 use borrow.Author.Tests.{eqb-true, eqb-false}
-use Rattle.rules.specs.Fibonacci.{F}
 use Rattle.rules.specs.Forests.{Forests, count, heapOf, none, parentOf, rowOf}
 use Rattle.rules.specs.Lists.{delta, occurs, sumBy}
 use Rattle.rules.specs.Order.{leastIn, leastOf, minimum, precedes}
 use Rattle.rules.specs.Theorems.{MinimumFirst, MinimumUnique}
 use Rattle.rules.specs.WellFormed.{Disjoint}
 use Rattle.rules.proofs.Excused.{Formed, OrderedBut, to-formed}
-use Rattle.rules.proofs.Members.{heap-in, not-none, root-row, row-root}
+use Rattle.rules.proofs.Members.{heap-in, not-none, root-row, row-root, row-small}
 use Rattle.rules.proofs.Occurs.{byItem, delta-other, delta-self}
 use Rattle.rules.proofs.Order.{ord, ord-precedes, ord-total, precedes-ord, precedes-total}
 
@@ -61,8 +60,7 @@ minimum-least : (s : Forests) → Disjoint s → (h x : ℕ) → 1 ≤ occurs x 
     → ord (s .key) (minimum s h) ≤ ord (s .key) x
 unfolding minimum leastIn occurs sumBy
 minimum-least s S h x k =
-    go (rowOf s h)
-    (λ z i. let q = heap-in s z (λ e. omega (arith, row-root s S h z i .0)) in omega (arith, S .small)) k
+    go (rowOf s h) (row-small s S h) k
   where
     go : (l : List ℕ) → ((z : ℕ) → 1 ≤ occurs z l → z ≤ 4096) → 1 ≤ occurs x l
         → ord (s .key) (leastIn (s .key) l) ≤ ord (s .key) x
@@ -106,48 +104,50 @@ none-before s S h x e =
     (let q = heap-in s x (λ z. omega (arith, e)) in omega (arith, S .disjoint .small))
     (above s S h (suc (ord (s .key) x)) x e (le-refl _))
 
+-- a list in which an item stands is not empty
+some-stands : (v : ℕ) (l : List ℕ) → 1 ≤ occurs v l → 1 ≤ length l
+unfolding occurs sumBy
+some-stands v [] k = absurd (omega arith)
+some-stands v (x ∷ xs) k = omega arith
+
 -- the minimum of a row that is not empty stands in it
-pub minimum-in-row : (s : Forests) (h v : ℕ) → 1 ≤ occurs v (rowOf s h) → 1 ≤ occurs (minimum s h) (rowOf s h)
-unfolding minimum leastIn occurs sumBy
-minimum-in-row s h v k = go (rowOf s h) k
+minimum-stands : (s : Forests) (h : ℕ) → 1 ≤ length (rowOf s h) → 1 ≤ occurs (minimum s h) (rowOf s h)
+unfolding minimum leastIn
+minimum-stands s h k = go (rowOf s h) k
   where
-    go : (l : List ℕ) → 1 ≤ occurs v l → 1 ≤ occurs (leastIn (s .key) l) l
+    go : (l : List ℕ) → 1 ≤ length l → 1 ≤ occurs (leastIn (s .key) l) l
     go [] k = absurd (omega arith)
     go (x ∷ xs) k = leastOf-in (s .key) x xs
+
+pub minimum-in-row : (s : Forests) (h v : ℕ) → 1 ≤ occurs v (rowOf s h) → 1 ≤ occurs (minimum s h) (rowOf s h)
+minimum-in-row s h v k = minimum-stands s h (some-stands v (rowOf s h) k)
 
 -- and it is the only root that no root comes before
 pub minimum-unique : (s : Forests) → Disjoint s → (h v : ℕ) → 1 ≤ occurs v (rowOf s h)
     → ((z : ℕ) → 1 ≤ occurs z (rowOf s h) → precedes (s .key) z v ≡ false) → minimum s h ≡ v
 minimum-unique s S h v k f = go (eqb (minimum s h) v) refl
   where
-    row-le : (z : ℕ) → 1 ≤ occurs z (rowOf s h) → z ≤ 4096
-    row-le z i = let q = heap-in s z (λ e. omega (arith, row-root s S h z i .0)) in omega (arith, S .small)
-
     go : (t : Bool) → eqb (minimum s h) v ≡ t → minimum s h ≡ v
     go true e = eqb-true _ _ e
     go false e =
         let i = minimum-in-row s h v k in
         let b = precedes-total (s .key) (minimum s h) v (eqb-false (minimum s h) v e) (f (minimum s h) i) in
-        absurd (omega (arith, ord-precedes (s .key) v (minimum s h) (row-le v k) b, minimum-least s S h v k))
+        absurd (omega (arith, ord-precedes (s .key) v (minimum s h) (row-small s S h v k) b, minimum-least s S h v k))
 
 -- a heap with items has roots, and the other way round
-pub root-above : (s : Forests) → Formed s → (h n x : ℕ) → heapOf s x ≡ suc h → ord (s .key) x < n
+root-above : (s : Forests) → Formed s → (h n x : ℕ) → heapOf s x ≡ suc h → ord (s .key) x < n
     → 1 ≤ length (rowOf s h)
-unfolding OrderedBut occurs sumBy
+unfolding OrderedBut
 root-above s S h zero x e k = absurd (omega arith)
 root-above s S h (suc n) x e k = go (eqb (parentOf s x) none) refl (root-above s S h n (parentOf s x))
   where
     live : heapOf s x ≢ 0
     live z = omega (arith, e)
 
-    some : (l : List ℕ) → 1 ≤ occurs x l → 1 ≤ length l
-    some [] i = absurd (omega arith)
-    some (y ∷ ys) i = omega arith
-
     go : (t : Bool) → eqb (parentOf s x) none ≡ t
         → (heapOf s (parentOf s x) ≡ suc h → ord (s .key) (parentOf s x) < n → 1 ≤ length (rowOf s h))
         → 1 ≤ length (rowOf s h)
-    go true q ih = some (rowOf s h) (omega (arith, root-row s (S .disjoint) h x e (eqb-true _ _ q)))
+    go true q ih = some-stands x (rowOf s h) (omega (arith, root-row s (S .disjoint) h x e (eqb-true _ _ q)))
     go false q ih =
         let m : parentOf s x ≢ none = eqb-false (parentOf s x) none q in
         let u = S .disjoint .up x live m in
@@ -164,15 +164,13 @@ some-item (v ∷ l) h k = go (eqb v (suc h)) refl k (some-item l h)
     go true e k ih = (0, eqb-true v (suc h) e)
     go false e k ih = let i = ih (omega arith) in (suc (i .0), i .1)
 
-pub minimum-inside : (s : Forests) → Formed s → (h x : ℕ) → heapOf s x ≡ suc h → heapOf s (minimum s h) ≡ suc h
-unfolding minimum leastIn
-minimum-inside s S h x e =
-    row-root s (S .disjoint) h (minimum s h)
-    (go (rowOf s h) (root-above s S h (suc (ord (s .key) x)) x e (le-refl _))) .0
-  where
-    go : (l : List ℕ) → 1 ≤ length l → 1 ≤ occurs (leastIn (s .key) l) l
-    go [] k = absurd (omega arith)
-    go (y ∷ ys) k = leastOf-in (s .key) y ys
+-- the minimum of a heap with items is one of its roots
+pub minimum-root : (s : Forests) → Formed s → (h x : ℕ) → heapOf s x ≡ suc h
+    → 1 ≤ occurs (minimum s h) (rowOf s h)
+minimum-root s S h x e = minimum-stands s h (root-above s S h (suc (ord (s .key) x)) x e (le-refl _))
+
+minimum-inside : (s : Forests) → Formed s → (h x : ℕ) → heapOf s x ≡ suc h → heapOf s (minimum s h) ≡ suc h
+minimum-inside s S h x e = row-root s (S .disjoint) h (minimum s h) (minimum-root s S h x e) .0
 
 pub minimumFirst : MinimumFirst
 unfolding count

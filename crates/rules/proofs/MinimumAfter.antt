@@ -15,7 +15,6 @@ use Rattle.rules.specs.Lists.{occurs, sumBy}
 use Rattle.rules.specs.Order.{leastIn, minimum, precedes}
 use Rattle.rules.specs.Theorems.{IsMinimum}
 use Rattle.rules.specs.WellFormed.{Disjoint, WellFormed}
-use Rattle.rules.proofs.ConsolidateKeeps.{low}
 use Rattle.rules.proofs.Members.{heap-in, row-root}
 use Rattle.rules.proofs.Minimum.{minimumFirst, minimumUnique}
 use Rattle.rules.proofs.Occurs.{byItem, delta-self, eqb-self}

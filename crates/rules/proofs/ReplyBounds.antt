@@ -23,7 +23,7 @@ use Rattle.rules.proofs.CallsKeep.{perform-kept}
 use Rattle.rules.proofs.CascadeKeeps.{marks-le}
 use Rattle.rules.proofs.Excused.{to-formed}
 use Rattle.rules.proofs.Follow.{once-short}
-use Rattle.rules.proofs.Members.{heap-in, row-root}
+use Rattle.rules.proofs.Members.{heap-in, row-root, row-small}
 use Rattle.rules.proofs.RankSixteen.{R-sixteen, count-table}
 use Rattle.rules.proofs.Refusals.{decrease-ok, delete-ok, extract-ok, find-ok, insert-ok, meld-ok, refusal-le}
 use Rattle.rules.proofs.SiblingLists.{list-inside, once-row}
@@ -64,11 +64,6 @@ price-le s S (Meld a b) = omega arith
 
 -- ---- item and key
 
-row-item : (s : Forests) → Disjoint s → (h x : ℕ) → 1 ≤ occurs x (rowOf s h) → x ≤ 4096
-row-item s S h x k =
-    let i = heap-in s x (λ e. omega (arith, row-root s S h x k .0)) in
-    omega (arith, S .small)
-
 -- what a deletion answers, whichever way it goes
 pub record DeleteSays (i k : ℕ) (a : Answer) : Type 0 where
   pub code : a .code ≡ 0
@@ -98,8 +93,8 @@ perform-small s W c e f = record { code = code c; item = item c e; key = key c e
 
     item : (c : Call) → refusal s c ≡ 0 → (perform s c) .reply .item ≤ 4096
     item (Insert h i k) e = omega (arith, insert-ok s h i k e .1, D .small)
-    item (FindMin h) e = row-item s D h (minimum s h) (find-ok s h e)
-    item (ExtractMin h) e = row-item s D h (minimum s h) (extract-ok s h e)
+    item (FindMin h) e = row-small s D h (minimum s h) (find-ok s h e)
+    item (ExtractMin h) e = row-small s D h (minimum s h) (extract-ok s h e)
     item (DecreaseKey i k) e = omega (arith, heap-in s i (decrease-ok s i k e .0), D .small)
     item (Delete i) e =
         omega (

@@ -1,5 +1,4 @@
 -- One place set, and many places set at once.
--- a value set elsewhere is kept where it stands
 use Prim.Native.Nat.{ℕ, zero, suc, _≤_, _<_}
 use mathlib.Core.Path.{_≡_, refl, ap, _∙_}
 use mathlib.Core.Logic.{_≢_}
@@ -13,6 +12,7 @@ use borrow.Author.Tests.{eqb-true, eqb-false}
 use Rattle.rules.specs.Lists.{delta, occurs, setAll, sumBy}
 use Rattle.rules.proofs.Occurs.{delta-other, delta-self}
 
+-- a value set elsewhere is kept where it stands
 pub keep : (l : List ℕ) (p y v d : ℕ) → getD l y d ≡ v → getD (set l p v) y d ≡ v
 keep [] p y v d e = e
 keep (a ∷ l) zero zero v d e = refl

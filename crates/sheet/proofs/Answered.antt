@@ -13,21 +13,21 @@ use Rattle.rules.specs.Words.{encode, forestsOf}
 use Rattle.rules.proofs.ReplyBounds.{answer-small}
 use Rattle.rules.proofs.SoundWords.{sound-forests, sound-words}
 use Rattle.heap.specs.declared.Reply.{Reply}
-use Rattle.heap.specs.Performed.{Performed, Ready}
+use Rattle.heap.specs.Performed.{Performed}
 use Rattle.text.specs.Output.{Wrote}
 use Rattle.sheet.specs.Promises.{Answerable, Answered}
-use Rattle.sheet.specs.Print.{answerRow}
-use Rattle.sheet.proofs.Printed.{row-32}
+use Rattle.lines.specs.Print.{answerRow}
+use Rattle.lines.proofs.Printed.{row-32}
 
 abbrev pub six : Answer
 six = record { code = 6; item = 0; key = 0; links = 0; cuts = 0 }
 
-abbrev pub answerOf : Reply → Answer
+abbrev answerOf : Reply → Answer
 answerOf p =
     record { code = p .code; item = p .item; key = p .key; links = p .tally .links; cuts = p .tally .cuts }
 
 -- of a call that starts with an empty tally, the reply is the rules' reply
-pub reply-is : {w w′ : List ℕ} {c : Call} {p : Reply} → Performed w c (record { links = 0; cuts = 0 }) p w′
+reply-is : {w w′ : List ℕ} {c : Call} {p : Reply} → Performed w c (record { links = 0; cuts = 0 }) p w′
     → answerOf p ≡ (answer (forestsOf w) (Yields c)) .reply
 reply-is {w} {w′} {c} {p} P =
     let links : p .tally .links ≡ (answer (forestsOf w) (Yields c)) .reply .links = omega (arith, P .links) in
@@ -35,9 +35,6 @@ reply-is {w} {w′} {c} {p} P =
     rw (P .code, P .item, P .key, links, cuts)
 
 module _ {w out : List ℕ} {at : ℕ} {line : Line} (A : Answerable w out at line) where
-  pub ready : Ready w (record { links = 0; cuts = 0 })
-  ready = record { sound = A .sound; links = omega arith; cuts = omega arith }
-
   abbrev reply : Answer
   reply = (answer (forestsOf w) line) .reply
 

@@ -1,44 +1,23 @@
--- What a fresh run shows: it is within the output and does not depend on the words that the run finds. The code is at
--- most 4.
-use Prim.Native.Nat.{ℕ, zero, suc, _*_, _≤_, zero-le}
+-- What a fresh run shows: it is within the output and does not depend on the words that the run finds.
+use Prim.Native.Nat.{ℕ, zero, suc, _≤_, zero-le}
 use mathlib.Core.Path.{_≡_, refl}
 use mathlib.Core.List.{List}
 use native.Mathlib.Omega.{arith}
 use lib.ListN.{length}
 use lib.Seq.{length-sets}
-use lib.Dec.{ltb}
 use Rattle.rules.specs.Answers.{answers}
 use Rattle.rules.specs.Forests.{empty}
 use Rattle.rules.specs.WellFormed.{WellFormed}
-use Rattle.rules.specs.Words.{itemsIn, isStore}
+use Rattle.rules.specs.Words.{itemsIn}
 use Rattle.rules.proofs.EmptyForests.{emptyWellFormed}
-use Rattle.rules.proofs.Sizes.{same-items, same-store}
-use Rattle.text.specs.Lines.{lines}
-use Rattle.text.proofs.Cases.{by-cond}
-use Rattle.sheet.specs.Parse.{linesOf}
-use Rattle.sheet.specs.Print.{printed}
+use Rattle.rules.proofs.Sizes.{same-items}
+use Rattle.lines.specs.Parse.{linesOf}
+use Rattle.lines.specs.Print.{printed}
 use Rattle.sheet.specs.Runs.{Run, doneRun, freshRun, limitCode, refusedRun, unlessLimit}
-use Rattle.sheet.proofs.InRange.{lines-range}
-use Rattle.sheet.proofs.Limits.{within}
-use Rattle.sheet.proofs.Printed.{printed-32}
+use Rattle.lines.proofs.InRange.{lines-range}
+use Rattle.sheet.proofs.Limits.{same-limits, within}
+use Rattle.lines.proofs.Printed.{printed-32}
 use Rattle.sheet.proofs.Runs.{run-room}
-
--- the limits look at a store's length alone
-pub same-limits : (a b sheet out : List ℕ) → length a ≡ length b → limitCode a sheet out ≡ limitCode b sheet out
-unfolding limitCode
-same-limits a b sheet out e = rw (same-store a b e)
-
-pub limit-le : (store sheet out : List ℕ) → limitCode store sheet out ≤ 4
-unfolding limitCode
-limit-le store sheet out =
-    by-cond low (isStore store)
-    (by-cond low (ltb 60000 (length sheet)) (omega arith)
-    (by-cond low (ltb 2000 (length (lines sheet))) (omega arith)
-    (by-cond low (ltb (length out) (32 * length (lines sheet))) (omega arith) (omega arith))))
-    (omega arith)
-  where
-    low : ℕ → Type 0
-    low n = n ≤ 4
 
 -- two runs that answer the same and write the same
 pub record SameShown (a b : Run) : Type 0 where

@@ -16,18 +16,16 @@ use Rattle.store.specs.Says.{Sized}
 use Rattle.text.specs.Lines.{lines}
 use Rattle.sheet.specs.declared.Checked.{Checked}
 use Rattle.sheet.specs.declared.Ran.{Ran}
-use Rattle.sheet.specs.Parse.{linesOf}
-use Rattle.sheet.specs.Print.{printed}
-use Rattle.sheet.specs.Promises.{Limited, RanLines, Runnable}
+use Rattle.lines.specs.Parse.{linesOf}
+use Rattle.lines.specs.Print.{printed}
+use Rattle.sheet.specs.Promises.{Limited, RanLines, Refuses, Runnable}
 use Rattle.sheet.specs.Runs.{Leaves, Run, doneRun, freshRun, keptRun, limitCode, refusedRun, unlessLimit}
 use Rattle.sheet.proofs.Accepted.{accepted-sound}
-use Rattle.sheet.proofs.InRange.{lines-range}
-use Rattle.sheet.proofs.Limits.{Within, lines-length, within}
-use Rattle.sheet.proofs.Printed.{printed-32}
+use Rattle.lines.proofs.InRange.{lines-range}
+use Rattle.lines.proofs.LinesOf.{lines-length}
+use Rattle.sheet.proofs.Limits.{Within, within}
+use Rattle.lines.proofs.Printed.{printed-32}
 use Rattle.sheet.proofs.Runs.{fresh-done, kept-done}
-
-abbrev refusal : ℕ → Ran
-refusal code = record { code = code; lines = 0; bytes = 0 }
 
 -- the bytes that the lines took
 ran-short : {w sheet out w′ out′ : List ℕ} {r : ℕ} → Sound w → RanLines w sheet out r w′ out′
@@ -44,23 +42,34 @@ ran-all {w} {sheet} {out} {w′} {out′} {r} s e R =
     rw (← e)
     (record { sameCode = refl; sameLines = refl; sameBytes = n; sameStore = R .words; sameOut = R .wrote .left })
 
-limit-met : (c : ℕ) (store out : List ℕ) (run : Run) → (c ≡ 0 → ⊥)
-    → Leaves (unlessLimit c store out run) (refusal c) store out
-unfolding unlessLimit refusedRun
-limit-met zero store out run n = absurd (n refl)
-limit-met (suc k) store out run n =
-    record { sameCode = refl; sameLines = refl; sameBytes = refl; sameStore = refl; sameOut = refl }
+-- a refusal leaves everything as it was
+nothing-done : {c : ℕ} {r : Ran} (store out : List ℕ) → Refuses c r → Leaves (refusedRun c store out) r store out
+unfolding refusedRun
+nothing-done store out R =
+    record {
+      sameCode = R .sameCode;
+      sameLines = R .noLines;
+      sameBytes = R .noBytes;
+      sameStore = refl;
+      sameOut = refl;
+    }
+
+limit-met : (c : ℕ) {r : Ran} (store out : List ℕ) (run : Run) → (c ≡ 0 → ⊥) → Refuses c r
+    → Leaves (unlessLimit c store out run) r store out
+unfolding unlessLimit
+limit-met zero store out run n R = absurd (n refl)
+limit-met (suc k) store out run n R = nothing-done store out R
 
 module _ {store sheet out : List ℕ} {l : Checked} (L : Limited store sheet out l) where
   -- beyond a limit
-  module _ (n : l .code ≡ 0 → ⊥) where
-    pub fresh-refused : Leaves (freshRun store sheet out) (refusal (l .code)) store out
+  module _ (n : l .code ≡ 0 → ⊥) {r : Ran} (R : Refuses (l .code) r) where
+    pub fresh-refused : Leaves (freshRun store sheet out) r store out
     unfolding freshRun
-    fresh-refused = rw (← L .code) (limit-met (l .code) store out _ n)
+    fresh-refused = rw (← L .code) (limit-met (l .code) store out _ n R)
 
-    pub kept-refused : Leaves (keptRun store sheet out) (refusal (l .code)) store out
+    pub kept-refused : Leaves (keptRun store sheet out) r store out
     unfolding keptRun
-    kept-refused = rw (← L .code) (limit-met (l .code) store out _ n)
+    kept-refused = rw (← L .code) (limit-met (l .code) store out _ n R)
 
   -- within the limits
   module _ (z : l .code ≡ 0) where
@@ -101,11 +110,9 @@ module _ {store sheet out : List ℕ} {l : Checked} (L : Limited store sheet out
             rw (fresh-done store sheet out none, L .lines z) (ran-all (empty (itemsIn store)) f R)
 
     -- a kept run
-    pub unsound : soundWords store ≡ false → Leaves (keptRun store sheet out) (refusal 5) store out
-    unfolding keptRun unlessLimit refusedRun
-    unsound u =
-        rw (none, u)
-        (record { sameCode = refl; sameLines = refl; sameBytes = refl; sameStore = refl; sameOut = refl })
+    pub unsound : {r : Ran} → soundWords store ≡ false → Refuses 5 r → Leaves (keptRun store sheet out) r store out
+    unfolding keptRun unlessLimit
+    unsound u R = rw (none, u) (nothing-done store out R)
 
     module _ (t : soundWords store ≡ true) where
       pub kept-runnable : Runnable store sheet out

@@ -1,16 +1,9 @@
-pub mod Booleans
 pub mod Accepted
-pub mod InRange
-pub mod Printed
-pub mod Parsing
-pub mod RowRoom
 pub mod Answered
-pub mod LineFound
 pub mod RanLines
 pub mod Limits
 pub mod Runs
 pub mod Leaves
 pub mod FreshRuns
-pub mod Returned
 pub mod Continuation
 pub mod Histories

@@ -4,15 +4,17 @@ use mathlib.Core.Path.{_≡_, refl, sym, _∙_}
 use mathlib.Core.List.{List}
 use mathlib.Core.Bool.{Bool, true, false, cond}
 use native.Mathlib.Omega.{arith}
-use lib.ListN.{length, length-map}
+use lib.ListN.{length}
 use lib.Dec.{ltb}
 use borrow.Author.Tests.{ltb-false, lt-ltb, le-ltb}
 use Rattle.rules.specs.Words.{itemsIn, isStore}
+use Rattle.rules.proofs.Sizes.{same-store}
 use Rattle.store.specs.Says.{Sized}
 use Rattle.store.proofs.Sizes.{store-sized}
 use Rattle.text.specs.Lines.{lines}
+use Rattle.text.proofs.Cases.{by-cond}
 use Rattle.sheet.specs.declared.Checked.{Checked}
-use Rattle.sheet.specs.Parse.{lineOf, linesOf}
+use Rattle.lines.proofs.LinesOf.{lines-length}
 use Rattle.sheet.specs.Promises.{Limited}
 use Rattle.sheet.specs.Runs.{limitCode}
 
@@ -38,9 +40,23 @@ within store sheet out e =
     go true true c d p q r e = absurd (omega arith)
     go false b c d p q r e = absurd (omega arith)
 
-pub lines-length : (sheet : List ℕ) → length (linesOf sheet) ≡ length (lines sheet)
-unfolding linesOf
-lines-length sheet = length-map (lines sheet) lineOf
+-- the limits look at a store's length alone
+pub same-limits : (a b sheet out : List ℕ) → length a ≡ length b → limitCode a sheet out ≡ limitCode b sheet out
+unfolding limitCode
+same-limits a b sheet out e = rw (same-store a b e)
+
+-- the codes end at 4
+pub limit-le : (store sheet out : List ℕ) → limitCode store sheet out ≤ 4
+unfolding limitCode
+limit-le store sheet out =
+    by-cond low (isStore store)
+    (by-cond low (ltb 60000 (length sheet)) (omega arith)
+    (by-cond low (ltb 2000 (length (lines sheet))) (omega arith)
+    (by-cond low (ltb (length out) (32 * length (lines sheet))) (omega arith) (omega arith))))
+    (omega arith)
+  where
+    low : ℕ → Type 0
+    low n = n ≤ 4
 
 -- ---- the codes
 

@@ -15,13 +15,13 @@ use Rattle.rules.proofs.SoundWords.{forests-encode, sound-encode, sound-forests
 use Rattle.text.specs.Output.{Wrote}
 use Rattle.text.proofs.Wrote.{wrote-length, wrote-none, wrote-then}
 use Rattle.sheet.specs.Promises.{Answerable, Answered, RanLines, Runnable}
-use Rattle.sheet.specs.declared.reader.Next.the-variants.{Found, NoMore}
-use Rattle.sheet.specs.LineAt.{lineAt}
-use Rattle.sheet.specs.Parse.{linesOf}
-use Rattle.sheet.specs.Print.{answerRow, printed}
-use Rattle.sheet.proofs.Limits.{lines-length}
-use Rattle.sheet.proofs.LineFound.{LineFound, found, no-line}
-use Rattle.sheet.proofs.Printed.{row-32}
+use Rattle.lines.specs.declared.reader.Next.the-variants.{Found, NoMore}
+use Rattle.lines.specs.LineAt.{lineAt}
+use Rattle.lines.specs.Parse.{linesOf}
+use Rattle.lines.specs.Print.{answerRow, printed}
+use Rattle.lines.proofs.LinesOf.{lines-length}
+use Rattle.lines.proofs.LineFound.{LineFound, found, no-line}
+use Rattle.lines.proofs.Printed.{row-32}
 
 -- the lines before `at` are answered, and the answers end at `to`
 pub record Going (w₀ sheet out₀ w out : List ℕ) (at to : ℕ) : Type 0 where

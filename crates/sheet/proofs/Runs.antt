@@ -1,7 +1,7 @@
 -- Runs that are done: from well-formed forests, what a run of one part and then of the other does.
 use Prim.Native.Nat.{ℕ, _*_, _≤_}
 use mathlib.Core.Path.{_≡_, refl, sym, ap, _∙_}
-use mathlib.Core.List.{List, [], _∷_, _++_, map}
+use mathlib.Core.List.{List, _++_}
 use mathlib.Core.Bool.{true}
 use native.Mathlib.Omega.{arith}
 use lib.ListN.{length, take, length-append}
@@ -12,16 +12,16 @@ use Rattle.rules.specs.Forests.{Forests, empty}
 use Rattle.rules.specs.WellFormed.{WellFormed}
 use Rattle.rules.specs.Words.{Sound, encode, forestsOf, itemsIn}
 use Rattle.rules.proofs.Answers.{AllInRange, after-append, after-well-formed}
-use Rattle.text.specs.Lines.{closed, lines}
-use Rattle.text.proofs.Lines.{lines-append}
-use Rattle.sheet.specs.Parse.{lineOf, linesOf}
-use Rattle.sheet.specs.Print.{printed}
+use Rattle.text.specs.Lines.{closed}
+use Rattle.lines.specs.Parse.{linesOf}
+use Rattle.lines.specs.Print.{printed}
 use Rattle.sheet.specs.Runs.{doneRun, freshRun, keptRun, limitCode, unlessLimit}
 use Rattle.sheet.specs.Theorems.{SameAs}
 use Rattle.sheet.proofs.Accepted.{sound-accepted}
-use Rattle.sheet.proofs.InRange.{lines-range}
-use Rattle.sheet.proofs.Limits.{lines-length, within}
-use Rattle.sheet.proofs.Printed.{printed-32, printed-after}
+use Rattle.lines.proofs.InRange.{lines-range}
+use Rattle.lines.proofs.LinesOf.{lines-length, lines-of-append}
+use Rattle.sheet.proofs.Limits.{within}
+use Rattle.lines.proofs.Printed.{printed-32, printed-after}
 
 pub fresh-done : (store sheet out : List ℕ) → limitCode store sheet out ≡ 0
     → freshRun store sheet out ≡ doneRun (empty (itemsIn store)) (linesOf sheet) out
@@ -40,14 +40,6 @@ pub wrote : (s : Forests) → WellFormed s → (ls : List Line) → AllInRange l
 wrote s W ls r out k =
     rw (sets-eq (printed (answers s ls)) out 0 (omega (arith, printed-32 s W ls r)))
     (take-append-seam (printed (answers s ls)) _)
-
-map-append : (f : List ℕ → Line) (a b : List (List ℕ)) → map f (a ++ b) ≡ map f a ++ map f b
-map-append f [] b = refl
-map-append f (x ∷ a) b = ap (λ r. f x ∷ r) (map-append f a b)
-
-lines-of-append : (a b : List ℕ) → closed a ≡ true → linesOf (a ++ b) ≡ linesOf a ++ linesOf b
-unfolding linesOf
-lines-of-append a b c = rw (lines-append a b c) (map-append lineOf (lines a) (lines b))
 
 pub run-room : (store sheet out : List ℕ) → limitCode store sheet out ≡ 0 → 32 * length (linesOf sheet) ≤ length out
 run-room store sheet out e = omega (arith, within store sheet out e .room, lines-length sheet)

@@ -3,7 +3,7 @@ use Prim.Native.Nat.{ℕ, zero, suc}
 use mathlib.Core.List.{List, [], _∷_, _++_}
 use lib.ListN.{take}
 use Rattle.rules.specs.declared.Line.{Line}
-use Rattle.sheet.specs.Parse.{linesOf}
+use Rattle.lines.specs.Parse.{linesOf}
 use Rattle.sheet.specs.Runs.{keptRun}
 
 -- the sheet and the output that a run is lent

@@ -1,6 +1,3 @@
-pub mod Parse
-pub mod Print
-pub mod LineAt
 pub mod Runs
 pub mod Promises
 pub mod Histories

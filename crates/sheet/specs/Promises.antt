@@ -10,8 +10,9 @@ use Rattle.rules.specs.Words.{Sound, encode, forestsOf, itemsIn}
 use Rattle.text.specs.Lines.{lines}
 use Rattle.text.specs.Output.{Wrote}
 use Rattle.sheet.specs.declared.Checked.{Checked}
-use Rattle.sheet.specs.Parse.{linesOf}
-use Rattle.sheet.specs.Print.{answerRow, printed}
+use Rattle.sheet.specs.declared.Ran.{Ran}
+use Rattle.lines.specs.Parse.{linesOf}
+use Rattle.lines.specs.Print.{answerRow, printed}
 use Rattle.sheet.specs.Runs.{limitCode}
 
 -- a sound store, room for a line of output, and a call whose numbers are words
@@ -40,3 +41,9 @@ pub record Limited (store sheet out : List ℕ) (l : Checked) : Type 0 where
   pub code : l .code ≡ limitCode store sheet out
   pub items : l .code ≡ 0 → l .items ≡ itemsIn store
   pub lines : l .code ≡ 0 → l .lines ≡ length (linesOf sheet)
+
+-- the code of a refusal, and two zeros
+pub record Refuses (code : ℕ) (r : Ran) : Type 0 where
+  pub sameCode : r .code ≡ code
+  pub noLines : r .lines ≡ 0
+  pub noBytes : r .bytes ≡ 0

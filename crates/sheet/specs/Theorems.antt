@@ -10,7 +10,7 @@ use Rattle.rules.specs.Answers.{answers, after}
 use Rattle.rules.specs.Ledger.{moves, allowed}
 use Rattle.rules.specs.Words.{Sound, encode, itemsIn, forestsOf}
 use Rattle.text.specs.Lines.{closed}
-use Rattle.sheet.specs.Print.{printed}
+use Rattle.lines.specs.Print.{printed}
 use Rattle.sheet.specs.Runs.{Run, limitCode, freshRun, keptRun}
 use Rattle.sheet.specs.Histories.{Lent, storeAfter, shown, historyLines}
 

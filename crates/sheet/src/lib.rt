@@ -1,23 +1,18 @@
 // Sheets of queue calls: each line is read and answered, in fresh and in kept runs.
 ghost use mathlib.Core.Path.{_≡_};
-ghost use Prim.Native.Nat.{_≤_};
-ghost use Rattle.sheet.specs.Promises.{Answerable, Answered, Runnable, RanLines, Limited};
+ghost use Rattle.sheet.specs.Promises.{Answerable, Answered, Runnable, RanLines, Limited, Refuses};
 ghost use Rattle.sheet.specs.Runs.{freshRun, keptRun, Leaves, resultNumber};
-use answers::put_answer;
 use audit::sound;
 use heap::perform::perform;
-use reader::Next;
-use reader::read_line;
+use lines::answers::put_answer;
+use lines::reader::Next;
+use lines::reader::read_line;
 use rules::Answer;
 use rules::Line;
 use rules::Tally;
 use store::is_store;
 use store::items_of;
 use store::make_empty;
-
-pub mod answers;
-pub mod calls;
-pub mod reader;
 
 // ---- the lines of a sheet
 
@@ -74,19 +69,20 @@ fn run_lines(store: &mut [u32], sheet: &[u8], out: &mut [u8]) -> usize
 
 // What a run answers: its code, 0 if it is done, the lines answered and the bytes written; two zeros after a refusal.
 pub struct Ran {
-    pub code: u32,
+    pub code: u8,
     pub lines: u32,
     pub bytes: u32,
 }
 
 // The first of the codes 1 to 4 whose condition is met; else 0, the items of the store and the lines of the sheet.
 struct Checked {
-    code: u32,
+    code: u8,
     items: usize,
     lines: u32,
 }
 
-fn beyond(code: u32) -> Checked
+// Beyond a limit only the code counts.
+fn beyond(code: u8) -> Checked
     ensures { λ r. ⌜ r .code ≡ code ⌝ }
 {
     Checked {
@@ -120,6 +116,17 @@ fn check_limits(store: &[u32], sheet: &[u8], out: &[u8]) -> Checked
     }
 }
 
+// A run that is refused under a code.
+fn refused(code: u8) -> Ran
+    ensures { λ r. ⌜ Refuses code r ⌝ }
+{
+    Ran {
+        code,
+        lines: 0,
+        bytes: 0,
+    }
+}
+
 // Runs a sheet on the store made empty.
 pub fn run_fresh(store: &mut [u32], sheet: &[u8], out: &mut [u8]) -> Ran
     ensures { λ r. ⌜ Leaves (freshRun (now (store .entry)) (now (sheet .entry)) (now (out .entry))) r
@@ -128,11 +135,7 @@ pub fn run_fresh(store: &mut [u32], sheet: &[u8], out: &mut [u8]) -> Ran
     let within = check_limits(store, sheet, out);
     let code = within.code;
     if code != 0 {
-        return Ran {
-            code,
-            lines: 0,
-            bytes: 0,
-        };
+        return refused(code);
     }
     make_empty(store, within.items);
     let bytes = run_lines(store, sheet, out);
@@ -151,18 +154,10 @@ pub fn run_kept(store: &mut [u32], sheet: &[u8], out: &mut [u8]) -> Ran
     let within = check_limits(store, sheet, out);
     let code = within.code;
     if code != 0 {
-        return Ran {
-            code,
-            lines: 0,
-            bytes: 0,
-        };
+        return refused(code);
     }
     if !sound(store) {
-        return Ran {
-            code: 5,
-            lines: 0,
-            bytes: 0,
-        };
+        return refused(5);
     }
     let bytes = run_lines(store, sheet, out);
     Ran {
@@ -173,12 +168,11 @@ pub fn run_kept(store: &mut [u32], sheet: &[u8], out: &mut [u8]) -> Ran
 }
 
 // The number that C gets of a run: the bytes written, or 100,000 and the code.
-pub fn result_number(code: u32, bytes: u32) -> u32
-    requires { ⌜ code ≤ 5 ⌝ }
+pub fn result_number(code: u8, bytes: u32) -> u32
     ensures { λ r. ⌜ r ≡ resultNumber code bytes ⌝ }
 {
     if code == 0 {
         return bytes;
     }
-    100000 + code
+    100000 + code as u32
 }

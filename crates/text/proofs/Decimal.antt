@@ -43,7 +43,7 @@ module _ (P : ℕ → Type 0) (low : (n : ℕ) → n < 10 → P n) (high : (n : 
   below (suc f) n h =
       ⊎-elim (λ (l : 10 ≤ n). high n l (below f (n / 10) (omega arith))) (λ (l : n < 10). low n l) (le-or-lt 10 n)
 
-  pub by-digits : (n : ℕ) → P n
+  by-digits : (n : ℕ) → P n
   by-digits n = below (suc n) n (omega arith)
 
 -- ---- how many digits
@@ -71,12 +71,16 @@ decimal-short (suc k) n h =
     (le-or-lt 10 n)
 
 -- a number of at least 10 ^ k has more than k digits
-pub decimal-long : (k n : ℕ) → 10 ^ k ≤ n → k < length (decimal n)
+decimal-long : (k n : ℕ) → 10 ^ k ≤ n → k < length (decimal n)
 decimal-long zero n h = some-digit n
 decimal-long (suc k) n h =
     let h′ : 10 ^ k * 10 ≤ n = rw pow-suc at h in
     let p : 0 < 10 ^ k = one-le-pow k 10 (omega arith) in
     omega (arith, length-high n (omega arith), decimal-long k (n / 10) (omega arith))
+
+-- by the powers of ten that a number lies between
+pub digits-between : (k n : ℕ) → 10 ^ k ≤ n → n < 10 ^ suc k → suc k ≡ length (decimal n)
+digits-between k n lo hi = omega (arith, decimal-long k n lo, decimal-short k n hi)
 
 -- ---- what the digits are
 

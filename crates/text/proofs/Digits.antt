@@ -17,17 +17,17 @@ module _ (b : ℕ) (bs : List ℕ) where
   unfolding digitRun isDigit
   run-digit lo hi = simp (le-leb 48 b lo, le-leb b 57 hi)
 
-  pub run-low : b < 48 → digitRun (b ∷ bs) ≡ []
+  run-low : b < 48 → digitRun (b ∷ bs) ≡ []
   unfolding digitRun isDigit
   run-low lo = simp (lt-leb 48 b lo)
 
-  pub run-high : 57 < b → digitRun (b ∷ bs) ≡ []
+  run-high : 57 < b → digitRun (b ∷ bs) ≡ []
   unfolding digitRun isDigit
   run-high hi = let lo : 48 ≤ b = omega arith in simp (le-leb 48 b lo, lt-leb b 57 hi)
 
 -- the same at a position of a text
 module _ (s : List ℕ) (i : ℕ) where
-  pub run-more :
+  run-more :
       i < length s → 48 ≤ getD s i 0 → getD s i 0 ≤ 57
       → digitRun (drop i s) ≡ getD s i 0 ∷ digitRun (drop (i + 1) s)
   run-more h lo hi = rw (add-one, drop-cons s i 0 h) (run-digit _ _ lo hi)
@@ -61,7 +61,7 @@ run-head (b ∷ bs) =
     (λ h. absurd (omega arith))
 
 -- no digit makes a value smaller
-pub value-grows : (v : ℕ) (ds : List ℕ) → v ≤ valueFrom v ds
+value-grows : (v : ℕ) (ds : List ℕ) → v ≤ valueFrom v ds
 unfolding valueFrom
 value-grows v [] = omega arith
 value-grows v (b ∷ bs) = omega (arith, value-grows (v * 10 + (b - 48)) bs)

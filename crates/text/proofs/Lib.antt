@@ -13,8 +13,8 @@ pub mod Wrote
 pub mod Fields
 pub mod OneLine
 pub mod Range
-pub mod DigitCount
 pub mod Writing
 pub mod RoundTrip
 pub mod Row
+pub mod RowRoom
 pub mod Examples

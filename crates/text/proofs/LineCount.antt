@@ -1,5 +1,5 @@
--- How many lines there are: by the LF, and at most one for each byte.
-use Prim.Native.Nat.{ℕ, _+_, _-_, _≤_}
+-- How many lines there are, by the LF.
+use Prim.Native.Nat.{ℕ, _+_, _-_}
 use mathlib.Core.Path.{_≡_, refl, sym, _∙_}
 use mathlib.Core.Bool.{Bool, true, false, cond}
 use mathlib.Core.List.{List, [], _∷_}
@@ -9,7 +9,6 @@ use lib.Dec.{eqb}
 use borrow.Author.Tests.{eq-eqb, ne-eqb}
 use Rattle.text.specs.Lines.{lineFeed, ahead, lines, lineFeeds, closed}
 use Rattle.text.specs.Laws.{LineCount}
-use Rattle.text.proofs.Cases.{by-cond}
 use Rattle.text.proofs.Lines.{some-line, closed-more}
 
 -- a byte ahead of some lines makes no more of them
@@ -42,22 +41,6 @@ line-count (x ∷ y ∷ a) =
     (lines (y ∷ a))
     (some-line y a)
     (line-count (y ∷ a)))
-
--- at most one line for each byte
-ahead-le : (b : ℕ) (ls : List (List ℕ)) → length (ahead b ls) ≤ length ls + 1
-unfolding ahead
-ahead-le b [] = omega arith
-ahead-le b (l ∷ ls) = omega arith
-
-pub count-le : (s : List ℕ) → length (lines s) ≤ length s
-unfolding lines
-count-le [] = omega arith
-count-le (b ∷ bs) =
-    by-cond
-    (λ (ls : List (List ℕ)). length ls ≤ length (b ∷ bs))
-    (eqb b lineFeed)
-    (omega (arith, count-le bs))
-    (omega (arith, count-le bs, ahead-le b (lines bs)))
 
 -- the lines of a text with n LF, by its last byte
 module _ (s : List ℕ) (n : ℕ) (feeds : n ≡ lineFeeds s) where

@@ -23,7 +23,7 @@ of-small ds at h =
     h
     (tt {0})
 
-pub number-in-range : (s : List ℕ) (at : ℕ) → NumberFits (numberAt s at)
+number-in-range : (s : List ℕ) (at : ℕ) → NumberFits (numberAt s at)
 unfolding numberAt NumberFits
 number-in-range s at =
     ⊎-elim

@@ -1,6 +1,5 @@
 -- `fresh_run` meets its contract.
 use Rattle.sheet.specs.Runs.{freshRun}
-use Rattle.sheet.proofs.Returned.{fresh-low}
 use Rattle.host.proofs.Returned.{run-returns}
 use borrow.Author.Needs.{needs}
 use Rattle.host.proofs.fresh_run.Statement.{statement}
@@ -10,7 +9,7 @@ run-fresh-requires : tie.Need-run-fresh-requires
 run-fresh-requires c κs = search needs
 
 result-number-requires : tie.Need-result-number-requires
-result-number-requires c κs = fresh-low _ _ _ (c .before .before .before .before .run-fresh .ensures)
+result-number-requires c κs = search needs
 
 same-length : tie.Need-same-length
 same-length c = search needs

@@ -1,6 +1,5 @@
 -- `kept_run` meets its contract.
 use Rattle.sheet.specs.Runs.{keptRun}
-use Rattle.sheet.proofs.Returned.{kept-low}
 use Rattle.host.proofs.Returned.{run-returns}
 use borrow.Author.Needs.{needs}
 use Rattle.host.proofs.kept_run.Statement.{statement}
@@ -10,7 +9,7 @@ run-kept-requires : tie.Need-run-kept-requires
 run-kept-requires c κs = search needs
 
 result-number-requires : tie.Need-result-number-requires
-result-number-requires c κs = kept-low _ _ _ (c .before .before .before .before .run-kept .ensures)
+result-number-requires c κs = search needs
 
 same-length : tie.Need-same-length
 same-length c = search needs

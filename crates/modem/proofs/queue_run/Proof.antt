@@ -1,6 +1,5 @@
 -- `queue_run` meets its contract.
 use mathlib.Core.Path.{refl}
-use Rattle.sheet.proofs.Returned.{fresh-low}
 use Rattle.modem.proofs.Returned.{run-returned}
 use borrow.Author.Needs.{needs}
 use Rattle.modem.proofs.queue_run.Statement.{statement}
@@ -13,7 +12,7 @@ run-fresh-requires : tie.Need-run-fresh-requires
 run-fresh-requires c κs = search needs
 
 result-number-requires : tie.Need-result-number-requires
-result-number-requires c κs = fresh-low _ _ _ (c .before .before .before .run-fresh .ensures)
+result-number-requires c κs = search needs
 
 same-length : tie.Need-same-length
 same-length c = search needs

@@ -20,6 +20,9 @@ returns : tie.Need-returns
 returns c =
     answers-shown _ _ _ (c .before .before .before .before .before .before .run-fresh .ensures) (c .before .if1 .taken)
 
+cast-put-field : tie.Need-cast-put-field
+cast-put-field c = search needs
+
 put-field-requires : tie.Need-put-field-requires
 put-field-requires c κs =
     let ran = c .before .before .before .before .before .before in
@@ -48,6 +51,7 @@ answer-sheet-spec =
     same-length
     same-length-2
     returns
+    cast-put-field
     put-field-requires
     same-length-3
     same-length-4

@@ -1,5 +1,5 @@
 -- `check_limits` meets its contract: the conditions in the table's order.
-use Rattle.sheet.proofs.Booleans.{denied, not-denied}
+use Rattle.soundness.proofs.Booleans.{told-false, told-true}
 use Rattle.sheet.proofs.Limits.{met, code-1, code-2, code-3, code-4, none-met}
 use borrow.Author.Needs.{needs}
 use Rattle.sheet.proofs.check_limits.Statement.{statement}
@@ -13,7 +13,7 @@ beyond-requires c κs = search needs
 
 returns : tie.Need-returns
 returns c =
-    met 0 (code-1 _ _ _ (denied _ (c .before .before .is-store .ensures) (c .before .if1 .taken))) (c .beyond .ensures)
+    met 0 (code-1 _ _ _ (told-false _ _ (c .before .before .is-store .ensures) (c .before .if1 .taken))) (c .beyond .ensures)
 
 beyond-requires-2 : tie.Need-beyond-requires-2
 beyond-requires-2 c κs = search needs
@@ -21,7 +21,7 @@ beyond-requires-2 c κs = search needs
 returns-2 : tie.Need-returns-2
 returns-2 c =
     let test = c .before .before in
-    met 1 (code-2 _ _ _ (not-denied _ (test .before .is-store .ensures) (test .if1 .left)) (c .before .if2 .taken))
+    met 1 (code-2 _ _ _ (told-true _ _ (test .before .is-store .ensures) (test .if1 .left)) (c .before .if2 .taken))
     (c .beyond2 .ensures)
 
 line-count-requires : tie.Need-line-count-requires
@@ -35,7 +35,7 @@ returns-3 c =
     let count = c .before .before in
     let test = count .before .before in
     met 2
-    (code-3 _ _ _ (not-denied _ (test .before .is-store .ensures) (test .if1 .left)) (count .before .if2 .left)
+    (code-3 _ _ _ (told-true _ _ (test .before .is-store .ensures) (test .if1 .left)) (count .before .if2 .left)
     (count .line-count .ensures) (c .before .if3 .taken))
     (c .beyond3 .ensures)
 
@@ -50,7 +50,7 @@ returns-4 c =
     let count = c .before .before .before in
     let test = count .before .before in
     met 3
-    (code-4 _ _ _ (not-denied _ (test .before .is-store .ensures) (test .if1 .left)) (count .before .if2 .left)
+    (code-4 _ _ _ (told-true _ _ (test .before .is-store .ensures) (test .if1 .left)) (count .before .if2 .left)
     (count .line-count .ensures) (c .before .before .if3 .left) (c .before .if4 .taken))
     (c .beyond4 .ensures)
 
@@ -65,7 +65,7 @@ returns-5 c =
     let room = c .before in
     let count = room .before .before in
     let test = count .before .before in
-    none-met _ _ _ (not-denied _ (test .before .is-store .ensures) (test .if1 .left)) (count .before .if2 .left)
+    none-met _ _ _ (told-true _ _ (test .before .is-store .ensures) (test .if1 .left)) (count .before .if2 .left)
     (count .line-count .ensures) (room .before .if3 .left) (room .if4 .left) (c .items-of .ensures)
 
 pub check-limits-spec : {M : Type 1} → statement M

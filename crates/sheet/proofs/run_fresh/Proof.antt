@@ -8,6 +8,9 @@ use Rattle.sheet.proofs.run_fresh.Tie as tie
 check-limits-requires : tie.Need-check-limits-requires
 check-limits-requires c κs = search needs
 
+refused-requires : tie.Need-refused-requires
+refused-requires c κs = search needs
+
 same-length : tie.Need-same-length
 same-length c = search needs
 
@@ -15,7 +18,7 @@ same-length-2 : tie.Need-same-length-2
 same-length-2 c = search needs
 
 returns : tie.Need-returns
-returns c = fresh-refused (c .before .check-limits .ensures) (c .if1 .taken)
+returns c = fresh-refused (c .before .before .check-limits .ensures) (c .before .if1 .taken) (c .refused .ensures)
 
 make-empty-requires : tie.Need-make-empty-requires
 make-empty-requires c κs =
@@ -58,6 +61,7 @@ run-fresh-spec =
     tie.close
     (tie.spec
     check-limits-requires
+    refused-requires
     same-length
     same-length-2
     returns

@@ -1,6 +1,6 @@
 -- `run_kept` meets its contract.
 use native.Mathlib.Omega.{arith}
-use Rattle.sheet.proofs.Booleans.{denied, not-denied}
+use Rattle.soundness.proofs.Booleans.{told-false, told-true}
 use Rattle.sheet.proofs.Leaves.{kept-refused, unsound, kept-runnable, kept-fits, kept-ran}
 use borrow.Author.Needs.{needs}
 use Rattle.sheet.proofs.run_kept.Statement.{statement}
@@ -9,6 +9,9 @@ use Rattle.sheet.proofs.run_kept.Tie as tie
 check-limits-requires : tie.Need-check-limits-requires
 check-limits-requires c κs = search needs
 
+refused-requires : tie.Need-refused-requires
+refused-requires c κs = search needs
+
 same-length : tie.Need-same-length
 same-length c = search needs
 
@@ -16,10 +19,13 @@ same-length-2 : tie.Need-same-length-2
 same-length-2 c = search needs
 
 returns : tie.Need-returns
-returns c = kept-refused (c .before .check-limits .ensures) (c .if1 .taken)
+returns c = kept-refused (c .before .before .check-limits .ensures) (c .before .if1 .taken) (c .refused .ensures)
 
 sound-requires : tie.Need-sound-requires
 sound-requires c κs = search needs
+
+refused-requires-2 : tie.Need-refused-requires-2
+refused-requires-2 c κs = search needs
 
 same-length-3 : tie.Need-same-length-3
 same-length-3 c = search needs
@@ -29,10 +35,10 @@ same-length-4 c = search needs
 
 returns-2 : tie.Need-returns-2
 returns-2 c =
-    let check = c .before in
+    let check = c .before .before in
     let test = check .before .before in
     unsound (test .before .check-limits .ensures) (test .if1 .left)
-    (denied _ (check .sound .ensures) (c .if2 .taken))
+    (told-false _ _ (check .sound .ensures) (c .before .if2 .taken)) (c .refused2 .ensures)
 
 run-lines-requires : tie.Need-run-lines-requires
 run-lines-requires c κs =
@@ -40,7 +46,7 @@ run-lines-requires c κs =
     let check = passed .before in
     let test = check .before .before in
     kept-runnable (test .before .check-limits .ensures) (test .if1 .left)
-    (not-denied _ (check .sound .ensures) (passed .if2 .left))
+    (told-true _ _ (check .sound .ensures) (passed .if2 .left))
 
 cast-t19 : tie.Need-cast-t19
 cast-t19 c =
@@ -51,7 +57,7 @@ cast-t19 c =
     omega (
       arith,
       kept-fits (test .before .check-limits .ensures) (test .if1 .left)
-          (not-denied _ (check .sound .ensures) (passed .if2 .left)) (ran .run-lines .ensures),
+          (told-true _ _ (check .sound .ensures) (passed .if2 .left)) (ran .run-lines .ensures),
     )
 
 same-length-5 : tie.Need-same-length-5
@@ -67,17 +73,19 @@ returns-3 c =
     let check = passed .before in
     let test = check .before .before in
     kept-ran (test .before .check-limits .ensures) (test .if1 .left)
-    (not-denied _ (check .sound .ensures) (passed .if2 .left)) (ran .run-lines .ensures)
+    (told-true _ _ (check .sound .ensures) (passed .if2 .left)) (ran .run-lines .ensures)
 
 pub run-kept-spec : {M : Type 1} → statement M
 run-kept-spec =
     tie.close
     (tie.spec
     check-limits-requires
+    refused-requires
     same-length
     same-length-2
     returns
     sound-requires
+    refused-requires-2
     same-length-3
     same-length-4
     returns-2

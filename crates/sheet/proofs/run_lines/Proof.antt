@@ -4,7 +4,7 @@ use mathlib.Core.Path.{sym, _∙_}
 use native.Mathlib.Omega.{arith}
 use lib.ListN.{length}
 use Rattle.text.proofs.Wrote.{wrote-length}
-use Rattle.sheet.proofs.LineFound.{found}
+use Rattle.lines.proofs.LineFound.{found}
 use Rattle.sheet.proofs.RanLines.{Going, none-done, answerable, one-more, all-done}
 use borrow.Author.Needs.{needs}
 use Rattle.sheet.proofs.run_lines.Statement.{statement}

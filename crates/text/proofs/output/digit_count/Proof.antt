@@ -1,8 +1,7 @@
 -- `digit_count` meets its contract: the number lies between two powers of ten.
 use mathlib.Core.Path.{sym}
 use native.Mathlib.Omega.{arith}
-use Rattle.text.proofs.Decimal.{length-low}
-use Rattle.text.proofs.DigitCount.{digits-between}
+use Rattle.text.proofs.Decimal.{digits-between, length-low}
 use Rattle.text.proofs.output.digit_count.Statement.{statement}
 use Rattle.text.proofs.output.digit_count.Tie as tie
 

@@ -1,0 +1,50 @@
+-- The numbers of a line are words, whatever bytes it has.
+use Prim.Native.Nat.{ℕ, _≤_}
+use mathlib.Core.List.{List, [], _∷_, map}
+use native.Mathlib.Omega.{arith}
+use lib.ListN.{getD}
+use lib.Dec.{eqb}
+use Rattle.rules.specs.Theorems.{InRange}
+use Rattle.rules.proofs.Answers.{AllInRange}
+use Rattle.text.specs.declared.Numbers.{Numbers}
+use Rattle.text.specs.declared.Numbers.the-variants.{One, Other, Three, Two}
+use Rattle.text.specs.Fields.{NumbersFit, fieldAt, numbersFrom}
+use Rattle.text.specs.Lines.{lines}
+use Rattle.text.specs.Numbers.{largest}
+use Rattle.text.proofs.Cases.{by-cond}
+use Rattle.text.proofs.Range.{field-in-range, numbers-in-range}
+use Rattle.lines.specs.Parse.{callOf, lineOf, linesOf, ofOne, ofThree, ofTwo}
+
+one-range : (letter x : ℕ) → InRange (ofOne letter x)
+unfolding InRange ofOne
+one-range letter x =
+    by-cond InRange (eqb letter 77) tt (by-cond InRange (eqb letter 84) tt (by-cond InRange (eqb letter 88) tt tt))
+
+two-range : (letter x y : ℕ) → InRange (ofTwo letter x y)
+unfolding InRange ofTwo
+two-range letter x y = by-cond InRange (eqb letter 68) tt (by-cond InRange (eqb letter 74) tt tt)
+
+three-range : (letter x y z : ℕ) → z ≤ largest → InRange (ofThree letter x y z)
+unfolding InRange ofThree
+three-range letter x y z k = by-cond InRange (eqb letter 73) (omega arith) tt
+
+call-range : (letter : ℕ) (n : Numbers) → NumbersFit n → InRange (callOf letter n)
+unfolding callOf InRange NumbersFit
+call-range letter (One x) r = one-range letter x
+call-range letter (Two x y) r = two-range letter x y
+call-range letter (Three x y z) r = three-range letter x y z (r .2)
+call-range letter Other r = tt
+
+pub line-range : (bytes : List ℕ) → InRange (lineOf bytes)
+unfolding lineOf
+line-range bytes =
+    call-range (getD bytes 0 0) (numbersFrom bytes (fieldAt bytes 1))
+    (numbers-in-range bytes (fieldAt bytes 1) (field-in-range bytes 1))
+
+all-range : (ls : List (List ℕ)) → AllInRange (map lineOf ls)
+all-range [] = tt
+all-range (l ∷ ls) = (line-range l, all-range ls)
+
+pub lines-range : (sheet : List ℕ) → AllInRange (linesOf sheet)
+unfolding linesOf
+lines-range sheet = all-range (lines sheet)

@@ -1,0 +1,6 @@
+pub mod LinesOf
+pub mod InRange
+pub mod Parsing
+pub mod LineAt
+pub mod LineFound
+pub mod Printed
