@@ -13,4 +13,3 @@ pub mod Answered
 pub mod CutIf
 pub mod Decreasing
 pub mod Deleting
-pub mod KeepsSound

@@ -28,6 +28,7 @@ pub mod CallsKeep
 pub mod Ledger
 pub mod Lists
 pub mod Counts
+pub mod KeepsSound
 pub mod KeepsWellFormed
 pub mod RankOfAny
 pub mod EmptyForests

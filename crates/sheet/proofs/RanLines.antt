@@ -7,11 +7,10 @@ use lib.ListN.{length, drop}
 use Rattle.rules.specs.declared.Line.{Line}
 use Rattle.rules.specs.Answers.{after, answer, answers}
 use Rattle.rules.specs.Forests.{Forests}
-use Rattle.rules.specs.WellFormed.{WellFormed}
 use Rattle.rules.specs.Words.{Sound, encode, forestsOf}
-use Rattle.rules.proofs.KeepsWellFormed.{keepsWellFormed}
+use Rattle.rules.proofs.KeepsSound.{next-forests, next-sound}
 use Rattle.rules.proofs.ReplyBounds.{answer-small}
-use Rattle.rules.proofs.SoundWords.{forests-encode, sound-encode, sound-forests, sound-words}
+use Rattle.rules.proofs.SoundWords.{sound-forests, sound-words}
 use Rattle.text.specs.Output.{Wrote}
 use Rattle.text.proofs.Wrote.{wrote-length, wrote-none, wrote-then}
 use Rattle.sheet.specs.Promises.{Answerable, Answered, RanLines, Runnable}
@@ -63,9 +62,6 @@ module _ {w₀ sheet out₀ w out : List ℕ} {at to : ℕ} (G : Going w₀ shee
         range = F .range;
       }
 
-  next-formed : WellFormed ((answer s l) .next)
-  next-formed = keepsWellFormed s (sound-forests w (G .sound)) l (F .range)
-
   short : length (answerRow ((answer s l) .reply)) ≤ 32
   short = row-32 _ (answer-small s (sound-forests w (G .sound)) l (F .range))
 
@@ -73,9 +69,9 @@ module _ {w₀ sheet out₀ w out : List ℕ} {at to : ℕ} (G : Going w₀ shee
       → Going w₀ sheet out₀ w′ out′ (e + 1) to′
   unfolding after answers printed
   one-more {w′} {out′} {to′} k A =
-      let t : forestsOf w′ ≡ (answer s l) .next = ap forestsOf (A .words) ∙ forests-encode _ next-formed in
+      let t : forestsOf w′ ≡ (answer s l) .next = next-forests l (G .sound) (F .range) (A .words) in
       record {
-        sound = rw (A .words) (sound-encode _ next-formed);
+        sound = next-sound l (G .sound) (F .range) (A .words);
         done = G .done ++ answerRow ((answer s l) .reply);
         wrote = wrote-then (G .wrote) (A .wrote);
         forests = G .forests ∙ rw (F .rest, t);
