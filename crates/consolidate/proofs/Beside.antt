@@ -2,7 +2,7 @@
 use Prim.Native.Nat.{ℕ, suc, _<_}
 use mathlib.Core.Path.{_≡_, refl, sym, ap, _∙_}
 use mathlib.Core.Logic.{_≢_}
-use mathlib.Core.List.{List}
+use mathlib.Core.List.{List, [], _∷_}
 use mathlib.Core.Bool.{Bool, true, false, cond}
 use native.Mathlib.Omega.{arith}
 use lib.Dec.{eqb}
@@ -22,21 +22,35 @@ use Rattle.rules.specs.declared.Field.the-variants.{
   Rank,
   State,
 }
-use Rattle.rules.specs.Forests.{Forests, none, rowOf, childrenOf, parentOf, heapOf, heapNumber, tableSize, count}
+use Rattle.rules.specs.Forests.{
+  Forests,
+  none,
+  rowOf,
+  childrenOf,
+  parentOf,
+  keyOf,
+  markOf,
+  heapOf,
+  heapNumber,
+  rankOf,
+  tableSize,
+  count,
+}
 use Rattle.rules.specs.Lists.{occurs}
 use Rattle.rules.specs.Order.{minimum}
 use Rattle.rules.specs.WellFormed.{Disjoint}
-use Rattle.rules.specs.Words.{room, nextIn, prevIn, siblings, unlessFree, word, encode}
+use Rattle.rules.specs.Words.{room, nextIn, prevIn, siblings, unlessFree, stateOf, word, encode}
+use Rattle.rules.proofs.ByKind.{apart-some, by-kinds}
 use Rattle.rules.proofs.Members.{root-row, parent-child}
 use Rattle.rules.proofs.Occurs.{and-false}
 use Rattle.rules.proofs.SiblingLists.{siblings-row, siblings-children}
 use Rattle.store.specs.Families.{Holds, wordBut}
 use Rattle.store.specs.Says.{Values}
-use Rattle.store.proofs.Encoded.{disjoint-shape, holds-encode}
+use Rattle.store.proofs.Encoded.{but-minima, disjoint-shape, holds-encode}
 use Rattle.store.proofs.Holds.{holds-says, says-holds}
 use Rattle.store.proofs.Says.{says-as}
 use Rattle.consolidate.specs.Chain.{Chain}
-use Rattle.consolidate.specs.Stored.{Beside, Rowed}
+use Rattle.consolidate.specs.Stored.{linked, Beside, Rowed}
 
 module _ (s : Forests) (D : Disjoint s) where
   -- no child of q: a free item, or one with another parent
@@ -51,6 +65,29 @@ module _ (s : Forests) (D : Disjoint s) where
 
   pub other-row : (g y : ℕ) → heapOf s y ≢ suc g → occurs y (rowOf s g) ≡ 0
   other-row g y n = D .inRow g y ∙ rw (ne-eqb (heapOf s y) (suc g) n)
+
+-- ---- the words of one kind
+
+module _ {n h : ℕ} {v : Values} {t : Forests} (B : Beside n h v t) where
+  pub beside-key : (i : ℕ) → i < n → v Key i ≡ keyOf t i
+  unfolding word
+  beside-key = B .words Key refl
+
+  pub beside-parent : (i : ℕ) → i < n → v Parent i ≡ parentOf t i
+  unfolding word
+  beside-parent = B .words Parent refl
+
+  pub beside-rank : (i : ℕ) → i < n → v Rank i ≡ rankOf t i
+  unfolding word
+  beside-rank = B .words Rank refl
+
+  pub beside-state : (i : ℕ) → i < n → v State i ≡ stateOf (heapOf t i) (markOf t i)
+  unfolding word
+  beside-state = B .words State refl
+
+  pub beside-count : (g : ℕ) → g < 8 → v Count g ≡ count t g
+  unfolding word
+  beside-count = B .words Count refl
 
 -- ---- the words of disjoint forests, as chains
 
@@ -88,15 +125,11 @@ module _ (t : Forests) (D : Disjoint t) where
         says = holds-says H;
         beside = record {
           size = e;
-          keys = λ i k. refl;
-          parents = λ i k. refl;
-          ranks = λ i k. refl;
-          states = λ i k. refl;
+          words = λ f a. but-minima n counts minima t c f (apart-some linked (Minimum ∷ []) f refl a);
           frees = λ i k z. (rw z, rw z, rw z, rw z);
           families = λ p k f. family-chain p (omega (arith, e)) f;
           otherRows = λ g k d. row-chain g;
           minima = m;
-          counts = c;
         };
         row = row-chain h;
         least = refl;
@@ -158,18 +191,15 @@ module _ (t : Forests) (D : Disjoint t) where
 
     same : (f : Field) (i : ℕ) → i < room n f → v f i ≡ wordBut (count t) minima t f i
     unfolding wordBut word
-    same FirstTree g k = row-of g k .front
-    same LastTree g k = row-of g k .back
-    same Minimum g k = least-of g k
-    same Count g k = B .counts g k
-    same Key i k = B .keys i k
-    same Parent i k = B .parents i k
-    same FirstChild i k = byHeap i (λ e. B .frees i k e .0) (λ e. B .families i k e .front)
-    same LastChild i k = byHeap i (λ e. B .frees i k e .1) (λ e. B .families i k e .back)
-    same Next i k = byHeap i (λ e. B .frees i k e .2) (λ e. links-of i e .0)
-    same Prev i k = byHeap i (λ e. B .frees i k e .3) (λ e. links-of i e .1)
-    same Rank i k = B .ranks i k
-    same State i k = B .states i k
+    same =
+        by-kinds linked (λ f. (i : ℕ) → i < room n f → v f i ≡ wordBut (count t) minima t f i)
+        (λ g k. row-of g k .front) (λ g k. row-of g k .back) least-of
+        (λ i k. byHeap i (λ e. B .frees i k e .0) (λ e. B .families i k e .front))
+        (λ i k. byHeap i (λ e. B .frees i k e .1) (λ e. B .families i k e .back))
+        (λ i k. byHeap i (λ e. B .frees i k e .2) (λ e. links-of i e .0))
+        (λ i k. byHeap i (λ e. B .frees i k e .3) (λ e. links-of i e .1))
+        (λ f a i k. B .words f a i k
+        ∙ sym (but-minima n (count t) minima t (λ _ _. refl) f (apart-some linked (Minimum ∷ []) f refl a) i k))
 
     pub rowed-holds : Holds n w (count t) (λ g. cond (eqb g h) m (minimum t g)) t none
     rowed-holds =

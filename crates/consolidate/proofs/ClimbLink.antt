@@ -29,6 +29,7 @@ use Rattle.store.specs.ItemOrder.{itemKey}
 use Rattle.store.specs.Says.{Changes}
 use Rattle.store.specs.Siblings.{AppendReady, RankRises, appended, lastOf}
 use Rattle.consolidate.specs.Consolidating.{Consolidating}
+use Rattle.consolidate.proofs.Beside.{beside-rank}
 use Rattle.consolidate.proofs.LinkWords.{keeps, link-beside}
 use Rattle.consolidate.proofs.Climbing.{
   Climbing,
@@ -154,7 +155,7 @@ module _ {n h base : ℕ} {rest : List ℕ} {goal : Linking} {w ps : List ℕ} {
         rank = omega (
           arith,
           G .state .says .says Rank first first-inside,
-          G .state .beside .ranks first first-inside,
+          beside-rank (G .state .beside) first first-inside,
           first-rank,
           rank-inside G,
         );

@@ -19,6 +19,7 @@ use Rattle.store.specs.Says.{Says, Values}
 use Rattle.store.proofs.ItemOrder.{key-is, key-says}
 use Rattle.consolidate.specs.Consolidating.{Consolidating, Settled, settle}
 use Rattle.consolidate.specs.Stored.{Beside}
+use Rattle.consolidate.proofs.Beside.{beside-key, beside-rank}
 
 -- a read past no default
 pub getD-any : (l : List ℕ) (i a b : ℕ) → i < length l → getD l i a ≡ getD l i b
@@ -29,7 +30,7 @@ getD-any (x ∷ l) (suc i) a b k = getD-any l i a b (omega arith)
 -- the keys by the words are those of the forests, and so is the order
 pub key-beside : {n h : ℕ} {w : List ℕ} {v : Values} {t : Forests} → Says n w v → Beside n h v t → (i : ℕ) → i < n
     → itemKey (look n w) i ≡ keyOf t i
-key-beside {v = v} {t = t} s B i k = key-says s i k ∙ key-is v t i (B .keys i k)
+key-beside {v = v} {t = t} s B i k = key-says s i k ∙ key-is v t i (beside-key B i k)
 
 pub before-says : {n h : ℕ} {w : List ℕ} {v : Values} {t : Forests} → Says n w v → Beside n h v t → (a b : ℕ) → a < n
     → b < n → comesBefore (itemKey (look n w)) a b ≡ precedes (t .key) a b
@@ -62,7 +63,7 @@ pub climb-starts : (n h base k : ℕ) (rest w ps : List ℕ) (t : Forests) (x li
 unfolding settle
 climb-starts n h base k rest w ps t x links r C e f q =
     let i : x < n = omega (arith, C .beside .size, x-heap h (C .heap) ps rest x t (held C)) in
-    let z : r ≡ rankOf t x = q ∙ C .says .says Rank x i ∙ C .beside .ranks x i in
+    let z : r ≡ rankOf t x = q ∙ C .says .says Rank x i ∙ beside-rank (C .beside) x i in
     rw z (record {
       here = t;
       made = k;

@@ -24,7 +24,7 @@ use Rattle.consolidate.specs.Consolidating.{ConsolidateReady, Consolidat
 use Rattle.consolidate.specs.Extract.{ExtractReady, Performs}
 use Rattle.consolidate.specs.Removed.{RemovesRoot, RootOf, RootReady}
 use Rattle.consolidate.specs.Stored.{Rowed}
-use Rattle.consolidate.proofs.Beside.{holds-rowed}
+use Rattle.consolidate.proofs.Beside.{beside-key, holds-rowed}
 
 module _ {n h links : ℕ} {w : List ℕ} (P : ExtractReady n w h links) where
   abbrev t : Forests
@@ -116,7 +116,7 @@ module _ {n h links : ℕ} {w : List ℕ} (P : ExtractReady n w h links) where
           (let C = f (minimum (decode n w) h) (removeRoot h x (decode n w)) after-rowed after-formed in
           record {
             items = refl;
-            keys = ek ∙ sound-rowed .says .says Key x least-inside ∙ sound-rowed .beside .keys x least-inside;
+            keys = ek ∙ sound-rowed .says .says Key x least-inside ∙ beside-key (sound-rowed .beside) x least-inside;
             count = C .count;
             words = C .words;
           })

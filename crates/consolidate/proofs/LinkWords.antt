@@ -7,35 +7,39 @@ use native.Mathlib.Omega.{arith}
 use lib.ListN.{length-append}
 use lib.Seq.{getD-set-same, getD-set-other}
 use borrow.Author.Tests.{ne-eqb}
+use Rattle.rules.specs.declared.Field.{Field}
 use Rattle.rules.specs.declared.Field.the-variants.{
   FirstTree,
   LastTree,
   Minimum,
-  Count,
-  Key,
+  Parent,
   FirstChild,
   LastChild,
   Next,
   Prev,
+  Rank,
   State,
 }
 use Rattle.rules.specs.Consolidate.{link}
-use Rattle.rules.specs.Forests.{Forests, none, rowOf, childrenOf, parentOf, heapOf, setRow, tableSize, count}
+use Rattle.rules.specs.Forests.{Forests, none, rowOf, childrenOf, parentOf, heapOf, setRow, tableSize}
 use Rattle.rules.specs.Lists.{occurs}
 use Rattle.rules.specs.Order.{minimum}
 use Rattle.rules.specs.WellFormed.{Disjoint}
-use Rattle.rules.specs.Words.{stateOf}
+use Rattle.rules.specs.Words.{stateOf, word}
+use Rattle.rules.proofs.ByKind.{also, apart-some, by-others}
 use Rattle.rules.proofs.Excused.{Formed}
 use Rattle.rules.proofs.LinkKeeps.{in-row}
 use Rattle.rules.proofs.Members.{heap-in, out-heap, not-none, row-root, child-parent, root-child}
 use Rattle.rules.proofs.Occurs.{byItem, eqb-self}
+use Rattle.rules.proofs.Parts.{rows, keys, heaps, kept-words}
 use Rattle.rules.proofs.SiblingLists.{once-children}
 use Rattle.store.specs.declared.Owner.the-variants.{Children}
 use Rattle.store.specs.Says.{Values}
 use Rattle.store.specs.Siblings.{appended}
+use Rattle.store.proofs.ConcatWords.{linkKinds}
 use Rattle.consolidate.specs.Chain.{Chain}
-use Rattle.consolidate.specs.Stored.{Beside}
-use Rattle.consolidate.proofs.Beside.{not-child, free-child}
+use Rattle.consolidate.specs.Stored.{linked, Agree, Beside}
+use Rattle.consolidate.proofs.Beside.{beside-parent, beside-rank, beside-state, not-child, free-child}
 use Rattle.consolidate.proofs.Chains.{chain-append, chain-frame, last-apart}
 use Rattle.consolidate.proofs.MoveWords.{
   child-next,
@@ -124,35 +128,57 @@ module _ (n h : ℕ) (v : Values) (t : Forests) (ρ : List ℕ) (S : Formed (set
     keeps y (some y k) (λ z. omega (arith, l-root .0, ap (heapOf t) z)) (free-child old D a y a-in e),
   )
 
+  -- the kinds of which a link changes words, beside the links
+  abbrev changed : List Field
+  changed = Parent ∷ Rank ∷ State ∷ []
+
+  abbrev all : List Field
+  all = also changed linked
+
+  new-parent : Agree n v′ (link a l t) Parent
+  unfolding link word
+  new-parent =
+      byItem l
+      (λ k. word-parent a l v l
+      ∙ rw (eqb-self l) (sym (getD-set-same (t .parent) l a 0 (omega (arith, D .parentN, l-in)))))
+      (λ i m k. word-parent a l v i
+      ∙ rw (ne-eqb l i (λ e. m (sym e))) (beside-parent B i k ∙ sym (getD-set-other (t .parent) l i a 0 m)))
+
+  new-rank : Agree n v′ (link a l t) Rank
+  unfolding link word
+  new-rank =
+      byItem a
+      (λ k. child-rank a l v a
+      ∙ rw (
+        eqb-self a,
+        getD-set-same (t .children) a (childrenOf t a ++ (l ∷ [])) [] (omega (arith, D .childrenN, a-in)),
+      ) (omega (arith, beside-rank B a k, length-append (childrenOf t a) (l ∷ []))))
+      (λ i m k. child-rank a l v i
+      ∙ rw (
+        ne-eqb a i (λ e. m (sym e)),
+        getD-set-other (t .children) a i (childrenOf t a ++ (l ∷ [])) [] m,
+      ) (beside-rank B i k))
+
+  -- l is a root, which has no mark, and its mark is taken away
+  new-state : Agree n v′ (link a l t) State
+  unfolding link word
+  new-state =
+      byItem l
+      (λ k. child-other a l v State l refl ∙ beside-state B l k
+      ∙ ap (stateOf (heapOf t l))
+      (D .bare l (l-root .1) ∙ sym (getD-set-same (t .mark) l 0 0 (omega (arith, D .markN, l-in)))))
+      (λ i m k. child-other a l v State i refl ∙ beside-state B i k
+      ∙ ap (stateOf (heapOf t i)) (sym (getD-set-other (t .mark) l i 0 0 m)))
+
   pub link-beside : Beside n h (appended (Children a) l v) (link a l t)
-  unfolding link minimum count
+  unfolding link minimum
   link-beside =
       record {
         size = B .size;
-        keys = λ i k. child-other a l v Key i refl refl refl ∙ B .keys i k;
-        parents = byItem l
-            (λ k. word-parent a l v l
-            ∙ rw (eqb-self l) (sym (getD-set-same (t .parent) l a 0 (omega (arith, D .parentN, l-in)))))
-            (λ i m k. word-parent a l v i
-            ∙ rw (ne-eqb l i (λ e. m (sym e))) (B .parents i k ∙ sym (getD-set-other (t .parent) l i a 0 m)));
-        ranks = byItem a
-            (λ k. child-rank a l v a
-            ∙ rw (
-              eqb-self a,
-              getD-set-same (t .children) a (childrenOf t a ++ (l ∷ [])) []
-                  (omega (arith, D .childrenN, a-in)),
-            ) (omega (arith, B .ranks a k, length-append (childrenOf t a) (l ∷ []))))
-            (λ i m k. child-rank a l v i
-            ∙ rw (
-              ne-eqb a i (λ e. m (sym e)),
-              getD-set-other (t .children) a i (childrenOf t a ++ (l ∷ [])) [] m,
-            ) (B .ranks i k));
-        states = byItem l
-            (λ k. child-other a l v State l refl refl refl ∙ B .states l k
-            ∙ ap (stateOf (heapOf t l))
-            (D .bare l (l-root .1) ∙ sym (getD-set-same (t .mark) l 0 0 (omega (arith, D .markN, l-in)))))
-            (λ i m k. child-other a l v State i refl refl refl ∙ B .states i k
-            ∙ ap (stateOf (heapOf t i)) (sym (getD-set-other (t .mark) l i 0 0 m)));
+        words = by-others linked changed (Agree n v′ (link a l t)) new-parent new-rank new-state (λ f o i k.
+            child-other a l v f i (apart-some all (Parent ∷ Rank ∷ linkKinds (Children a)) f refl o)
+            ∙ B .words f (apart-some all linked f refl o) i k
+            ∙ kept-words (rows ∷ keys ∷ heaps ∷ []) all t (link a l t) refl refl refl refl f o i);
         frees = λ i k e.
             let f = free-member i (omega (arith, B .size)) e in
             let g = B .frees i k e in
@@ -175,9 +201,8 @@ module _ (n h : ℕ) (v : Values) (t : Forests) (ρ : List ℕ) (S : Formed (set
             (other-chain (childrenOf t p) (B .families p k f)
             (λ y i. child-member p y (omega (arith, B .size)) m i)));
         otherRows = λ g k m. rw (
-          child-other a l v FirstTree g refl refl refl,
-          child-other a l v LastTree g refl refl refl,
+          child-other a l v FirstTree g refl,
+          child-other a l v LastTree g refl,
         ) (other-chain (rowOf t g) (B .otherRows g k m) (λ y i. row-member g y m i));
-        minima = λ g k m. child-other a l v Minimum g refl refl refl ∙ B .minima g k m;
-        counts = λ g k. child-other a l v Count g refl refl refl ∙ B .counts g k;
+        minima = λ g k m. child-other a l v Minimum g refl ∙ B .minima g k m;
       }

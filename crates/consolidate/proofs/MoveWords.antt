@@ -20,7 +20,9 @@ use Rattle.rules.specs.declared.Field.the-variants.{
 }
 use Rattle.rules.specs.Forests.{none}
 use Rattle.rules.specs.Lists.{delta, occurs, sumBy}
-use Rattle.rules.specs.SetWord.{fieldNumber, setWord}
+use Rattle.rules.specs.Kinds.{Apart}
+use Rattle.rules.specs.SetWord.{setWord}
+use Rattle.rules.proofs.ByKind.{apart-from}
 use Rattle.rules.proofs.Occurs.{delta-self, delta-other, eqb-self}
 use Rattle.store.specs.declared.Owner.the-variants.{Row, Children}
 use Rattle.store.specs.Says.{Values}
@@ -38,7 +40,7 @@ use Rattle.store.specs.Siblings.{
   appended,
   removed,
 }
-use Rattle.store.proofs.ConcatWords.{Plain, apart}
+use Rattle.store.proofs.ConcatWords.{linkKinds}
 use Rattle.consolidate.specs.Released.{released}
 
 pub cond-same : (t : Bool) (x : ℕ) → cond t x x ≡ x
@@ -75,12 +77,12 @@ module _ (a x : ℕ) (v : Values) where
   child-rank i = refl
 
   -- all kinds but those six
-  pub child-other : (f : Field) (i : ℕ) → Plain (Children a) f → eqb (fieldNumber Parent) (fieldNumber f) ≡ false
-      → eqb (fieldNumber Rank) (fieldNumber f) ≡ false → appended (Children a) x v f i ≡ v f i
+  pub child-other : (f : Field) (i : ℕ) → Apart (Parent ∷ Rank ∷ linkKinds (Children a)) f
+      → appended (Children a) x v f i ≡ v f i
   unfolding appended joined setNext setFirst setLast firstOf lastOf addRank parentIn
-  child-other f i e p r =
-      let k = apart (Children a) f e in
-      simp (k .first, k .last, k .next, k .prev, p, r)
+  child-other f i o =
+      let e = apart-from (Parent ∷ Rank ∷ linkKinds (Children a)) f o in
+      simp (e FirstChild refl, e LastChild refl, e Next refl, e Prev refl, e Parent refl, e Rank refl)
 
 -- ---- an item at the end of the row of heap h
 
@@ -107,12 +109,11 @@ module _ (h x : ℕ) (v : Values) where
   unfolding appended joined setNext setFirst setLast firstOf lastOf addRank parentIn
   row-parent i = refl
 
-  pub row-other : (f : Field) (i : ℕ) → Plain (Row h) f → eqb (fieldNumber Parent) (fieldNumber f) ≡ false
-      → appended (Row h) x v f i ≡ v f i
+  pub row-other : (f : Field) (i : ℕ) → Apart (Parent ∷ linkKinds (Row h)) f → appended (Row h) x v f i ≡ v f i
   unfolding appended joined setNext setFirst setLast firstOf lastOf addRank parentIn
-  row-other f i e d =
-      let k = apart (Row h) f e in
-      simp (k .first, k .last, k .next, k .prev, d)
+  row-other f i o =
+      let e = apart-from (Parent ∷ linkKinds (Row h)) f o in
+      simp (e FirstTree refl, e LastTree refl, e Next refl, e Prev refl, e Parent refl)
 
 -- ---- an item taken out of the row of heap h
 
@@ -135,21 +136,22 @@ module _ (h x : ℕ) (v : Values) where
   unfolding removed setNext setPrev setFirst setLast firstOf lastOf dropRank
   out-last g = refl
 
-  pub out-other : (f : Field) (i : ℕ) → Plain (Row h) f → removed (Row h) x v f i ≡ v f i
+  pub out-other : (f : Field) (i : ℕ) → Apart (linkKinds (Row h)) f → removed (Row h) x v f i ≡ v f i
   unfolding removed setNext setPrev setFirst setLast firstOf lastOf dropRank
-  out-other f i e =
-      let k = apart (Row h) f e in
-      simp (k .first, k .last, k .next, k .prev)
+  out-other f i o =
+      let e = apart-from (linkKinds (Row h)) f o in
+      simp (e FirstTree refl, e LastTree refl, e Next refl, e Prev refl)
 
 -- ---- released children
 
-pub released-other : (h : ℕ) (cs : List ℕ) (v : Values) (f : Field) (i : ℕ)
-    → eqb (fieldNumber Parent) (fieldNumber f) ≡ false → eqb (fieldNumber State) (fieldNumber f) ≡ false
+pub released-other : (h : ℕ) (cs : List ℕ) (v : Values) (f : Field) (i : ℕ) → Apart (Parent ∷ State ∷ []) f
     → released h cs v f i ≡ v f i
 unfolding released
-released-other h [] v f i e d = refl
-released-other h (c ∷ cs) v f i e d =
-    released-other h cs (setWord State c (1 + 2 * h) (setWord Parent c none v)) f i e d ∙ rw (d, e)
+released-other h [] v f i o = refl
+released-other h (c ∷ cs) v f i o =
+    let e = apart-from (Parent ∷ State ∷ []) f o in
+    released-other h cs (setWord State c (1 + 2 * h) (setWord Parent c none v)) f i o
+    ∙ rw (e State refl, e Parent refl)
 
 pub released-out : (h : ℕ) (cs : List ℕ) (v : Values) (f : Field) (i : ℕ) → occurs i cs ≡ 0
     → released h cs v f i ≡ v f i

@@ -22,8 +22,10 @@ use Rattle.rules.specs.declared.Field.the-variants.{
 use Rattle.rules.specs.Calls.{removeRoot, setFree, release}
 use Rattle.rules.specs.Forests.{Forests, none, rowOf, childrenOf, parentOf, heapOf, tableSize}
 use Rattle.rules.specs.Lists.{occurs, sumBy, without}
-use Rattle.rules.specs.SetWord.{fieldNumber, setWord}
+use Rattle.rules.specs.Kinds.{Apart}
+use Rattle.rules.specs.SetWord.{setWord}
 use Rattle.rules.specs.WellFormed.{Disjoint}
+use Rattle.rules.proofs.ByKind.{apart-some}
 use Rattle.rules.proofs.Members.{heap-in, out-heap, not-none, root-row, root-child, child-parent}
 use Rattle.rules.proofs.Occurs.{eqb-self, delta-self, delta-other, occurs-append, occurs-without}
 use Rattle.rules.proofs.RemoveLinks.{prev-in, next-out}
@@ -35,13 +37,13 @@ use Rattle.store.specs.Empty.{freeItem}
 use Rattle.store.specs.Says.{Values}
 use Rattle.store.specs.Siblings.{firstOf, lastOf, concatenated, removed}
 use Rattle.store.proofs.ConcatWords.{
-  Plain,
   concat-first,
   concat-last,
   concat-next,
   concat-none,
   concat-other,
   concat-prev,
+  linkKinds,
 }
 use Rattle.consolidate.specs.Chain.{Chain}
 use Rattle.consolidate.specs.Released.{released}
@@ -54,6 +56,10 @@ use Rattle.consolidate.proofs.MoveWords.{out-first, out-last, out-next,
 unfoldable pub rootRemoved : ℕ → ℕ → List ℕ → ℕ → ℕ → ℕ → Values → Values
 rootRemoved h x cs a b c v =
     setWord Count h c (freeItem x (concatenated (Row h) a b (released h cs (removed (Row h) x v))))
+
+-- the kinds of which the children that join the row have other words
+abbrev pub moved : ℕ → List Field
+moved h = Parent ∷ State ∷ linkKinds (Row h)
 
 module _ (n h : ℕ) (v : Values) (t : Forests) (D : Disjoint t) (B : Beside n h v t)
     (R : Chain (v FirstTree h) (v LastTree h) (v Next) (v Prev) (rowOf t h)) (x : ℕ) (hx : heapOf t x ≡ suc h)
@@ -117,9 +123,9 @@ module _ (n h : ℕ) (v : Values) (t : Forests) (D : Disjoint t) (B : Beside n h
 
   pub row₂ : Chain (v2 FirstTree h) (v2 LastTree h) (v2 Next) (v2 Prev) (without x row)
   row₂ =
-      rw (released-other h cs v1 FirstTree h refl refl, released-other h cs v1 LastTree h refl refl)
+      rw (released-other h cs v1 FirstTree h refl, released-other h cs v1 LastTree h refl)
       (chain-frame (v2 Next) (v2 Prev) out-chain
-      (λ y i. (released-other h cs v1 Next y refl refl, released-other h cs v1 Prev y refl refl)))
+      (λ y i. (released-other h cs v1 Next y refl, released-other h cs v1 Prev y refl)))
 
   family₂ : Chain (v FirstChild x) (v LastChild x) (v2 Next) (v2 Prev) cs
   family₂ =
@@ -127,7 +133,7 @@ module _ (n h : ℕ) (v : Values) (t : Forests) (D : Disjoint t) (B : Beside n h
       (λ y i.
       let k = child-out y i in
       let e = out-keeps y (k .0) (k .1) in
-      (released-other h cs v1 Next y refl refl ∙ e .0, released-other h cs v1 Prev y refl refl ∙ e .1))
+      (released-other h cs v1 Next y refl ∙ e .0, released-other h cs v1 Prev y refl ∙ e .1))
 
   abbrev after : Forests
   after = removeRoot h x t
@@ -182,7 +188,7 @@ module _ (n h : ℕ) (v : Values) (t : Forests) (D : Disjoint t) (B : Beside n h
       before : (v2 Next y ≡ v Next y) × (v2 Prev y ≡ v Prev y)
       before =
           let e = out-keeps y s k in
-          (released-other h cs v1 Next y refl refl ∙ e .0, released-other h cs v1 Prev y refl refl ∙ e .1)
+          (released-other h cs v1 Next y refl ∙ e .0, released-other h cs v1 Prev y refl ∙ e .1)
 
       go : (b : Bool) → eqb (v FirstChild x) none ≡ b → (v3 Next y ≡ v Next y) × (v3 Prev y ≡ v Prev y)
       go true e =
@@ -229,8 +235,8 @@ module _ (n h : ℕ) (v : Values) (t : Forests) (D : Disjoint t) (B : Beside n h
 
       before : (v2 FirstTree g ≡ v FirstTree g) × (v2 LastTree g ≡ v LastTree g)
       before = (
-        released-other h cs v1 FirstTree g refl refl ∙ out-first h x v g ∙ rw d,
-        released-other h cs v1 LastTree g refl refl ∙ out-last h x v g ∙ rw d,
+        released-other h cs v1 FirstTree g refl ∙ out-first h x v g ∙ rw d,
+        released-other h cs v1 LastTree g refl ∙ out-last h x v g ∙ rw d,
       )
 
       go : (b : Bool) → eqb (v FirstChild x) none ≡ b
@@ -244,10 +250,11 @@ module _ (n h : ℕ) (v : Values) (t : Forests) (D : Disjoint t) (B : Beside n h
             concat-last (v FirstChild x) (v LastChild x) v2 a (Row h) (Row g) ∙ rw d (before .1),
           )
 
-  -- a word of another kind, but for the parents and states
-  pub plain : (f : Field) (i : ℕ) → Plain (Row h) f → eqb (fieldNumber Parent) (fieldNumber f) ≡ false
-      → eqb (fieldNumber State) (fieldNumber f) ≡ false
+  -- a word of another kind
+  pub plain : (f : Field) (i : ℕ) → Apart (moved h) f
       → concatenated (Row h) (v FirstChild x) (v LastChild x) (released h cs (removed (Row h) x v)) f i ≡ v f i
-  plain f i p e d =
-      concat-other (v FirstChild x) (v LastChild x) v2 (Row h) f i p ∙ released-other h cs v1 f i e d
+  plain f i o =
+      let p = apart-some (moved h) (linkKinds (Row h)) f refl o in
+      concat-other (v FirstChild x) (v LastChild x) v2 (Row h) f i p
+      ∙ released-other h cs v1 f i (apart-some (moved h) (Parent ∷ State ∷ []) f refl o)
       ∙ out-other h x v f i p

@@ -25,6 +25,7 @@ use Rattle.store.specs.Siblings.{ConcatReady, Link, RankFalls, RemoveReady, las
 use Rattle.consolidate.specs.Released.{Listed, ReleaseReady, Releases, released}
 use Rattle.consolidate.specs.Removed.{RootOf}
 use Rattle.consolidate.specs.Stored.{Rowed}
+use Rattle.consolidate.proofs.Beside.{beside-count, beside-rank}
 use Rattle.consolidate.proofs.Chains.{head-apart, last-apart}
 use Rattle.consolidate.proofs.RemoveRootLinks.{
   child-out,
@@ -97,7 +98,7 @@ module _ (n h m : ℕ) (w : List ℕ) (t : Forests) (R : Rowed n h m w t) (x : �
         arith,
         ec,
         R .says .says Count h heap-inside,
-        R .beside .counts h heap-inside,
+        beside-count (R .beside) h heap-inside,
         count-left t (removeRoot h x t) h x h (O .member) refl,
         delta-self h,
       )
@@ -114,7 +115,7 @@ module _ (n h m : ℕ) (w : List ℕ) (t : Forests) (R : Rowed n h m w t) (x : �
         record {
           sized = c₁ .sized;
           first = first-is ea ∙ F .front;
-          long = sym (ek ∙ R .says .says Rank x root-inside ∙ R .beside .ranks x root-inside);
+          long = sym (ek ∙ R .says .says Rank x root-inside ∙ beside-rank (R .beside) x root-inside);
           inside = child-inside;
           once = once-children t D x inside;
           nexts = λ y i.
@@ -171,5 +172,5 @@ module _ (n h m : ℕ) (w : List ℕ) (t : Forests) (R : Rowed n h m w t) (x : �
                   (omega (arith, g, some-left ec));
               row = row₅ n h v t D (R .beside) (R .row) x (O .member) (O .root) (c - 1);
               least = plain n h v t D (R .beside) (R .row) x (O .member) (O .root) Minimum h refl
-                  refl refl ∙ R .least;
+                  ∙ R .least;
             }

@@ -10,48 +10,47 @@ use Rattle.rules.specs.declared.Field.the-variants.{
   FirstTree,
   LastTree,
   Minimum,
-  Count,
-  Key,
+  Parent,
   FirstChild,
   LastChild,
   Next,
   Prev,
-  Rank,
-  State,
 }
-use Rattle.rules.specs.Forests.{Forests, none, rowOf, childrenOf, parentOf, heapOf, setRow, tableSize, count}
+use Rattle.rules.specs.Forests.{Forests, none, rowOf, childrenOf, parentOf, heapOf, setRow, tableSize}
 use Rattle.rules.specs.Lists.{delta, occurs, sumBy}
 use Rattle.rules.specs.Order.{minimum}
 use Rattle.rules.specs.SetWord.{setWord}
 use Rattle.rules.specs.WellFormed.{Disjoint}
+use Rattle.rules.specs.Words.{word}
+use Rattle.rules.proofs.ByKind.{apart-from, apart-some, by-others}
 use Rattle.rules.proofs.Members.{heap-in, out-heap, not-none, row-root, child-parent}
 use Rattle.rules.proofs.Occurs.{byItem, eqb-self, delta-self, occurs-append}
+use Rattle.rules.proofs.Parts.{children, parents, keys, marks, heaps, kept-words}
 use Rattle.rules.proofs.SiblingLists.{once-row}
 use Rattle.store.specs.declared.Owner.the-variants.{Row}
 use Rattle.store.specs.Says.{Values}
 use Rattle.store.specs.Siblings.{appended}
+use Rattle.store.proofs.ConcatWords.{linkKinds}
 use Rattle.consolidate.specs.Chain.{Chain}
-use Rattle.consolidate.specs.Stored.{Beside}
-use Rattle.consolidate.proofs.Beside.{not-row, other-row}
+use Rattle.consolidate.specs.Stored.{linked, Agree, Beside}
+use Rattle.consolidate.proofs.Beside.{beside-parent, not-row, other-row}
 use Rattle.consolidate.proofs.Chains.{chain-append, chain-frame, last-apart}
 use Rattle.consolidate.proofs.MoveWords.{row-first, row-last, row-next, row-other, row-parent, row-prev}
 
 module _ {n h : ℕ} {v : Values} {t : Forests} (B : Beside n h v t) where
   -- the row itself is not looked at
   pub beside-row : (r : List ℕ) → Beside n h v (setRow h r t)
-  unfolding minimum count
+  unfolding minimum
   beside-row r =
       record {
         size = B .size;
-        keys = B .keys;
-        parents = B .parents;
-        ranks = B .ranks;
-        states = B .states;
+        words = λ f o i k. B .words f o i k
+            ∙ kept-words (children ∷ parents ∷ keys ∷ marks ∷ heaps ∷ []) linked t (setRow h r t) refl
+            refl refl refl refl refl f o i;
         frees = B .frees;
         families = B .families;
         otherRows = λ g k m. rw (getD-set-other (t .rows) h g r [] m) (B .otherRows g k m);
         minima = λ g k m. rw (getD-set-other (t .rows) h g r [] m) (B .minima g k m);
-        counts = B .counts;
       }
 
   -- nor are its ends
@@ -59,15 +58,13 @@ module _ {n h : ℕ} {v : Values} {t : Forests} (B : Beside n h v t) where
   beside-ends a b =
       record {
         size = B .size;
-        keys = B .keys;
-        parents = B .parents;
-        ranks = B .ranks;
-        states = B .states;
+        words = λ f o i k.
+            let e = apart-from linked f o in
+            rw (e FirstTree refl, e LastTree refl) (B .words f o i k);
         frees = B .frees;
         families = B .families;
         otherRows = λ g k d. rw (ne-eqb h g (λ z. d (sym z))) (B .otherRows g k d);
         minima = B .minima;
-        counts = B .counts;
       }
 
   -- nor its minimum
@@ -75,15 +72,11 @@ module _ {n h : ℕ} {v : Values} {t : Forests} (B : Beside n h v t) where
   beside-minimum m =
       record {
         size = B .size;
-        keys = B .keys;
-        parents = B .parents;
-        ranks = B .ranks;
-        states = B .states;
+        words = λ f o i k. rw (apart-from linked f o Minimum refl) (B .words f o i k);
         frees = B .frees;
         families = B .families;
         otherRows = B .otherRows;
         minima = λ g k d. rw (ne-eqb h g (λ z. d (sym z))) (B .minima g k d);
-        counts = B .counts;
       }
 
 -- ---- a tree at the end of the row, of which m is written and k is to come
@@ -148,29 +141,35 @@ module _ (n h : ℕ) (v : Values) (t : Forests) (D : Disjoint t) (hh : h < 8) (B
       let r = child-parent t D p y j i in
       (heap-in t y (r .0), not-row t D h y (λ z. some p j (sym (r .1) ∙ z)))
 
+  -- x is a root, and all others keep their parents
+  at-x : x < n → v′ Parent x ≡ word t Parent x
+  unfolding word
+  at-x j = row-parent h x v x ∙ rw (eqb-self x) (sym (x-root .1))
+
+  other-parent : (i : ℕ) → i ≢ x → i < n → v′ Parent i ≡ word t Parent i
+  unfolding word
+  other-parent i d j = row-parent h x v i ∙ rw (ne-eqb x i (λ z. d (sym z))) (beside-parent B i j)
+
   pub longer-beside : Beside n h (appended (Row h) x v) t
   longer-beside =
       record {
         size = B .size;
-        keys = λ i j. row-other h x v Key i refl refl ∙ B .keys i j;
-        parents = byItem x (λ j. row-parent h x v x ∙ rw (eqb-self x) (sym (x-root .1)))
-            (λ i d j. row-parent h x v i ∙ rw (ne-eqb x i (λ z. d (sym z))) (B .parents i j));
-        ranks = λ i j. row-other h x v Rank i refl refl ∙ B .ranks i j;
-        states = λ i j. row-other h x v State i refl refl ∙ B .states i j;
+        words = by-others linked (Parent ∷ []) (Agree n v′ t) (byItem x at-x other-parent)
+            (λ f o i j. row-other h x v f i (apart-some (Parent ∷ linked) (Parent ∷ linkKinds (Row h)) f refl o)
+            ∙ B .words f (apart-some (Parent ∷ linked) linked f refl o) i j);
         frees = λ i j z.
             let f = B .frees i j z in
             let g = keeps i (omega (arith, B .size)) (other-row t D h i (λ q. omega (arith, q, z))) in (
-              row-other h x v FirstChild i refl refl ∙ f .0,
-              row-other h x v LastChild i refl refl ∙ f .1,
+              row-other h x v FirstChild i refl ∙ f .0,
+              row-other h x v LastChild i refl ∙ f .1,
               g .0 ∙ f .2,
               g .1 ∙ f .3,
             );
         families = λ p j f. rw (
-          row-other h x v FirstChild p refl refl,
-          row-other h x v LastChild p refl refl,
+          row-other h x v FirstChild p refl,
+          row-other h x v LastChild p refl,
         ) (other-chain (childrenOf t p) (B .families p j f) (λ y i. child-member p y (omega (arith, B .size)) i));
         otherRows = λ g j d. rw (row-first h x v g, row-last h x v g, ne-eqb h g (λ z. d (sym z)))
             (other-chain (rowOf t g) (B .otherRows g j d) (λ y i. row-member g y d i));
-        minima = λ g j d. row-other h x v Minimum g refl refl ∙ B .minima g j d;
-        counts = λ g j. row-other h x v Count g refl refl ∙ B .counts g j;
+        minima = λ g j d. row-other h x v Minimum g refl ∙ B .minima g j d;
       }

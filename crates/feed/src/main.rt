@@ -135,7 +135,7 @@ fn answer_map(
     )
 }
 
-// 8,224 words are a store for 1,024 places; a text of 60,001 bytes is one byte too long.
+// The words are a store for 1,024 places; a text of 60,001 bytes is one byte too long.
 fn main() {
     let mut text = [0u8; 60001];
     let read = io::read_full(STDIN_FILENO, &mut text);
@@ -144,7 +144,7 @@ fn main() {
     let mut loss = [0u32; 4096];
     let mut best = [0u32; 1024];
     let mut last = [0u32; 1024];
-    let mut store = [0u32; 8224];
+    let mut store = [0u32; store::HEAP_WORDS + store::ITEM_WORDS * 1024];
     let mut out = [0u8; 40000];
     let bytes = answer_map(
         &text[..read],

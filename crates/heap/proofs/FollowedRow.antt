@@ -11,6 +11,7 @@ use Rattle.rules.specs.declared.Field.{Field}
 use Rattle.rules.specs.declared.Field.the-variants.{FirstTree, LastTree, Next, Prev}
 use Rattle.store.specs.declared.Owner.the-variants.{Row}
 use Rattle.rules.specs.Forests.{Forests, none, rowOf}
+use Rattle.rules.specs.Kinds.{Apart}
 use Rattle.rules.specs.Lists.{occurs, sumBy}
 use Rattle.rules.specs.WellFormed.{Disjoint}
 use Rattle.rules.specs.Words.{headOr, lastOr, nextIn, prevIn, word}
@@ -22,13 +23,13 @@ use Rattle.rules.proofs.Siblings.{apart, last-in}
 use Rattle.store.specs.Says.{Values}
 use Rattle.store.specs.Siblings.{concatenated, firstOf, lastOf}
 use Rattle.store.proofs.ConcatWords.{
-  Plain,
   concat-first,
   concat-last,
   concat-next,
   concat-none,
   concat-other,
   concat-prev,
+  linkKinds,
 }
 use Rattle.heap.proofs.SoundStore.{row-none}
 
@@ -118,5 +119,5 @@ module _ (t : Forests) (D : Disjoint t) (a : ℕ) where
       ∙ sym (prev-behind none j (rowOf t a) (z ∷ zs) k)
 
   -- the other words stay
-  pub plain-after : (l : List ℕ) (f : Field) (j : ℕ) → Plain (Row a) f → after t a l f j ≡ word t f j
+  pub plain-after : (l : List ℕ) (f : Field) (j : ℕ) → Apart (linkKinds (Row a)) f → after t a l f j ≡ word t f j
   plain-after l = concat-other (headOr none l) (lastOr none l) (word t) (Row a)

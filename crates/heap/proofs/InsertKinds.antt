@@ -13,15 +13,11 @@ use Rattle.rules.specs.declared.Field.{Field}
 use Rattle.rules.specs.declared.Field.the-variants.{
   Count,
   FirstChild,
-  FirstTree,
   Key,
   LastChild,
-  LastTree,
   Minimum,
   Next,
-  Parent,
   Prev,
-  Rank,
   State,
 }
 use Rattle.store.specs.declared.Owner.the-variants.{Row}
@@ -44,16 +40,19 @@ use Rattle.rules.specs.Lists.{delta, occurs}
 use Rattle.rules.specs.Order.{keyIn, leastIn, leastOf, lesser, minimum}
 use Rattle.rules.specs.WellFormed.{Disjoint}
 use Rattle.rules.specs.Words.{headOr, lastOr, nextIn, prevIn, room, siblings, stateOf, unlessFree, word}
+use Rattle.rules.proofs.ByKind.{apart-from, by-kinds}
 use Rattle.rules.proofs.Counts.{count-entered}
 use Rattle.rules.proofs.LeastOfTwo.{least-append, least-other, lesser-keys}
 use Rattle.rules.proofs.Members.{free-children, row-root}
 use Rattle.rules.proofs.Occurs.{delta-other, occurs-one}
+use Rattle.rules.proofs.Parts.{children, marks, parents, rows}
 use Rattle.rules.proofs.SiblingLists.{once-row}
 use Rattle.store.specs.Families.{Family, listOf, loose, ownerOf, wordBut}
 use Rattle.store.specs.ItemOrder.{itemKey}
 use Rattle.store.specs.Says.{Values}
 use Rattle.store.proofs.Families.{getD-set}
 use Rattle.store.proofs.ItemOrder.{key-is}
+use Rattle.store.proofs.KeptWords.{kept-but}
 use Rattle.heap.specs.Entered.{enrolled, entered}
 use Rattle.heap.proofs.SoundStore.{row-none}
 
@@ -107,21 +106,29 @@ module _ (t : Forests) (D : Disjoint t) (h i k : ℕ) (hh : h < 8) (ii : i < tab
       go true e = omega (arith, ap (markOf t) (eqb-true i j e), D .free i fr .2)
       go false e = refl
 
-  pub entered-word : (n : ℕ) → tableSize t ≡ n → (f : Field) (j : ℕ) → j < room n f
-      → entered h i k old f j ≡ loose i 0 0 (wordBut (count t) (minimum t) between) f j
+  abbrev pub Enters : ℕ → Field → Type 0
+  Enters n f =
+      (j : ℕ) → j < room n f → entered h i k old f j ≡ loose i 0 0 (wordBut (count t) (minimum t) between) f j
+
+  -- the kinds of which i has other words than a free item
+  abbrev own : List Field
+  own = Key ∷ FirstChild ∷ LastChild ∷ Next ∷ Prev ∷ State ∷ []
+
+  pub entered-word : (n : ℕ) (f : Field) → Enters n f
   unfolding entered loose wordBut word headOr lastOr
-  entered-word n e FirstTree j l = refl
-  entered-word n e LastTree j l = refl
-  entered-word n e Minimum j l = refl
-  entered-word n e Count j l = refl
-  entered-word n e Key j l = sym (getD-set (t .key) i j k 0 (omega (arith, D .keyN)))
-  entered-word n e Parent j l = refl
-  entered-word n e FirstChild j l = enters none _ j (λ q. ap (headOr none) (childless j q))
-  entered-word n e LastChild j l = enters none _ j (λ q. ap (lastOr none) (childless j q))
-  entered-word n e Next j l = links j (nextIn j)
-  entered-word n e Prev j l = links j (prevIn none j)
-  entered-word n e Rank j l = refl
-  entered-word n e State j l = state j
+  entered-word n =
+      by-kinds own (Enters n)
+      (λ j l. sym (getD-set (t .key) i j k 0 (omega (arith, D .keyN))))
+      (λ j l. enters none _ j (λ q. ap (headOr none) (childless j q)))
+      (λ j l. enters none _ j (λ q. ap (lastOr none) (childless j q)))
+      (λ j l. links j (nextIn j))
+      (λ j l. links j (prevIn none j))
+      (λ j l. state j)
+      (λ f o j l.
+      let e = apart-from own f o in
+      rw (e Key refl, e FirstChild refl, e LastChild refl, e Next refl, e Prev refl, e State refl)
+      (kept-but (rows ∷ children ∷ parents ∷ marks ∷ []) own (count t) (minimum t) t between refl
+      refl refl refl refl f o j))
 
   -- no row has a free item
   pub out : (g : ℕ) → occurs i (rowOf t g) ≡ 0
@@ -159,22 +166,15 @@ module _ (t : Forests) (D : Disjoint t) (h i k : ℕ) (hh : h < 8) (ii : i < tab
   pub enrolled-word : (n : ℕ) (f : Field) (j : ℕ) → j < room n f
       → enrolled h i (wordBut (count t) (minimum t) new) f j ≡ word new f j
   unfolding enrolled wordBut word
-  enrolled-word n FirstTree j l = refl
-  enrolled-word n LastTree j l = refl
-  enrolled-word n Minimum j l =
-      ap (λ m. cond (eqb h j) m (minimum t j))
+  enrolled-word n =
+      by-kinds (Minimum ∷ Count ∷ [])
+      (λ f. (j : ℕ) → j < room n f → enrolled h i (wordBut (count t) (minimum t) new) f j ≡ word new f j)
+      (λ j l. ap (λ m. cond (eqb h j) m (minimum t j))
       (lesser-keys (itemKey (wordBut (count t) (minimum t) new)) (keyOf new) (minimum t h) i
       (λ _. key-is _ new (minimum t h) refl) (λ _. key-is _ new i refl))
-      ∙ least-word j
-  enrolled-word n Count j l = count-word j
-  enrolled-word n Key j l = refl
-  enrolled-word n Parent j l = refl
-  enrolled-word n FirstChild j l = refl
-  enrolled-word n LastChild j l = refl
-  enrolled-word n Next j l = refl
-  enrolled-word n Prev j l = refl
-  enrolled-word n Rank j l = refl
-  enrolled-word n State j l = refl
+      ∙ least-word j)
+      (λ j l. count-word j)
+      (λ f o j l. let e = apart-from (Minimum ∷ Count ∷ []) f o in rw (e Minimum refl, e Count refl))
 
   -- what the row requires of i, before it joins
   pub family : (n : ℕ) → Family n between (Row h)

@@ -50,7 +50,7 @@ module _ {w : List ℕ} {n h i k : ℕ} (A : Allowed w n (Insert h i k)) where
           next = 0;
           prev = 0;
           says = says-as n w₁ _ _ (c₁ .says _ (holds-says H))
-              (entered-word t D h i k (ok .0) (ok .1) (ok .2) n e);
+              (entered-word t D h i k (ok .0) (ok .1) (ok .2) n);
           shape = reshape (setHeap i (suc h) (setKey i k t)) (H .shape) refl refl refl (length-set (t .key) i k) refl
               (length-set (t .heap) i (suc h));
         }

@@ -2,7 +2,7 @@
 use Prim.Native.Nat.{ℕ, suc, _+_, _<_}
 use mathlib.Core.Path.{_≡_, refl, sym, ap, _∙_}
 use mathlib.Core.Logic.{_≢_}
-use mathlib.Core.List.{List, [], _++_}
+use mathlib.Core.List.{List, [], _∷_, _++_}
 use mathlib.Core.Bool.{Bool, true, false, cond}
 use native.Mathlib.Omega.{arith}
 use lib.Dec.{eqb}
@@ -12,14 +12,11 @@ use Rattle.rules.specs.declared.Field.the-variants.{
   Count,
   FirstChild,
   FirstTree,
-  Key,
   LastChild,
   LastTree,
   Minimum,
   Next,
-  Parent,
   Prev,
-  Rank,
   State,
 }
 use Rattle.rules.specs.Calls.{meld, moveHeap}
@@ -28,11 +25,15 @@ use Rattle.rules.specs.Lists.{occurs}
 use Rattle.rules.specs.Order.{leastIn, lesser, minimum}
 use Rattle.rules.specs.WellFormed.{Disjoint}
 use Rattle.rules.specs.Words.{headOr, lastOr, nextIn, prevIn, room, siblings, stateOf, unlessFree, word}
+use Rattle.rules.proofs.ByKind.{apart-from, apart-some, by-kinds}
 use Rattle.rules.proofs.ConcatLinks.{next-behind, prev-before}
 use Rattle.rules.proofs.Counts.{count-meld}
 use Rattle.rules.proofs.LeastOfTwo.{least-append, lesser-keys}
+use Rattle.rules.proofs.Parts.{children, keys, kept-words, parents}
+use Rattle.store.specs.declared.Owner.the-variants.{Row}
 use Rattle.store.specs.Empty.{emptyHeap}
 use Rattle.store.specs.ItemOrder.{itemKey}
+use Rattle.store.proofs.ConcatWords.{linkKinds}
 use Rattle.store.proofs.ItemOrder.{key-is}
 use Rattle.heap.specs.HeapsJoined.{heapsJoined, movedState, poured, rehomed}
 use Rattle.heap.proofs.FollowedRow.{
@@ -153,28 +154,35 @@ module _ (t : Forests) (D : Disjoint t) (a b : ℕ) (o : (a < 8) × (b < 8) × (
       state-moves a b (heapOf t j) (markOf t j) (D .bit j)
       ∙ ap (λ g. stateOf g (markOf t j)) (sym (heap-at t D a b o j))
 
-  pub melded-word : (n : ℕ) → tableSize t ≡ n → (f : Field) (j : ℕ) → j < room n f
-      → rehomed a b (heapsJoined a b (word t)) f j ≡ word new f j
+  abbrev pub Melds : ℕ → Field → Type 0
+  Melds n f = (j : ℕ) → j < room n f → rehomed a b (heapsJoined a b (word t)) f j ≡ word new f j
+
+  -- the kinds of which words change, or stay though heap fields do not
+  abbrev moved : List Field
+  moved = FirstTree ∷ LastTree ∷ Minimum ∷ Count ∷ FirstChild ∷ LastChild ∷ Next ∷ Prev ∷ State ∷ []
+
+  pub melded-word : (n : ℕ) → tableSize t ≡ n → (f : Field) → Melds n f
   unfolding rehomed heapsJoined poured emptyHeap word meld headOr lastOr
-  melded-word n e FirstTree j l = ap (cond (eqb b j) none) (first-after t D a two n₂ j) ∙ row-word (headOr none) j
-  melded-word n e LastTree j l = ap (cond (eqb b j) none) (last-after t D a two n₂ j) ∙ row-word (lastOr none) j
-  melded-word n e Minimum j l =
-      ap (λ x. cond (eqb a j) (lesser (itemKey (word t)) (minimum t a) (minimum t b)) (cond (eqb b j) none x))
+  melded-word n e =
+      by-kinds moved (Melds n)
+      (λ j l. ap (cond (eqb b j) none) (first-after t D a two n₂ j) ∙ row-word (headOr none) j)
+      (λ j l. ap (cond (eqb b j) none) (last-after t D a two n₂ j) ∙ row-word (lastOr none) j)
+      (λ j l. ap (λ x. cond (eqb a j) (lesser (itemKey (word t)) (minimum t a) (minimum t b)) (cond (eqb b j) none x))
       (plain-after t D a two Minimum j refl)
       ∙ ap (λ x. cond (eqb a j) x (cond (eqb b j) none (minimum t j)))
       (lesser-keys (itemKey (word t)) (keyOf t) (minimum t a) (minimum t b)
       (λ _. key-is _ t (minimum t a) refl) (λ _. key-is _ t (minimum t b) refl))
-      ∙ least-word j
-  melded-word n e Count j l =
-      ap (λ x. cond (eqb a j) (count t a + count t b) (cond (eqb b j) 0 x)) (plain-after t D a two Count j refl)
-      ∙ count-word j
-  melded-word n e Key j l = plain-after t D a two Key j refl
-  melded-word n e Parent j l = plain-after t D a two Parent j refl
-  melded-word n e FirstChild j l =
-      plain-after t D a two FirstChild j refl ∙ sym (free-at t D a b o j (headOr none (childrenOf t j)))
-  melded-word n e LastChild j l =
-      plain-after t D a two LastChild j refl ∙ sym (free-at t D a b o j (lastOr none (childrenOf t j)))
-  melded-word n e Next j l = next-word j (λ q. omega (arith, q, D .small))
-  melded-word n e Prev j l = prev-word j (λ q. omega (arith, q, D .small))
-  melded-word n e Rank j l = plain-after t D a two Rank j refl
-  melded-word n e State j l = ap (movedState a b) (plain-after t D a two State j refl) ∙ state-word j
+      ∙ least-word j)
+      (λ j l. ap (λ x. cond (eqb a j) (count t a + count t b) (cond (eqb b j) 0 x))
+      (plain-after t D a two Count j refl)
+      ∙ count-word j)
+      (λ j l. plain-after t D a two FirstChild j refl ∙ sym (free-at t D a b o j (headOr none (childrenOf t j))))
+      (λ j l. plain-after t D a two LastChild j refl ∙ sym (free-at t D a b o j (lastOr none (childrenOf t j))))
+      (λ j l. next-word j (λ q. omega (arith, q, D .small)))
+      (λ j l. prev-word j (λ q. omega (arith, q, D .small)))
+      (λ j l. ap (movedState a b) (plain-after t D a two State j refl) ∙ state-word j)
+      (λ f p j l.
+      let q = apart-from moved f p in
+      rw (q FirstTree refl, q LastTree refl, q Minimum refl, q Count refl, q State refl)
+      (plain-after t D a two f j (apart-some moved (linkKinds (Row a)) f refl p)
+      ∙ kept-words (children ∷ parents ∷ keys ∷ []) moved t new refl refl refl refl f p j))

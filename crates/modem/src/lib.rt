@@ -6,7 +6,7 @@ ghost use Rattle.modem.specs.QueueRun.{Returns};
 pub extern "C" fn queue_run(sheet: &[u8], out: &mut [u8]) -> u32
     ensures { λ r. ⌜ Returns (now (sheet .entry)) (now (out .entry)) r (now (out .exit)) ⌝ }
 {
-    let mut store = [0u32; 2080];
+    let mut store = [0u32; store::HEAP_WORDS + store::ITEM_WORDS * 256];
     let ran = sheet::run_fresh(&mut store, sheet, out);
     sheet::result_number(ran.code, ran.bytes)
 }

@@ -20,12 +20,12 @@ fn answer_sheet(store: &mut [u32], sheet: &[u8], out: &mut [u8]) -> usize
     text::output::put_field(out, 0, code as u32, b'\n')
 }
 
-// 8,224 words are a store for 1,024 items; a sheet of 60,001 bytes is one byte too long; 64,000 bytes are room for the
+// The words are a store for 1,024 items; a sheet of 60,001 bytes is one byte too long; 64,000 bytes are room for the
 // answers of 2,000 lines.
 fn main() {
     let mut sheet = [0u8; 60001];
     let read = io::read_full(STDIN_FILENO, &mut sheet);
-    let mut store = [0u32; 8224];
+    let mut store = [0u32; store::HEAP_WORDS + store::ITEM_WORDS * 1024];
     let mut out = [0u8; 64000];
     let bytes = answer_sheet(&mut store, &sheet[..read], &mut out);
     io::write_all(STDOUT_FILENO, &out[..bytes]);

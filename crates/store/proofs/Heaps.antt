@@ -1,6 +1,6 @@
 -- The words of one heap together, and each by itself.
 use Prim.Native.Nat.{ℕ}
-use mathlib.Core.Path.{_≡_, refl, sym, subst}
+use mathlib.Core.Path.{_≡_, refl, sym, subst, _∙_}
 use mathlib.Core.List.{List, [], _∷_}
 use mathlib.Core.Bool.{Bool, true, false, _&&_, _||_, true≢false}
 use lib.Dec.{eqb}
@@ -25,6 +25,7 @@ use Rattle.rules.specs.Kinds.{isOneOf}
 use Rattle.rules.specs.Order.{minimum}
 use Rattle.rules.specs.SetWord.{fieldNumber}
 use Rattle.rules.specs.Words.{room, look, headOr, lastOr, word}
+use Rattle.rules.proofs.ByKind.{by-kinds}
 use Rattle.rules.proofs.Occurs.{and-split, and-true, eqb-self}
 use Rattle.rules.proofs.Places.{number-injective}
 use Rattle.store.specs.Heaps.{heapKinds, ofHeap, heapWord, have, heapIs}
@@ -63,18 +64,11 @@ room-heap n State e = absurd (true≢false (sym e))
 pub word-heap : (s : Forests) (h : ℕ) (f : Field) → ofHeap f ≡ true
     → word s f h ≡ heapWord (headOr none (rowOf s h)) (lastOr none (rowOf s h)) (minimum s h) (count s h) f
 unfolding word
-word-heap s h FirstTree e = refl
-word-heap s h LastTree e = refl
-word-heap s h Minimum e = refl
-word-heap s h Count e = refl
-word-heap s h Key e = absurd (true≢false (sym e))
-word-heap s h Parent e = absurd (true≢false (sym e))
-word-heap s h FirstChild e = absurd (true≢false (sym e))
-word-heap s h LastChild e = absurd (true≢false (sym e))
-word-heap s h Next e = absurd (true≢false (sym e))
-word-heap s h Prev e = absurd (true≢false (sym e))
-word-heap s h Rank e = absurd (true≢false (sym e))
-word-heap s h State e = absurd (true≢false (sym e))
+word-heap s h =
+    by-kinds heapKinds
+    (λ f. ofHeap f ≡ true → word s f h
+    ≡ heapWord (headOr none (rowOf s h)) (lastOr none (rowOf s h)) (minimum s h) (count s h) f)
+    (λ e. refl) (λ e. refl) (λ e. refl) (λ e. refl) (λ f o e. absurd (true≢false (sym e ∙ o)))
 
 -- ---- the test of all
 

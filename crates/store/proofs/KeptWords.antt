@@ -2,12 +2,12 @@
 use Prim.Native.Nat.{ℕ}
 use mathlib.Core.Path.{_≡_, refl}
 use mathlib.Core.List.{List, _∷_}
-use mathlib.Core.Bool.{Bool, true, false, cond, _||_}
+use mathlib.Core.Bool.{Bool, true, false, cond}
 use lib.Dec.{eqb}
 use Rattle.rules.specs.declared.Field.{Field}
 use Rattle.rules.specs.declared.Field.the-variants.{Minimum, Count}
 use Rattle.rules.specs.Forests.{Forests}
-use Rattle.rules.specs.Kinds.{isOneOf, Apart}
+use Rattle.rules.specs.Kinds.{Apart}
 use Rattle.rules.specs.SetWord.{fieldNumber}
 use Rattle.rules.specs.Words.{fields, word}
 use Rattle.rules.proofs.ByKind.{Each, From, from-each}

@@ -49,12 +49,17 @@ pub enum Owner {
 
 // ---- how many words there are and where each lies
 
+// The words of the eight heaps, which come first, and the words of an item.
+pub const HEAP_WORDS: usize = 32;
+
+pub const ITEM_WORDS: usize = 8;
+
 // The words of a store for n items.
 pub fn size_for(n: usize) -> usize
     requires { ⌜ n ≤ 4096 ⌝ }
     ensures { λ r. ⌜ r ≡ storeSize n ⌝ }
 {
-    32 + 8 * n
+    HEAP_WORDS + ITEM_WORDS * n
 }
 
 // The number of items, which the length sets.
@@ -62,10 +67,10 @@ pub fn items_of(s: &[u32]) -> usize
     ensures { λ r. ⌜ r ≡ itemsIn (now (s .entry)) ⌝ }
 {
     let words = s.len();
-    if words < 32 {
+    if words < HEAP_WORDS {
         return 0;
     }
-    (words - 32) / 8
+    (words - HEAP_WORDS) / ITEM_WORDS
 }
 
 // Whether the length is that of a store, for at most 4,096 items.
@@ -90,14 +95,14 @@ fn place(n: usize, f: Field, i: usize) -> usize
         Field::LastTree => 4 * i + 1,
         Field::Minimum => 4 * i + 2,
         Field::Count => 4 * i + 3,
-        Field::Key => 32 + i,
-        Field::Parent => 32 + n + i,
-        Field::FirstChild => 32 + 2 * n + i,
-        Field::LastChild => 32 + 3 * n + i,
-        Field::Next => 32 + 4 * n + i,
-        Field::Prev => 32 + 5 * n + i,
-        Field::Rank => 32 + 6 * n + i,
-        Field::State => 32 + 7 * n + i,
+        Field::Key => HEAP_WORDS + i,
+        Field::Parent => HEAP_WORDS + n + i,
+        Field::FirstChild => HEAP_WORDS + 2 * n + i,
+        Field::LastChild => HEAP_WORDS + 3 * n + i,
+        Field::Next => HEAP_WORDS + 4 * n + i,
+        Field::Prev => HEAP_WORDS + 5 * n + i,
+        Field::Rank => HEAP_WORDS + 6 * n + i,
+        Field::State => HEAP_WORDS + 7 * n + i,
     }
 }
 

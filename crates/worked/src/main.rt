@@ -109,7 +109,7 @@ fn show_kept(name: u8, sheet: &[u8], store: &mut [u32], out: &mut [u8])
 
 // (f), (g) and (h) go on, each on the store that the run before it left.
 fn main() {
-    let mut store = [0u32; 104];
+    let mut store = [0u32; store::HEAP_WORDS + store::ITEM_WORDS * 9];
     let mut out = [0u8; 512];
     let b = b"I,0,0,5\nI,0,1,3\nI,0,2,8\nI,0,3,1\nT,0\n";
     let c = b"I,0,0,5\nI,0,1,3\nI,0,2,8\nI,0,3,1\nT,0\nD,0,4\n";

@@ -1,5 +1,6 @@
 -- `queue_run` meets its contract.
 use mathlib.Core.Path.{refl}
+use Rattle.rules.specs.Words.{storeSize}
 use Rattle.modem.proofs.Returned.{run-returned}
 use borrow.Author.Needs.{needs}
 use Rattle.modem.proofs.queue_run.Statement.{statement}
@@ -18,6 +19,7 @@ same-length : tie.Need-same-length
 same-length c = search needs
 
 returns : tie.Need-returns
+unfolding storeSize
 returns c =
     run-returned _ _ _ (c .before .before .before .before .run-fresh .ensures) refl _ (c .result-number .ensures)
 
