@@ -19,10 +19,10 @@ use Rattle.text.specs.Output.{Wrote}
 use Rattle.text.proofs.Row.{field-short, wrote-row-last, wrote-row-more}
 use Rattle.text.proofs.Wrote.{wrote-then, wrote-none, wrote-length}
 use Rattle.finder.specs.declared.Fed.{Fed}
-use Rattle.finder.specs.Map.{Map, mapOf, spans}
-use Rattle.finder.specs.Feed.{Feed, feedResult}
+use Rattle.paths.specs.Map.{Map, mapOf, spans}
+use Rattle.paths.specs.Feed.{Feed, feedResult}
 use Rattle.finder.specs.Promise.{Feeds}
-use Rattle.finder.proofs.Accepts.{feedDone}
+use Rattle.paths.proofs.Accepts.{feedDone}
 use Rattle.mapfile.specs.declared.MapRead.{MapRead}
 use Rattle.mapfile.specs.Read.{Reading, Reads, readMap}
 use Rattle.feed.proofs.Reading.{read-fits}

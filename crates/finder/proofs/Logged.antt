@@ -15,14 +15,14 @@ use Rattle.rules.proofs.SoundWords.{forests-encode, sound-encode}
 use Rattle.rules.specs.declared.Tally.{Tally}
 use Rattle.heap.specs.declared.Reply.{Reply}
 use Rattle.heap.specs.Performed.{Ready, Performed}
-use Rattle.finder.specs.Map.{Map, Accepted}
-use Rattle.finder.specs.Search.{Search, never}
-use Rattle.finder.specs.Theorems.{Moment}
+use Rattle.paths.specs.Map.{Map, Accepted}
+use Rattle.paths.specs.Search.{Search, never}
+use Rattle.paths.specs.Theorems.{Moment}
 use Rattle.finder.specs.Progress.{Logged}
-use Rattle.finder.proofs.Turns.{moments-keep}
-use Rattle.finder.proofs.Log.{after-snoc, links-snoc, cuts-snoc}
-use Rattle.finder.proofs.Served.{ServedOf, served}
-use Rattle.finder.proofs.Counts.{counts-low}
+use Rattle.paths.proofs.Turns.{moments-keep}
+use Rattle.paths.proofs.Log.{after-snoc, links-snoc, cuts-snoc}
+use Rattle.paths.proofs.Served.{ServedOf, served}
+use Rattle.paths.proofs.Counts.{counts-low}
 
 module _ (n : ℕ) (calls : List Line) (store : List ℕ) (t : Tally) (L : Logged n calls store t) where
   pub logged-forests : WellFormed (after (empty n) calls) → forestsOf store ≡ after (empty n) calls

@@ -11,9 +11,9 @@ use Rattle.rules.proofs.Sums.{sumBy-set}
 use Rattle.heap.specs.declared.Reply.{Reply}
 use Rattle.heap.specs.Performed.{Performed}
 use Rattle.finder.specs.declared.relax.Progress.{Progress}
-use Rattle.finder.specs.Search.{Verdict, unmet, smaller, tie, worse, judge, update, offer}
+use Rattle.paths.specs.Search.{Verdict, unmet, smaller, tie, worse, judge, update, offer}
 use Rattle.finder.specs.Progress.{EnterReady, OfferReady, Moves}
-use Rattle.finder.proofs.Judge.{judge-unmet, judge-smaller, judge-larger, judge-tie, judge-late}
+use Rattle.paths.proofs.Judge.{judge-unmet, judge-smaller, judge-larger, judge-tie, judge-late}
 use Rattle.finder.proofs.Logged.{call-logged}
 
 -- below the length the default does not matter

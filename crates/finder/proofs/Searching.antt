@@ -18,18 +18,18 @@ use Rattle.rules.specs.declared.Tally.{Tally}
 use Rattle.heap.specs.declared.Reply.{Reply}
 use Rattle.heap.specs.Performed.{Ready, Performed}
 use Rattle.finder.specs.declared.relax.Progress.{Progress}
-use Rattle.finder.specs.Map.{Map, mapOf, Accepted}
-use Rattle.finder.specs.Range.{Index}
-use Rattle.finder.specs.Queue.{Queue, Next, halts, takes, next}
-use Rattle.finder.specs.Search.{Search, begin, turns, never, bestAt}
-use Rattle.finder.specs.Feed.{linksOf, cutsOf}
-use Rattle.finder.specs.Theorems.{between}
+use Rattle.paths.specs.Map.{Map, mapOf, Accepted}
+use Rattle.spans.specs.Range.{Index}
+use Rattle.paths.specs.Queue.{Queue, Next, halts, takes, next}
+use Rattle.paths.specs.Search.{Search, begin, turns, never, bestAt}
+use Rattle.paths.specs.Feed.{linksOf, cutsOf}
+use Rattle.paths.specs.Theorems.{between}
 use Rattle.finder.specs.Progress.{Logged, Holds, Taken, Stands, Goes, BeginReady, Begun, Found}
-use Rattle.finder.proofs.Waiting.{next-takes, halts-empty, waits-below}
-use Rattle.finder.proofs.Begin.{sum-zeros}
-use Rattle.finder.proofs.Turns.{extracted-rest, turns-between, turns-keep}
-use Rattle.finder.proofs.Served.{ServedOf, served, takesMinimum}
-use Rattle.finder.proofs.Counts.{sum-none}
+use Rattle.paths.proofs.Waiting.{next-takes, halts-empty, waits-below}
+use Rattle.paths.proofs.Begin.{sum-zeros}
+use Rattle.paths.proofs.Turns.{extracted-rest, turns-between, turns-keep}
+use Rattle.paths.proofs.Served.{ServedOf, served, takesMinimum}
+use Rattle.paths.proofs.Counts.{sum-none}
 use Rattle.finder.proofs.Walk.{search-is}
 use Rattle.finder.proofs.Logged.{call-logged, logged-forests, logged-ready}
 

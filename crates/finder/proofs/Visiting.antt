@@ -11,8 +11,8 @@ use lib.Dec.{ltb}
 use borrow.Author.Tests.{eq-eqb, ltb-true, ltb-false}
 use Rattle.rules.specs.Forests.{none}
 use Rattle.finder.specs.declared.relax.Progress.{Progress}
-use Rattle.finder.specs.Map.{Map, spans, fromOf, toOf}
-use Rattle.finder.specs.Search.{
+use Rattle.paths.specs.Map.{Map, spans, fromOf, toOf}
+use Rattle.paths.specs.Search.{
   Search,
   offer,
   try,
@@ -25,8 +25,8 @@ use Rattle.finder.specs.Search.{
   never,
   bestAt,
 }
-use Rattle.finder.specs.Range.{FirstSpan}
-use Rattle.finder.specs.Theorems.{trying}
+use Rattle.spans.specs.Range.{FirstSpan}
+use Rattle.paths.specs.Theorems.{trying}
 use Rattle.finder.specs.Progress.{
   Holds,
   Offerable,
@@ -37,11 +37,11 @@ use Rattle.finder.specs.Progress.{
   examineOne,
   visitOne,
 }
-use Rattle.finder.proofs.Waiting.{next-takes, waits-below}
-use Rattle.finder.proofs.Invariant.{unsettled}
-use Rattle.finder.proofs.Offers.{TryingOf, sum-fits, out-of-queue}
-use Rattle.finder.proofs.Tried.{tried-trying}
-use Rattle.finder.proofs.Turns.{
+use Rattle.paths.proofs.Waiting.{next-takes, waits-below}
+use Rattle.paths.proofs.Invariant.{unsettled}
+use Rattle.paths.proofs.Offers.{TryingOf, sum-fits, out-of-queue}
+use Rattle.paths.proofs.Tried.{tried-trying}
+use Rattle.paths.proofs.Turns.{
   Between,
   rest,
   extracted-trying,
@@ -50,8 +50,8 @@ use Rattle.finder.proofs.Turns.{
   turns-keep,
   trying-keeps,
 }
-use Rattle.finder.proofs.Served.{ServedOf, served}
-use Rattle.finder.proofs.Examined.{examinedAtMost}
+use Rattle.paths.proofs.Served.{ServedOf, served}
+use Rattle.paths.proofs.Examined.{examinedAtMost}
 use Rattle.finder.proofs.Walk.{walk-begins, walk-ends}
 use Rattle.finder.proofs.Logged.{logged-ready}
 

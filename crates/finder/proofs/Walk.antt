@@ -1,15 +1,15 @@
 -- Laws for a walk by code: of the spans only the range of the place taken need be walked, since spans are sorted by
 -- from; and the turns may end as soon as nothing is left to take.
 use Prim.Native.Nat.{ℕ, zero, suc, _+_, _-_, _≤_, _<_}
-use mathlib.Core.Path.{_≡_, ap}
+use mathlib.Core.Path.{_≡_, ap, _∙_}
 use mathlib.Core.Logic.{_≢_}
 use native.Mathlib.Omega.{arith}
 use borrow.Author.Tests.{ne-eqb}
-use Rattle.finder.specs.Map.{Map, spans, fromOf, Accepted}
-use Rattle.finder.specs.Range.{Sorted}
-use Rattle.finder.specs.Queue.{Stop, halts, next}
-use Rattle.finder.proofs.Range.{sorted-all}
-use Rattle.finder.specs.Search.{Search, try, tried, turn, turns, search}
+use Rattle.paths.specs.Map.{Map, spans, fromOf, Accepted}
+use Rattle.spans.specs.Range.{Sorted}
+use Rattle.paths.specs.Queue.{Stop, halts, next}
+use Rattle.spans.proofs.Range.{sorted-all}
+use Rattle.paths.specs.Search.{Search, try, tried, turn, turns, search}
 
 -- spans of other places are passed over
 tried-skip : (m : Map) (u d : ℕ) (s : Search) (a n b : ℕ) → b ≡ a + n
@@ -44,7 +44,9 @@ turns-stop : (stop : Stop) (m : Map) (k n j : ℕ) → j ≡ k + n → next stop
 unfolding turns turn
 turns-stop stop m k zero j q e = let z : j ≡ k = omega arith in ap (turns stop m) z
 turns-stop stop m k (suc n) zero q e = absurd (omega arith)
-turns-stop stop m k (suc n) (suc j) q e = rw (turns-stop stop m k n j (omega arith) e, e)
+turns-stop stop m k (suc n) (suc j) q e =
+    ap (λ s. turn m (next stop (s .queue)) s) (turns-stop stop m k n j (omega arith) e)
+    ∙ ap (λ x. turn m x (turns stop m k)) e
 
 pub search-is : (stop : Stop) (m : Map) (k : ℕ) → k ≤ m .places → next stop ((turns stop m k) .queue) ≡ halts
     → search stop m ≡ turns stop m k

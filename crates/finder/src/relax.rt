@@ -1,7 +1,7 @@
 // A span offers its end a loss, and the queue and the table follow (relaxation of an edge).
 ghost use mathlib.Core.Path.{_≡_};
 ghost use Prim.Native.Nat.{_+_, _<_};
-ghost use Rattle.finder.specs.Search.{unmet, smaller, update, offer};
+ghost use Rattle.paths.specs.Search.{unmet, smaller, update, offer};
 ghost use Rattle.finder.specs.Progress.{examineOne, visitOne, EnterReady, OfferReady, Moves};
 use heap::perform::perform;
 use rules::Call;

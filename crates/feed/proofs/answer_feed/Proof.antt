@@ -1,6 +1,6 @@
 -- `answer_feed` meets its contract.
 use native.Mathlib.Omega.{arith}
-use Rattle.finder.specs.Map.{mapOf}
+use Rattle.paths.specs.Map.{mapOf}
 use Rattle.feed.proofs.Printing.{field-11, shows-refused, table-ready, figures-room, shows-done}
 use borrow.Author.Needs.{needs}
 use Rattle.feed.proofs.answer_feed.Statement.{statement}

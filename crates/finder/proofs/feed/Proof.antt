@@ -1,5 +1,5 @@
 -- `finder::feed` meets its contract.
-use Rattle.finder.specs.Map.{mapOf}
+use Rattle.paths.specs.Map.{mapOf}
 use Rattle.finder.proofs.Searching.{begun-stands}
 use Rattle.finder.proofs.Feeding.{accepted-map, feeds-refused, begins, feeds-done}
 use borrow.Author.Needs.{needs}

@@ -4,7 +4,7 @@ use mathlib.Core.Path.{_≡_, refl}
 use native.Mathlib.Omega.{arith}
 use borrow.Author.Needs.{needs}
 use lib.ListN.{length, getD}
-use Rattle.finder.specs.Map.{Map}
+use Rattle.paths.specs.Map.{Map}
 use Rattle.finder.specs.Progress.{Taken}
 use Rattle.finder.proofs.Visiting.{
   Walking,

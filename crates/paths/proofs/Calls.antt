@@ -1,0 +1,171 @@
+-- What insert, decrease-key and extract-min on heap 0 do to the heap and key lists of the forests, and that they are
+-- done; and that forests with every item free are the empty ones.
+use Prim.Native.Nat.{ℕ, _≤_, _<_}
+use mathlib.Core.Path.{_≡_, refl, sym, ap, _∙_}
+use mathlib.Core.Logic.{_≢_}
+use mathlib.Core.List.{List, [], _∷_}
+use mathlib.Core.Bool.{true, false}
+use native.Mathlib.Omega.{arith}
+use lib.ListN.{length, getD, set, replicate, length-replicate}
+use lib.Seq.{ext-getD}
+use lib.Dec.{eqb·zero-suc}
+use borrow.Author.Tests.{ne-eqb, le-ltb, lt-leb}
+use Rattle.rules.specs.declared.Call.{Call}
+use Rattle.rules.specs.declared.Call.the-variants.{Insert, ExtractMin, DecreaseKey}
+use Rattle.rules.specs.declared.Line.the-variants.{Yields}
+use Rattle.rules.specs.Lists.{sumBy, occurs}
+use Rattle.rules.specs.Forests.{Forests, empty, rowOf, keyOf, heapOf}
+use Rattle.rules.specs.Order.{precedes, leastIn, minimum}
+use Rattle.rules.specs.Calls.{Outcome, insert, extract, decreaseKey, perform}
+use Rattle.rules.specs.Answers.{isEmpty, refusal, unlessRefused, answer}
+use Rattle.rules.specs.WellFormed.{Disjoint, WellFormed}
+use Rattle.rules.proofs.EmptyForests.{getD-all}
+use Rattle.rules.proofs.Lists.{extract-heap, extract-key, decrease-heap, decrease-key}
+use Rattle.rules.proofs.Members.{heap-in, free-children}
+use Rattle.rules.proofs.Minimum.{minimumUnique}
+use Rattle.rules.proofs.Occurs.{delta-self}
+use Rattle.rules.proofs.Order.{precedes-is}
+use Rattle.paths.proofs.Waiting.{NotAfter}
+
+-- The call is done, answers this item and key, and leaves these heap and key lists.
+pub record Does (o : Outcome) (item key : ℕ) (heaps keys : List ℕ) : Type 0 where
+  pub code : o .reply .code ≡ 0
+  pub which : o .reply .item ≡ item
+  pub told : o .reply .key ≡ key
+  pub heap-is : o .next .heap ≡ heaps
+  pub key-is : o .next .key ≡ keys
+
+performs : (s : Forests) (c : Call) → refusal s c ≡ 0 → answer s (Yields c) ≡ perform s c
+unfolding answer unlessRefused
+performs s c e = ap (λ r. unlessRefused r s c) e
+
+-- The heap and key lists of the forests are hs and ks. Nothing else of the forests is said.
+module _ (s : Forests) (hs ks : List ℕ) (eh : s .heap ≡ hs) (ek : s .key ≡ ks) where
+  heap-at : (x : ℕ) → heapOf s x ≡ getD hs x 0
+  heap-at x = ap (λ l. getD l x 0) eh
+
+  key-at : (x : ℕ) → keyOf s x ≡ getD ks x 0
+  key-at x = ap (λ l. getD l x 0) ek
+
+  pub insert-does : (i k : ℕ) → i < length hs → getD hs i 0 ≡ 0
+      → Does (answer s (Yields (Insert 0 i k))) i k (set hs i 1) (set ks i k)
+  unfolding refusal perform insert
+  insert-does i k l z =
+      rw (performs s (Insert 0 i k) ok)
+      (record {
+        code = refl;
+        which = refl;
+        told = refl;
+        heap-is = ap (λ l. set l i 1) eh;
+        key-is = ap (λ l. set l i k) ek;
+      })
+    where
+      ok : refusal s (Insert 0 i k) ≡ 0
+      ok = rw (lt-leb (length (s .heap)) i (rw eh l), heap-at i, z)
+
+  pub decrease-does : (i k : ℕ) → getD hs i 0 ≢ 0 → k ≤ getD ks i 0
+      → Does (answer s (Yields (DecreaseKey i k))) i k hs (set ks i k)
+  unfolding refusal perform decreaseKey
+  decrease-does i k w l =
+      rw (performs s (DecreaseKey i k) ok)
+      (record {
+        code = refl;
+        which = refl;
+        told = refl;
+        heap-is = decrease-heap i k s ∙ eh;
+        key-is = decrease-key i k s ∙ ap (λ l. set l i k) ek;
+      })
+    where
+      n : heapOf s i ≢ 0
+      n z = w (sym (heap-at i) ∙ z)
+
+      ok : refusal s (DecreaseKey i k) ≡ 0
+      ok =
+          rw (
+            lt-leb (length (s .heap)) i (heap-in s i n),
+            ne-eqb (heapOf s i) 0 n,
+            le-ltb (keyOf s i) k (omega (arith, key-at i)),
+          )
+
+  -- u is in heap 0, and no item of heap 0 comes before it: it is taken
+  pub extract-does : WellFormed s → (u : ℕ) → getD hs u 0 ≡ 1 → ((q : ℕ) → getD hs q 0 ≡ 1 → NotAfter ks u q)
+      → Does (answer s (Yields (ExtractMin 0))) u (getD ks u 0) (set hs u 0) (set ks u 0)
+  unfolding refusal perform extract minimum leastIn isEmpty
+  extract-does W u hu first =
+      rw (performs s (ExtractMin 0) ok, is)
+      (record {
+        code = refl;
+        which = refl;
+        told = key-at u;
+        heap-is = extract-heap 0 u s ∙ ap (λ l. set l u 0) eh;
+        key-is = extract-key 0 u s ∙ ap (λ l. set l u 0) ek;
+      })
+    where
+      mine : heapOf s u ≡ 1
+      mine = heap-at u ∙ hu
+
+      comes-first : (x : ℕ) → heapOf s x ≡ 1 → x ≢ u → precedes (s .key) u x ≡ true
+      comes-first x e n =
+          let f = first x (sym (heap-at x) ∙ e) in
+          rw ek (precedes-is ks u x (f .0) (λ q. let g = f .1 q in omega arith))
+
+      is : minimum s 0 ≡ u
+      is = minimumUnique s W 0 u (record { inside = mine; first = comes-first })
+
+      inside : u < 4097
+      inside = let k = heap-in s u (λ z. omega (arith, mine)) in omega (arith, W .disjoint .small)
+
+      some : (l : List ℕ) → leastIn (s .key) l ≡ u → isEmpty l ≡ false
+      some [] e = absurd (omega (arith, inside))
+      some (x ∷ xs) e = refl
+
+      ok : refusal s (ExtractMin 0) ≡ 0
+      ok = rw (some (rowOf s 0) is)
+
+-- ---- all items free
+
+no-member : (l : List ℕ) → ((z : ℕ) → occurs z l ≡ 0) → l ≡ []
+unfolding occurs sumBy
+no-member [] f = refl
+no-member (y ∷ ys) f = absurd (omega (arith, f y, delta-self y))
+
+all-default : {A : Type 0} (d : A) (l : List A) (n : ℕ) → length l ≡ n → ((i : ℕ) → i < n → getD l i d ≡ d)
+    → l ≡ replicate n d
+all-default d l n e f =
+    ext-getD d l (replicate n d) (e ∙ sym (length-replicate n d))
+    (λ i k. f i (omega (arith, k, e)) ∙ sym (getD-all n i d))
+
+build : (r c : List (List ℕ)) (p k m h : List ℕ) → Forests
+build r c p k m h = record { rows = r; children = c; parent = p; key = k; mark = m; heap = h }
+
+same-build : {r c r′ c′ : List (List ℕ)} {p k m h p′ k′ m′ h′ : List ℕ} → r ≡ r′ → c ≡ c′ → p ≡ p′ → k ≡ k′
+    → m ≡ m′ → h ≡ h′ → build r c p k m h ≡ build r′ c′ p′ k′ m′ h′
+same-build a b c d e f = cc
+
+pub all-free : (s : Forests) (n : ℕ) → Disjoint s → length (s .heap) ≡ n → ((x : ℕ) → heapOf s x ≡ 0) → s ≡ empty n
+unfolding build
+all-free s n D e f =
+    let z : build (s .rows) (s .children) (s .parent) (s .key) (s .mark) (s .heap)
+    ≡ build (replicate 8 []) (replicate n []) (replicate n 0) (replicate n 0) (replicate n 0) (replicate n 0) =
+    same-build rows children parent key mark heap in
+    z
+  where
+    rows : s .rows ≡ replicate 8 []
+    rows =
+        all-default [] (s .rows) 8 (D .rows8)
+        (λ h _. no-member (rowOf s h) (λ z. D .inRow h z ∙ rw (f z, eqb·zero-suc h)))
+
+    children : s .children ≡ replicate n []
+    children = all-default [] (s .children) n (D .childrenN ∙ e) (λ x k. free-children s D x (omega (arith, e)) (f x))
+
+    parent : s .parent ≡ replicate n 0
+    parent = all-default 0 (s .parent) n (D .parentN ∙ e) (λ x _. D .free x (f x) .1)
+
+    key : s .key ≡ replicate n 0
+    key = all-default 0 (s .key) n (D .keyN ∙ e) (λ x _. D .free x (f x) .0)
+
+    mark : s .mark ≡ replicate n 0
+    mark = all-default 0 (s .mark) n (D .markN ∙ e) (λ x _. D .free x (f x) .2)
+
+    heap : s .heap ≡ replicate n 0
+    heap = all-default 0 (s .heap) n e (λ x _. f x)
