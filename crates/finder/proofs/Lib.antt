@@ -2,6 +2,9 @@
 pub mod Walk
 pub mod Logged
 pub mod Relaxing
+pub mod AtPlace
+pub mod Walking
 pub mod Visiting
+pub mod Beginning
 pub mod Searching
 pub mod Feeding

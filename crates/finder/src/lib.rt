@@ -7,13 +7,13 @@ ghost use Rattle.paths.specs.Feed.{feedResult};
 ghost use Rattle.finder.specs.Progress.{BeginReady, Begun, Stands, Found};
 ghost use Rattle.finder.specs.Promise.{Feeds};
 use heap::perform::perform;
-use relax::NONE;
 use relax::Progress;
 use rules::Call;
 use rules::Tally;
 use spans::index::Index;
 use spans::index::index_spans;
 use spans::refusal::feed_code;
+use store::NONE;
 use store::make_empty;
 use visit::visit_next;
 

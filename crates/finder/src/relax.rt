@@ -6,8 +6,7 @@ ghost use Rattle.finder.specs.Progress.{examineOne, visitOne, EnterReady
 use heap::perform::perform;
 use rules::Call;
 use rules::Tally;
-
-pub const NONE: u32 = 4294967295;
+use store::NONE;
 
 // How far a search is: the places whose spans were tried, the places met, the spans examined, and the tally of its
 // queue calls.

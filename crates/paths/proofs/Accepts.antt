@@ -1,4 +1,4 @@
--- Code 0 is given exactly to accepted maps; and what a feed call that is done leaves.
+-- Code 0 is given exactly to accepted maps with lists and a store of the right sizes.
 use Prim.Native.Nat.{ℕ, zero, suc, _≤_, _<_}
 use mathlib.Core.Path.{_≡_, refl, sym}
 use mathlib.Core.Logic.{_≢_}
@@ -22,12 +22,8 @@ use borrow.Author.Tests.{
 use Rattle.rules.specs.Words.{storeSize}
 use Rattle.paths.specs.Map.{Map, spans, fromOf, toOf, lossOf, Accepted}
 use Rattle.paths.specs.Codes.{fault, previous, spanCode, spanLists, resultLists, feedCode}
-use Rattle.paths.specs.Search.{never, search, find}
-use Rattle.paths.specs.Feed.{feedAs, feedResult}
-use Rattle.paths.specs.Theorems.{between, Fits, CodeZero, Right, FeedDone}
+use Rattle.paths.specs.Theorems.{Fits, CodeZero}
 use Rattle.paths.proofs.Codes.{fault-none, each-none, all-none}
-use Rattle.paths.proofs.Table.{finderTable}
-use Rattle.paths.proofs.Examined.{examinedExact, examinedAtMost}
 
 no-cond : (t : Bool) (c x : ℕ) → c ≢ 0 → _≡_ {A = ℕ} (cond t c x) 0 → (t ≡ false) × (x ≡ 0)
 no-cond true c x n e = absurd (n e)
@@ -132,19 +128,3 @@ module _ (m : Map) where
 
 pub codeZero : CodeZero
 codeZero = record { accepts = accepts; only = fits }
-
-pub feedDone : FeedDone
-unfolding feedResult feedAs search
-feedDone m best last store = go (feedCode m (length best) (length last) (length store)) refl
-  where
-    go : (c : ℕ) → feedCode m (length best) (length last) (length store) ≡ c → (feedAs c m best last store) .code ≡ 0
-        → Right m (feedAs c m best last store)
-    go zero e _ =
-        let A = fits m (length best) (length last) (length store) e .accepted in
-        record {
-          table = finderTable m A;
-          store = refl;
-          examined = examinedExact m A;
-          atMost = examinedAtMost never m A (find m) (between (m .places));
-        }
-    go (suc c) e z = absurd (omega (arith, z))

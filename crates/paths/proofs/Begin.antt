@@ -13,6 +13,7 @@ use Rattle.rules.proofs.EmptyForests.{getD-all}
 use Rattle.rules.proofs.Occurs.{byItem}
 use Rattle.rules.proofs.Sums.{sumBy-set}
 use Rattle.paths.specs.Map.{Map, spans, fromOf, Accepted}
+use Rattle.paths.proofs.Waiting.{sum-none}
 use Rattle.paths.proofs.Invariant.{isNone, isNone-no, isNone-yes, unsettled, Settled, Invariant}
 
 sum-isNone : (n : ℕ) → sumBy isNone (replicate n none) ≡ n
@@ -21,9 +22,7 @@ sum-isNone zero = refl
 sum-isNone (suc n) = omega (arith, isNone-yes, sum-isNone n)
 
 pub sum-zeros : (n : ℕ) → sumBy (λ h. h) (replicate n 0) ≡ 0
-unfolding sumBy
-sum-zeros zero = refl
-sum-zeros (suc n) = omega (arith, sum-zeros n)
+sum-zeros n = sum-none (replicate n 0) (λ i. getD-all n i 0)
 
 module _ (m : Map) (A : Accepted m) where
   abbrev n : ℕ

@@ -122,7 +122,7 @@ module _
               (omega (arith, cheapest (f ∷ c) (L .leads), L .least (e ∷ t .chain) leads, has));
         }
 
-    pub final : Met best p → Entry m p (getD best p none) (getD last p none)
+    final : Met best p → Entry m p (getD best p none) (getD last p none)
     final a = go (eqb p (m .start)) refl
       where
         go : (t : Bool) → eqb p (m .start) ≡ t → Entry m p (getD best p none) (getD last p none)

@@ -1,12 +1,12 @@
 -- Links and cuts of a search, by the ledger: they fit a word at every moment, and a full feed call keeps its ceiling.
-use Prim.Native.Nat.{ℕ, suc, _+_, _-_, _≤_, zero-le}
+use Prim.Native.Nat.{ℕ, suc, _+_, _≤_, zero-le}
 use mathlib.Core.Path.{_≡_, refl}
 use mathlib.Core.Logic.{_≢_}
 use mathlib.Core.List.{List, [], _∷_}
 use mathlib.Core.Bool.{Bool, true, false, not}
 use native.Mathlib.Nat.{mul-le-mul-left}
 use native.Mathlib.Omega.{arith}
-use lib.ListN.{length, getD}
+use lib.ListN.{length}
 use lib.Dec.{eqb}
 use borrow.Author.Tests.{eqb-true, eqb-false}
 use Rattle.rules.specs.declared.Line.{Line}
@@ -25,6 +25,7 @@ use Rattle.paths.specs.Queue.{Stop}
 use Rattle.paths.specs.Search.{Search, never, search, find}
 use Rattle.paths.specs.Feed.{linksOf, cutsOf}
 use Rattle.paths.specs.Theorems.{isReached, Moment, CountsFit, Ceiling}
+use Rattle.paths.proofs.Waiting.{sum-none}
 use Rattle.paths.proofs.Invariant.{isNone, unsettled}
 use Rattle.paths.proofs.Begin.{sum-zeros}
 use Rattle.paths.proofs.Turns.{turns-keep, moments-keep, search-between}
@@ -39,11 +40,6 @@ links-and-cuts : (rs : List Answer)
 unfolding sumBy
 links-and-cuts [] = refl
 links-and-cuts (a ∷ rs) = omega (arith, links-and-cuts rs)
-
-pub sum-none : (l : List ℕ) → ((i : ℕ) → getD l i 0 ≡ 0) → sumBy (λ h. h) l ≡ 0
-unfolding sumBy
-sum-none [] f = refl
-sum-none (x ∷ l) f = omega (arith, f 0, sum-none l (λ i. f (suc i)))
 
 reached-or-none : (l : List ℕ) → sumBy isReached l + sumBy isNone l ≡ length l
 unfolding sumBy isReached isNone

@@ -3,6 +3,7 @@ pub mod ByHand
 pub mod Waiting
 pub mod Invariant
 pub mod Improve
+pub mod Pass
 pub mod Take
 pub mod Judge
 pub mod Offers
@@ -12,6 +13,7 @@ pub mod Turns
 pub mod Chains
 pub mod Table
 pub mod Calls
+pub mod AllFree
 pub mod Log
 pub mod Served
 pub mod Settling
@@ -20,3 +22,4 @@ pub mod Costs
 pub mod Counts
 pub mod Codes
 pub mod Accepts
+pub mod FeedDone

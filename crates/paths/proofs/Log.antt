@@ -1,15 +1,15 @@
--- A log of calls with one call more: what it leaves, answers, is allowed and moves.
+-- A log of calls with one call more: what it leaves, answers and is allowed.
 use Prim.Native.Nat.{ℕ, _+_}
 use mathlib.Core.Path.{_≡_, refl, ap, _∙_}
 use mathlib.Core.List.{List, [], _∷_, _++_}
 use native.Mathlib.Omega.{arith}
+use Rattle.rules.specs.declared.Answer.{Answer}
 use Rattle.rules.specs.declared.Line.{Line}
 use Rattle.rules.specs.Lists.{sumBy}
-use Rattle.rules.specs.Forests.{Forests, empty}
+use Rattle.rules.specs.Forests.{Forests}
 use Rattle.rules.specs.Answers.{answer, answers, after}
 use Rattle.rules.specs.Ledger.{allowance, allowed}
 use Rattle.rules.proofs.Sums.{sumBy-append}
-use Rattle.paths.specs.Feed.{linksOf, cutsOf}
 use Rattle.paths.specs.Theorems.{AllDone}
 
 module _ (l : Line) where
@@ -18,7 +18,7 @@ module _ (l : Line) where
   after-snoc s [] = refl
   after-snoc s (b ∷ ls) = after-snoc ((answer s b) .next) ls
 
-  pub answers-snoc : (s : Forests) (ls : List Line)
+  answers-snoc : (s : Forests) (ls : List Line)
       → answers s (ls ++ (l ∷ [])) ≡ answers s ls ++ ((answer (after s ls) l) .reply ∷ [])
   unfolding after answers
   answers-snoc s [] = refl
@@ -36,13 +36,8 @@ module _ (l : Line) where
   allowed-snoc s [] = omega arith
   allowed-snoc s (b ∷ ls) = omega (arith, allowed-snoc ((answer s b) .next) ls)
 
-  -- the tally of a log
-  pub links-snoc : (n : ℕ) (ls : List Line)
-      → linksOf n (ls ++ (l ∷ [])) ≡ linksOf n ls + (answer (after (empty n) ls) l) .reply .links
-  unfolding linksOf sumBy
-  links-snoc n ls = rw answers-snoc (sumBy-append (λ a. a .links) (answers (empty n) ls) _ ∙ omega arith)
-
-  pub cuts-snoc : (n : ℕ) (ls : List Line)
-      → cutsOf n (ls ++ (l ∷ [])) ≡ cutsOf n ls + (answer (after (empty n) ls) l) .reply .cuts
-  unfolding cutsOf sumBy
-  cuts-snoc n ls = rw answers-snoc (sumBy-append (λ a. a .cuts) (answers (empty n) ls) _ ∙ omega arith)
+  -- a sum over the answers to a log
+  pub sum-snoc : (f : Answer → ℕ) (s : Forests) (ls : List Line)
+      → sumBy f (answers s (ls ++ (l ∷ []))) ≡ sumBy f (answers s ls) + f ((answer (after s ls) l) .reply)
+  unfolding sumBy
+  sum-snoc f s ls = rw answers-snoc (sumBy-append f (answers s ls) _ ∙ omega arith)

@@ -26,7 +26,7 @@ use Rattle.paths.specs.Search.{
 use Rattle.paths.proofs.Invariant.{isNone, isNone-no, isNone-yes, unsettled, Invariant, TakenLast}
 use Rattle.paths.proofs.Judge.{judge-unmet, judge-smaller, judge-larger, judge-tie, judge-late}
 use Rattle.paths.proofs.Improve.{improve, improve-last, improve-unsettled}
-use Rattle.paths.proofs.Take.{pass}
+use Rattle.paths.proofs.Pass.{pass}
 
 -- The spans below k of place u, which was taken with loss d, are tried; r places are not settled.
 pub record Trying (m : Map) (u d k r : ℕ) (waits key best last : List ℕ) : Type 0 where

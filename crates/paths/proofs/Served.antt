@@ -45,7 +45,8 @@ use Rattle.paths.proofs.Turns.{
 }
 use Rattle.paths.proofs.Table.{none-waits}
 use Rattle.paths.proofs.Log.{after-snoc, done-snoc}
-use Rattle.paths.proofs.Calls.{Does, insert-does, decrease-does, extract-does, all-free}
+use Rattle.paths.proofs.Calls.{Does, insert-does, decrease-does, extract-does}
+use Rattle.paths.proofs.AllFree.{all-free}
 
 -- The calls on the empty forests of n items are all done, and leave the queue q.
 pub record Served (n : ℕ) (q : Queue) (calls : List Line) : Type 0 where
@@ -68,15 +69,15 @@ module _ (n : ℕ) (q : Queue) (calls : List Line) (S : Served n q calls) where
         done = done-snoc l (empty n) calls (S .done) (D .code);
       }
 
-  pub enter-served : (p k : ℕ) → p < length (q .waits) → getD (q .waits) p 0 ≡ 0
+  enter-served : (p k : ℕ) → p < length (q .waits) → getD (q .waits) p 0 ≡ 0
       → Does (answer forests (Yields (Insert 0 p k))) p k (set (q .waits) p 1) (set (q .key) p k)
   enter-served p k l z = insert-does forests (q .waits) (q .key) (S .waits) (S .keys) p k l z
 
-  pub lower-served : (p k : ℕ) → getD (q .waits) p 0 ≢ 0 → k ≤ getD (q .key) p 0
+  lower-served : (p k : ℕ) → getD (q .waits) p 0 ≢ 0 → k ≤ getD (q .key) p 0
       → Does (answer forests (Yields (DecreaseKey p k))) p k (q .waits) (set (q .key) p k)
   lower-served p k w l = decrease-does forests (q .waits) (q .key) (S .waits) (S .keys) p k w l
 
-  pub leave-served : (stop : Stop) (u : ℕ) → ((p : ℕ) → getD (q .waits) p 0 ≤ 1) → next stop q ≡ takes u
+  leave-served : (stop : Stop) (u : ℕ) → ((p : ℕ) → getD (q .waits) p 0 ≤ 1) → next stop q ≡ takes u
       → Does (answer forests (Yields (ExtractMin 0))) u (getD (q .key) u 0) (set (q .waits) u 0) (set (q .key) u 0)
   leave-served stop u bit e =
       let X = next-takes stop q u e in

@@ -1,48 +1,18 @@
--- A span that brings nothing, and a place that is taken: the invariant goes on.
-use Prim.Native.Nat.{ℕ, suc, _+_, _≤_, _<_, zero-le}
+-- A place is taken: the invariant goes on, with none of its spans tried.
+use Prim.Native.Nat.{ℕ, _+_, _≤_, _<_, zero-le}
 use mathlib.Core.Path.{_≡_, refl, sym, ap, _∙_}
 use mathlib.Core.Logic.{_≢_}
 use mathlib.Core.List.{List}
-use mathlib.Core.Bool.{Bool, true, false}
 use native.Mathlib.Nat.{le-refl, le-trans}
 use native.Mathlib.Omega.{arith}
 use lib.ListN.{length, getD, set, length-set}
 use lib.Seq.{getD-set-same, getD-set-other}
-use lib.Dec.{eqb}
-use borrow.Author.Tests.{eqb-true, eqb-false}
 use Rattle.rules.specs.Forests.{none}
 use Rattle.rules.proofs.Occurs.{byItem}
 use Rattle.rules.proofs.Sums.{sumBy-set}
-use Rattle.paths.specs.Map.{Map, spans, fromOf, IsSpan}
+use Rattle.paths.specs.Map.{Map, spans, fromOf}
 use Rattle.paths.proofs.Waiting.{waits-below}
-use Rattle.paths.proofs.Invariant.{unsettled, Settled, Relaxed, Invariant, TakenLast}
-
--- Span k of the place that was taken changes nothing.
-pub pass : (m : Map) (u d k : ℕ) (waits key best last : List ℕ) → Invariant m u d k waits key best last
-    → (IsSpan m k → fromOf m k ≡ u → Relaxed m best last k) → Invariant m u d (suc k) waits key best last
-pass m u d k waits key best last I f =
-    record {
-      waitsN = I .waitsN;
-      keyN = I .keyN;
-      bestN = I .bestN;
-      lastN = I .lastN;
-      bit = I .bit;
-      met = I .met;
-      keyed = I .keyed;
-      begun = I .begun;
-      unmet = I .unmet;
-      given = I .given;
-      past = I .past;
-      future = I .future;
-      small = I .small;
-      relaxed =
-          byItem k (λ i s _. go (eqb (fromOf m k) u) refl i s)
-          (λ e n i s g. I .relaxed e i s (λ z. let h = g z in omega arith));
-    }
-  where
-    go : (b : Bool) → eqb (fromOf m k) u ≡ b → IsSpan m k → Settled waits best (fromOf m k) → Relaxed m best last k
-    go true q i s = f i (eqb-true (fromOf m k) u q)
-    go false q i s = I .relaxed k i s (λ z. absurd (eqb-false (fromOf m k) u q z))
+use Rattle.paths.proofs.Invariant.{unsettled, Settled, Invariant, TakenLast}
 
 -- The place x, which waits with the least key, is taken.
 module _

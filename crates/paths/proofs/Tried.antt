@@ -7,7 +7,7 @@ use lib.Dec.{eqb}
 use borrow.Author.Tests.{eqb-true, eqb-false}
 use Rattle.paths.specs.Map.{Map, spans, fromOf, toOf, lossOf, IsSpan, Accepted}
 use Rattle.paths.specs.Search.{Search, Verdict, judge, update, offer, try, tried, examine, bestAt, lastAt}
-use Rattle.paths.proofs.Take.{pass}
+use Rattle.paths.proofs.Pass.{pass}
 use Rattle.paths.proofs.Offers.{TryingOf, Case, judged, update-trying}
 
 pub tried-trying : (m : Map) → Accepted m → (u d r : ℕ) (s : Search) → TryingOf m u d 0 r s → (k : ℕ) → k ≤ spans m

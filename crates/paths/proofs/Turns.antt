@@ -1,6 +1,6 @@
 -- The turns of a search keep the invariant, and whatever each taking and each offer keeps; in the end it halts.
-use Prim.Native.Nat.{ℕ, zero, suc, _+_, _≤_}
-use mathlib.Core.Path.{_≡_, refl}
+use Prim.Native.Nat.{ℕ, zero, suc, _+_, _-_, _≤_}
+use mathlib.Core.Path.{_≡_, refl, ap, _∙_}
 use mathlib.Core.Logic.{_≢_}
 use native.Mathlib.Nat.{le-refl}
 use native.Mathlib.Omega.{arith}
@@ -137,3 +137,18 @@ module _ (stop : Stop) (m : Map) (A : Accepted m) where
 
 pub searchHalts : SearchHalts
 searchHalts stop m A = search-halts stop m A
+
+-- nothing is left to take: more turns change nothing
+turns-stop : (stop : Stop) (m : Map) (k n j : ℕ) → j ≡ k + n → next stop ((turns stop m k) .queue) ≡ halts
+    → turns stop m j ≡ turns stop m k
+unfolding turns turn
+turns-stop stop m k zero j q e = let z : j ≡ k = omega arith in ap (turns stop m) z
+turns-stop stop m k (suc n) zero q e = absurd (omega arith)
+turns-stop stop m k (suc n) (suc j) q e =
+    ap (λ s. turn m (next stop (s .queue)) s) (turns-stop stop m k n j (omega arith) e)
+    ∙ ap (λ x. turn m x (turns stop m k)) e
+
+pub search-is : (stop : Stop) (m : Map) (k : ℕ) → k ≤ m .places → next stop ((turns stop m k) .queue) ≡ halts
+    → search stop m ≡ turns stop m k
+unfolding search
+search-is stop m k h e = turns-stop stop m k (m .places - k) (m .places) (omega arith) e

@@ -1,4 +1,4 @@
--- Which places stand in the list of those that wait, and what is known of the place that comes next.
+-- Which places stand in the list of those that wait, what is known of the place that comes next, and how many wait.
 use Prim.Native.Nat.{ℕ, zero, suc, _+_, _≤_, _<_}
 use mathlib.Core.Path.{_≡_, refl, sym, ap}
 use mathlib.Core.Logic.{_≢_}
@@ -14,7 +14,7 @@ use Rattle.rules.specs.Order.{precedes, leastOf}
 use Rattle.rules.proofs.Minimum.{leastOf-in}
 use Rattle.rules.proofs.Occurs.{byItem, delta-self, delta-other}
 use Rattle.rules.proofs.Order.{is-precedes, not-precedes}
-use Rattle.paths.specs.Queue.{Queue, Stop, halts, takes, waiting, nextOf, next}
+use Rattle.paths.specs.Queue.{Queue, Stop, Next, halts, takes, waiting, nextOf, next}
 use Rattle.paths.specs.Search.{never}
 
 -- ---- the list of those that wait
@@ -121,7 +121,7 @@ next-takes stop q u = go (waiting 0 (q .waits)) refl
             })
 
 -- The finder halts: if any place waits, then so does one, with no larger key, at which the rule stops.
-pub next-halts : (stop : Stop) (q : Queue) → next stop q ≡ halts → (z : ℕ) → getD (q .waits) z 0 ≢ 0
+next-halts : (stop : Stop) (q : Queue) → next stop q ≡ halts → (z : ℕ) → getD (q .waits) z 0 ≢ 0
     → (u : ℕ) × (stop (getD (q .key) u 0) ≡ true) × (getD (q .key) u 0 ≤ getD (q .key) z 0)
 unfolding next nextOf occurs sumBy
 next-halts stop q n z w = go (waiting 0 (q .waits)) refl n
@@ -148,3 +148,34 @@ halts-empty q n z = go (eqb (getD (q .waits) z 0) 0) refl
     go false e =
         let h = next-halts never q n z (eqb-false (getD (q .waits) z 0) 0 e) in
         absurd (true≢false (sym (h .1)))
+
+-- ---- how many wait
+
+pub sum-none : (l : List ℕ) → ((i : ℕ) → getD l i 0 ≡ 0) → sumBy (λ h. h) l ≡ 0
+unfolding sumBy
+sum-none [] f = refl
+sum-none (x ∷ l) f = omega (arith, f 0, sum-none l (λ i. f (suc i)))
+
+le-sum : (l : List ℕ) (i : ℕ) → getD l i 0 ≤ sumBy (λ h. h) l
+unfolding sumBy
+le-sum [] i = omega arith
+le-sum (x ∷ l) zero = omega arith
+le-sum (x ∷ l) (suc i) = omega (arith, le-sum l i)
+
+module _ (q : Queue) where
+  -- a place waits, so one comes next; none waits, so a full search halts
+  pub some-next : sumBy (λ h. h) (q .waits) ≢ 0 → (u : ℕ) × (next never q ≡ takes u)
+  some-next n = go (next never q) refl
+    where
+      go : (x : Next) → next never q ≡ x → (u : ℕ) × (next never q ≡ takes u)
+      go (takes u) e = (u, e)
+      go halts e = absurd (n (sum-none (q .waits) (halts-empty q e)))
+
+  pub none-next : sumBy (λ h. h) (q .waits) ≡ 0 → next never q ≡ halts
+  none-next n = go (next never q) refl
+    where
+      go : (x : Next) → next never q ≡ x → next never q ≡ halts
+      go halts e = e
+      go (takes u) e =
+          let w : getD (q .waits) u 0 ≢ 0 = next-takes never q u e .inside in
+          absurd (omega (arith, le-sum (q .waits) u))

@@ -6,12 +6,16 @@ use borrow.Author.Needs.{needs}
 use lib.ListN.{length, getD}
 use Rattle.paths.specs.Map.{Map}
 use Rattle.finder.specs.Progress.{Taken}
-use Rattle.finder.proofs.Visiting.{
+use Rattle.finder.proofs.AtPlace.{place-small}
+use Rattle.finder.proofs.Walking.{
   Walking,
-  place-small,
   first-small,
   end-small,
   walking-begins,
+  visited-small,
+  walking-ends,
+}
+use Rattle.finder.proofs.Visiting.{
   examined-small,
   span-small,
   in-to,
@@ -19,8 +23,6 @@ use Rattle.finder.proofs.Visiting.{
   loss-fits,
   offer-ready,
   walking-on,
-  visited-small,
-  walking-ends,
 }
 use Rattle.finder.proofs.visit.try_spans.Statement.{statement}
 use Rattle.finder.proofs.visit.try_spans.Tie as tie
