@@ -1,6 +1,6 @@
 -- `finder::visit::try_spans` meets its contract. The invariant: the spans of u below e are tried.
 use Prim.Native.Nat.{_+_, _-_, _<_}
-use mathlib.Core.Path.{_≡_, refl}
+use mathlib.Core.Path.{_≡_, refl, _∙_}
 use native.Mathlib.Omega.{arith}
 use borrow.Author.Needs.{needs}
 use lib.ListN.{length, getD}
@@ -122,13 +122,13 @@ loop-again : tie.Need-loop-again Inv-loop μ-loop
 loop-again c =
     let o = c .before .before .before .before .before .before in
     let x = o .before .before .before .before .before .before in
-    let t = x .before in (
+    let t = x .before in
+    let i = t .before .loop .inv in (
       λ m K.
-          walking-on K (t .before .loop .inv .0 m K) (t .loop-test .taken)
-          (rw (x .examine .ensures) at (o .offered .ensures)),
-      search needs,
-      search needs,
-      search needs,
+          walking-on K (i .0 m K) (t .loop-test .taken) (rw (x .examine .ensures) at (o .offered .ensures)),
+      c .before .before .before .before .before .best .given ∙ i .1,
+      c .before .before .before .last .given ∙ i .2,
+      c .before .store .given ∙ i .3,
     )
 
 visit-requires : tie.Need-visit-requires Inv-loop μ-loop
