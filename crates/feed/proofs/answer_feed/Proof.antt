@@ -1,7 +1,8 @@
 -- `answer_feed` meets its contract.
 use native.Mathlib.Omega.{arith}
 use Rattle.paths.specs.Map.{mapOf}
-use Rattle.feed.proofs.Printing.{field-11, shows-refused, table-ready, figures-room, shows-done}
+use Rattle.feed.proofs.Fields.{field-11}
+use Rattle.feed.proofs.FeedShown.{shows-refused, table-ready, figures-room, shows-done}
 use borrow.Author.Needs.{needs}
 use Rattle.feed.proofs.answer_feed.Statement.{statement}
 use Rattle.feed.proofs.answer_feed.Tie as tie

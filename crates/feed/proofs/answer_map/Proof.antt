@@ -3,7 +3,8 @@ use native.Mathlib.Omega.{arith}
 use mathlib.Core.Path.{sym}
 use lib.Seq.{length-take-le}
 use Rattle.mapfile.specs.Read.{readMap}
-use Rattle.feed.proofs.Printing.{field-11, spans-read, store-fits, map-refused, map-many, map-fed}
+use Rattle.feed.proofs.Fields.{field-11}
+use Rattle.feed.proofs.MapShown.{spans-read, store-fits, map-refused, map-many, map-fed}
 use borrow.Author.Needs.{needs}
 use Rattle.feed.proofs.answer_map.Statement.{statement}
 use Rattle.feed.proofs.answer_map.Tie as tie

@@ -1,6 +1,6 @@
 -- `put_entry` meets its contract.
 use native.Mathlib.Omega.{arith}
-use Rattle.feed.proofs.Printing.{field-11, after-field, after-word, wrote-entry}
+use Rattle.feed.proofs.Fields.{field-11, after-field, after-word, wrote-entry}
 use borrow.Author.Needs.{needs}
 use Rattle.feed.proofs.put_entry.Statement.{statement}
 use Rattle.feed.proofs.put_entry.Tie as tie

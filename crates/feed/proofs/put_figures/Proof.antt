@@ -1,6 +1,6 @@
 -- `put_figures` meets its contract.
 use native.Mathlib.Omega.{arith}
-use Rattle.feed.proofs.Printing.{field-11, after-field, wrote-figures}
+use Rattle.feed.proofs.Fields.{field-11, after-field, wrote-figures}
 use borrow.Author.Needs.{needs}
 use Rattle.feed.proofs.put_figures.Statement.{statement}
 use Rattle.feed.proofs.put_figures.Tie as tie

@@ -4,7 +4,7 @@ use mathlib.Core.Path.{_≡_, refl}
 use native.Mathlib.Omega.{arith}
 use borrow.Author.Needs.{needs}
 use lib.ListN.{length}
-use Rattle.feed.proofs.Printing.{Rows, no-rows, row-room, more-rows, all-rows}
+use Rattle.feed.proofs.TableRows.{Rows, no-rows, row-room, more-rows, all-rows}
 use Rattle.feed.proofs.put_table.Statement.{statement}
 use Rattle.feed.proofs.put_table.Tie as tie
 

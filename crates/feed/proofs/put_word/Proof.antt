@@ -1,6 +1,6 @@
 -- `put_word` meets its contract.
 use native.Mathlib.Omega.{arith}
-use Rattle.feed.proofs.Printing.{field-11, wrote-dash, wrote-word}
+use Rattle.feed.proofs.Fields.{field-11, wrote-dash, wrote-word}
 use borrow.Author.Needs.{needs}
 use Rattle.feed.proofs.put_word.Statement.{statement}
 use Rattle.feed.proofs.put_word.Tie as tie
