@@ -1,3 +1,5 @@
--- The proofs about what the program prints.
-pub mod Reading
-pub mod Printing
+-- What is printed, piece by piece.
+pub mod Fields
+pub mod TableRows
+pub mod FeedShown
+pub mod MapShown

@@ -11,8 +11,8 @@ use Rattle.text.specs.Fields.{comma}
 use Rattle.text.specs.Lines.{lineFeed}
 use Rattle.text.specs.Decimal.{field, row}
 use Rattle.text.specs.Output.{Wrote}
-use Rattle.finder.specs.Map.{Map, mapOf, spans}
-use Rattle.finder.specs.Feed.{Feed, feedResult}
+use Rattle.paths.specs.Map.{Map, mapOf, spans}
+use Rattle.paths.specs.Feed.{Feed, feedResult}
 use Rattle.mapfile.specs.Read.{Reading}
 
 -- a word of the table and the byte that ends it; `-` stands for none

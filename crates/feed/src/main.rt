@@ -1,22 +1,20 @@
 // Reads a map on standard input and prints its feed table for at most 1,024 places and 4,096 spans, or the code of the
 // refusal alone.
-ghost use mathlib.Core.Path.{_≡_};
 ghost use mathlib.Core.List.{[], _∷_};
 ghost use Prim.Native.Nat.{_+_, _≤_};
 ghost use lib.ListN.{length};
 ghost use Rattle.text.specs.Decimal.{row};
 ghost use Rattle.text.specs.Output.{Wrote};
-ghost use Rattle.finder.specs.Map.{mapOf};
-ghost use Rattle.finder.specs.Feed.{feedResult};
+ghost use Rattle.paths.specs.Map.{mapOf};
+ghost use Rattle.paths.specs.Feed.{feedResult};
 ghost use Rattle.feed.specs.Shown.{wordField, entryRow, Roomy, WroteRow, TableReady, TableWrote, ShowsFeed};
 ghost use Rattle.feed.specs.Shown.{fedBy, MapReady, ShowsMap};
 ghost use Rattle.mapfile.specs.Read.{readMap};
 use libc::STDIN_FILENO;
 use libc::STDOUT_FILENO;
+use store::NONE;
 use text::output::put_byte;
 use text::output::put_field;
-
-const NONE: u32 = 4294967295;
 
 // Writes a word of the table and the byte that ends it.
 fn put_word(out: &mut [u8], at: usize, word: u32, end: u8) -> usize

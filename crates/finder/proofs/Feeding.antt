@@ -7,16 +7,16 @@ use native.Mathlib.Omega.{arith}
 use lib.ListN.{length}
 use Rattle.rules.specs.Words.{encode}
 use Rattle.finder.specs.declared.relax.Progress.{Progress}
-use Rattle.finder.specs.Map.{Map, Accepted}
-use Rattle.finder.specs.Search.{never, search, find}
-use Rattle.finder.specs.Codes.{feedCode}
-use Rattle.finder.specs.Feed.{feedAs, feedResult}
-use Rattle.finder.specs.Theorems.{between, Fits}
+use Rattle.paths.specs.Map.{Map, Accepted}
+use Rattle.paths.specs.Search.{never, search, find}
+use Rattle.paths.specs.Codes.{feedCode}
+use Rattle.paths.specs.Feed.{feedAs, feedResult}
+use Rattle.paths.specs.Theorems.{between, Fits}
 use Rattle.finder.specs.Progress.{BeginReady, Found}
 use Rattle.finder.specs.Promise.{Feeds}
-use Rattle.finder.proofs.Served.{endsEmpty}
-use Rattle.finder.proofs.Examined.{examinedAtMost}
-use Rattle.finder.proofs.Accepts.{codeZero}
+use Rattle.paths.proofs.Served.{endsEmpty}
+use Rattle.paths.proofs.Examined.{examinedAtMost}
+use Rattle.paths.proofs.Accepts.{codeZero}
 
 pub accepted-map : (m : Map) (bestN lastN storeN code : ℕ) → code ≡ feedCode m bestN lastN storeN → code ≡ 0
     → Accepted m

@@ -1,30 +1,10 @@
--- The proofs about the feed finder.
-pub mod ByHand
-pub mod Waiting
-pub mod Invariant
-pub mod Improve
-pub mod Take
-pub mod Judge
-pub mod Offers
-pub mod Tried
-pub mod Begin
-pub mod Turns
-pub mod Chains
-pub mod Table
-pub mod Calls
-pub mod Log
-pub mod Served
-pub mod Settling
-pub mod Examined
-pub mod Costs
-pub mod Counts
-pub mod Codes
-pub mod Accepts
-pub mod FeedCodes
-pub mod Range
+-- What the functions of the finder need, bottom to top.
 pub mod Walk
 pub mod Logged
 pub mod Relaxing
+pub mod AtPlace
+pub mod Walking
 pub mod Visiting
+pub mod Beginning
 pub mod Searching
 pub mod Feeding

@@ -4,54 +4,54 @@ use Prim.Native.Nat.{ℕ, _+_}
 use mathlib.Core.Path.{_≡_, sym, ap, _∙_}
 use mathlib.Core.List.{List, [], _∷_, _++_}
 use native.Mathlib.Omega.{arith}
+use Rattle.rules.specs.declared.Answer.{Answer}
 use Rattle.rules.specs.declared.Call.{Call}
 use Rattle.rules.specs.declared.Line.{Line}
 use Rattle.rules.specs.declared.Line.the-variants.{Yields}
+use Rattle.rules.specs.Lists.{sumBy}
 use Rattle.rules.specs.Forests.{empty}
-use Rattle.rules.specs.Answers.{answer, after}
+use Rattle.rules.specs.Answers.{answer, answers, after}
 use Rattle.rules.specs.WellFormed.{WellFormed}
 use Rattle.rules.specs.Words.{encode, forestsOf}
 use Rattle.rules.proofs.SoundWords.{forests-encode, sound-encode}
 use Rattle.rules.specs.declared.Tally.{Tally}
 use Rattle.heap.specs.declared.Reply.{Reply}
 use Rattle.heap.specs.Performed.{Ready, Performed}
-use Rattle.finder.specs.Map.{Map, Accepted}
-use Rattle.finder.specs.Search.{Search, never}
-use Rattle.finder.specs.Theorems.{Moment}
+use Rattle.paths.specs.Map.{Map, Accepted}
+use Rattle.paths.specs.Search.{Search, never}
+use Rattle.paths.specs.Feed.{linksOf, cutsOf}
+use Rattle.paths.specs.Theorems.{Moment}
 use Rattle.finder.specs.Progress.{Logged}
-use Rattle.finder.proofs.Turns.{moments-keep}
-use Rattle.finder.proofs.Log.{after-snoc, links-snoc, cuts-snoc}
-use Rattle.finder.proofs.Served.{ServedOf, served}
-use Rattle.finder.proofs.Counts.{counts-low}
+use Rattle.paths.proofs.Turns.{moments-keep}
+use Rattle.paths.proofs.Log.{after-snoc, sum-snoc}
+use Rattle.paths.proofs.Served.{ServedOf, served}
+use Rattle.paths.proofs.Counts.{counts-low}
 
 module _ (n : ℕ) (calls : List Line) (store : List ℕ) (t : Tally) (L : Logged n calls store t) where
   pub logged-forests : WellFormed (after (empty n) calls) → forestsOf store ≡ after (empty n) calls
   logged-forests W = ap forestsOf (L .words) ∙ forests-encode (after (empty n) calls) W
 
+  -- the sums over the answers grow by what the call answers
+  adds : WellFormed (after (empty n) calls) → (c : Call) (f : Answer → ℕ) (x y : ℕ)
+      → y ≡ x + f ((answer (forestsOf store) (Yields c)) .reply) → x ≡ sumBy f (answers (empty n) calls)
+      → y ≡ sumBy f (answers (empty n) (calls ++ (Yields c ∷ [])))
+  adds W c f x y p q =
+      omega (
+        arith,
+        ap (λ s. f ((answer s (Yields c)) .reply)) (logged-forests W),
+        sum-snoc (Yields c) f (empty n) calls,
+      )
+
   pub call-logged : WellFormed (after (empty n) calls) → (c : Call) (r : Reply) (store′ : List ℕ)
       → Performed store c t r store′ → Logged n (calls ++ (Yields c ∷ [])) store′ (r .tally)
+  unfolding linksOf cutsOf
   call-logged W c r store′ P =
-      let e = logged-forests W in
       record {
         words =
-            P .words ∙ ap (λ f. encode ((answer f (Yields c)) .next)) e
+            P .words ∙ ap (λ f. encode ((answer f (Yields c)) .next)) (logged-forests W)
             ∙ ap encode (sym (after-snoc (Yields c) (empty n) calls));
-        links =
-            omega (
-              arith,
-              P .links,
-              L .links,
-              ap (λ f. (answer f (Yields c)) .reply .links) e,
-              links-snoc (Yields c) n calls,
-            );
-        cuts =
-            omega (
-              arith,
-              P .cuts,
-              L .cuts,
-              ap (λ f. (answer f (Yields c)) .reply .cuts) e,
-              cuts-snoc (Yields c) n calls,
-            );
+        links = adds W c (λ a. a .links) (t .links) (r .tally .links) (P .links) (L .links);
+        cuts = adds W c (λ a. a .cuts) (t .cuts) (r .tally .cuts) (P .cuts) (L .cuts);
       }
 
 -- at every moment another call may be made

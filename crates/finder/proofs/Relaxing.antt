@@ -11,13 +11,13 @@ use Rattle.rules.proofs.Sums.{sumBy-set}
 use Rattle.heap.specs.declared.Reply.{Reply}
 use Rattle.heap.specs.Performed.{Performed}
 use Rattle.finder.specs.declared.relax.Progress.{Progress}
-use Rattle.finder.specs.Search.{Verdict, unmet, smaller, tie, worse, judge, update, offer}
+use Rattle.paths.specs.Search.{Verdict, unmet, smaller, tie, worse, judge, update, offer}
 use Rattle.finder.specs.Progress.{EnterReady, OfferReady, Moves}
-use Rattle.finder.proofs.Judge.{judge-unmet, judge-smaller, judge-larger, judge-tie, judge-late}
+use Rattle.paths.proofs.Judge.{judge-unmet, judge-smaller, judge-larger, judge-tie, judge-late}
 use Rattle.finder.proofs.Logged.{call-logged}
 
 -- below the length the default does not matter
-pub same-at : (l : List ℕ) (i a b : ℕ) → i < length l → getD l i a ≡ getD l i b
+same-at : (l : List ℕ) (i a b : ℕ) → i < length l → getD l i a ≡ getD l i b
 same-at [] i a b h = absurd (omega arith)
 same-at (x ∷ l) zero a b h = refl
 same-at (x ∷ l) (suc i) a b h = same-at l i a b (omega arith)
@@ -67,7 +67,7 @@ module _ (p l e : ℕ) (best last store : List ℕ) (go : Progress) where
             };
       }
 
-  pub tie-moves : Moves p (update tie p l e) best last store go best (set last p e) store go
+  tie-moves : Moves p (update tie p l e) best last store go best (set last p e) store go
   unfolding update
   tie-moves =
       record {
@@ -83,12 +83,12 @@ module _ (p l e : ℕ) (best last store : List ℕ) (go : Progress) where
             };
       }
 
-  pub worse-moves : Moves p (update worse p l e) best last store go best last store go
+  worse-moves : Moves p (update worse p l e) best last store go best last store go
   unfolding update
   worse-moves = record { visited-is = refl; holds = λ n out s O H. H }
 
   -- the verdict is that on the words of the lists
-  pub judged-moves : (v : Verdict) → judge (getD best p none) (getD last p none) l e ≡ v
+  judged-moves : (v : Verdict) → judge (getD best p none) (getD last p none) l e ≡ v
       → (best′ last′ store′ : List ℕ) (r : Progress)
       → Moves p (update v p l e) best last store go best′ last′ store′ r
       → Moves p (offer p l e) best last store go best′ last′ store′ r

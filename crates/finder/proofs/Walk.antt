@@ -1,15 +1,13 @@
--- Laws for a walk by code: of the spans only the range of the place taken need be walked, since spans are sorted by
--- from; and the turns may end as soon as nothing is left to take.
+-- Of the spans only the range of the place taken need be tried, since spans are sorted by from.
 use Prim.Native.Nat.{ℕ, zero, suc, _+_, _-_, _≤_, _<_}
 use mathlib.Core.Path.{_≡_, ap}
 use mathlib.Core.Logic.{_≢_}
 use native.Mathlib.Omega.{arith}
 use borrow.Author.Tests.{ne-eqb}
-use Rattle.finder.specs.Map.{Map, spans, fromOf, Accepted}
-use Rattle.finder.specs.Range.{Sorted}
-use Rattle.finder.specs.Queue.{Stop, halts, next}
-use Rattle.finder.proofs.Range.{sorted-all}
-use Rattle.finder.specs.Search.{Search, try, tried, turn, turns, search}
+use Rattle.paths.specs.Map.{Map, spans, fromOf, Accepted}
+use Rattle.spans.specs.Range.{Sorted}
+use Rattle.spans.proofs.Range.{sorted-all}
+use Rattle.paths.specs.Search.{Search, try, tried}
 
 -- spans of other places are passed over
 tried-skip : (m : Map) (u d : ℕ) (s : Search) (a n b : ℕ) → b ≡ a + n
@@ -37,16 +35,3 @@ walk-ends m A u d s hi k f =
     let w = f (omega arith) in
     let v = sorted-all (m .from) (sorted m A) hi e i j in
     omega arith)
-
--- nothing is left to take: more turns change nothing
-turns-stop : (stop : Stop) (m : Map) (k n j : ℕ) → j ≡ k + n → next stop ((turns stop m k) .queue) ≡ halts
-    → turns stop m j ≡ turns stop m k
-unfolding turns turn
-turns-stop stop m k zero j q e = let z : j ≡ k = omega arith in ap (turns stop m) z
-turns-stop stop m k (suc n) zero q e = absurd (omega arith)
-turns-stop stop m k (suc n) (suc j) q e = rw (turns-stop stop m k n j (omega arith) e, e)
-
-pub search-is : (stop : Stop) (m : Map) (k : ℕ) → k ≤ m .places → next stop ((turns stop m k) .queue) ≡ halts
-    → search stop m ≡ turns stop m k
-unfolding search
-search-is stop m k h e = turns-stop stop m k (m .places - k) (m .places) (omega arith) e

@@ -14,11 +14,11 @@ use Rattle.store.specs.Says.{Sized}
 use Rattle.rules.specs.declared.Tally.{Tally}
 use Rattle.heap.specs.Performed.{Ready}
 use Rattle.finder.specs.declared.relax.Progress.{Progress}
-use Rattle.finder.specs.Map.{Map, mapOf, Accepted}
-use Rattle.finder.specs.Range.{Index}
-use Rattle.finder.specs.Queue.{takes, next}
-use Rattle.finder.specs.Search.{Search, extracted, begin, turns, never, find, bestAt}
-use Rattle.finder.specs.Feed.{linksOf, cutsOf}
+use Rattle.paths.specs.Map.{Map, mapOf, Accepted}
+use Rattle.spans.specs.Range.{Index}
+use Rattle.paths.specs.Queue.{takes, next}
+use Rattle.paths.specs.Search.{Search, extracted, begin, turns, never, find, bestAt}
+use Rattle.paths.specs.Feed.{linksOf, cutsOf}
 
 -- The store holds the forests that the calls leave, and the tally is theirs.
 pub record Logged (n : ℕ) (calls : List Line) (store : List ℕ) (t : Tally) : Type 0 where

@@ -4,8 +4,8 @@ use mathlib.Core.Path.{_≡_}
 use mathlib.Core.Logic.{_≢_}
 use mathlib.Core.List.{List}
 use Rattle.finder.specs.declared.Fed.{Fed}
-use Rattle.finder.specs.Map.{Map, spans}
-use Rattle.finder.specs.Feed.{Feed}
+use Rattle.paths.specs.Map.{Map, spans}
+use Rattle.paths.specs.Feed.{Feed}
 
 -- The answer and what is left are those of w. The count of examined spans is free in a call that is done: it is at most
 -- the spans listed.

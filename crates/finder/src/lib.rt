@@ -2,23 +2,21 @@
 ghost use mathlib.Core.Path.{_≡_};
 ghost use Prim.Native.Nat.{ℕ};
 ghost use lib.ListN.{length, replicate};
-ghost use Rattle.finder.specs.Map.{mapOf};
-ghost use Rattle.finder.specs.Feed.{feedResult};
+ghost use Rattle.paths.specs.Map.{mapOf};
+ghost use Rattle.paths.specs.Feed.{feedResult};
 ghost use Rattle.finder.specs.Progress.{BeginReady, Begun, Stands, Found};
 ghost use Rattle.finder.specs.Promise.{Feeds};
 use heap::perform::perform;
-use index::Index;
-use index::index_spans;
-use refusal::feed_code;
-use relax::NONE;
 use relax::Progress;
 use rules::Call;
 use rules::Tally;
+use spans::index::Index;
+use spans::index::index_spans;
+use spans::refusal::feed_code;
+use store::NONE;
 use store::make_empty;
 use visit::visit_next;
 
-mod index;
-mod refusal;
 mod relax;
 mod visit;
 

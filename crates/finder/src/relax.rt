@@ -1,13 +1,12 @@
 // A span offers its end a loss, and the queue and the table follow (relaxation of an edge).
 ghost use mathlib.Core.Path.{_≡_};
 ghost use Prim.Native.Nat.{_+_, _<_};
-ghost use Rattle.finder.specs.Search.{unmet, smaller, update, offer};
+ghost use Rattle.paths.specs.Search.{unmet, smaller, update, offer};
 ghost use Rattle.finder.specs.Progress.{examineOne, visitOne, EnterReady, OfferReady, Moves};
 use heap::perform::perform;
 use rules::Call;
 use rules::Tally;
-
-pub const NONE: u32 = 4294967295;
+use store::NONE;
 
 // How far a search is: the places whose spans were tried, the places met, the spans examined, and the tally of its
 // queue calls.

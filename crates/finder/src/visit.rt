@@ -1,12 +1,12 @@
 // A place is taken from the queue, and its spans are tried. The map is no argument: the contracts hold for any whose
 // lists these are.
-ghost use Rattle.finder.specs.Map.{Map};
+ghost use Rattle.paths.specs.Map.{Map};
 ghost use Rattle.finder.specs.Progress.{Taken, Goes, Visits};
-use super::index::Index;
 use super::relax::Progress;
 use super::relax::offered;
 use heap::perform::perform;
 use rules::Call;
+use spans::index::Index;
 
 // The spans of place u, which was taken with loss d, are tried in list order.
 fn try_spans(

@@ -7,8 +7,8 @@ use mathlib.Core.Bool.{cond}
 use Rattle.soundness.specs.Check.{soundWords}
 use Rattle.sheet.specs.Runs.{Run, returned}
 use Rattle.finder.specs.declared.Fed.{Fed}
-use Rattle.finder.specs.Map.{Map}
-use Rattle.finder.specs.Feed.{Feed}
+use Rattle.paths.specs.Map.{Map}
+use Rattle.paths.specs.Feed.{Feed}
 use Rattle.finder.specs.Promise.{Feeds}
 use Rattle.mapfile.specs.Read.{Reading}
 

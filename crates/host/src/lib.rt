@@ -1,8 +1,8 @@
 // The entries for hosts in C, all but the modem's own run.
 ghost use mathlib.Core.Path.{_≡_};
 ghost use Rattle.sheet.specs.Runs.{freshRun, keptRun};
-ghost use Rattle.finder.specs.Map.{mapOf};
-ghost use Rattle.finder.specs.Feed.{feedResult};
+ghost use Rattle.paths.specs.Map.{mapOf};
+ghost use Rattle.paths.specs.Feed.{feedResult};
 ghost use Rattle.mapfile.specs.Read.{readMap};
 ghost use Rattle.host.specs.Entries.{RunReturns, soundNumber, FeedReturns, ReadReturns};
 

@@ -5,3 +5,4 @@ pub mod LineAt
 pub mod Counting
 pub mod Filling
 pub mod Ways
+pub mod Fits

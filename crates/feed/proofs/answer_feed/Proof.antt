@@ -1,39 +1,33 @@
 -- `answer_feed` meets its contract.
 use native.Mathlib.Omega.{arith}
-use Rattle.finder.specs.Map.{mapOf}
-use Rattle.feed.proofs.Printing.{field-11, shows-refused, table-ready, figures-room, shows-done}
+use Rattle.paths.specs.Map.{mapOf}
+use Rattle.feed.proofs.Fields.{field-11}
+use Rattle.feed.proofs.FeedShown.{shows-refused, table-ready, figures-room, shows-done}
 use borrow.Author.Needs.{needs}
 use Rattle.feed.proofs.answer_feed.Statement.{statement}
 use Rattle.feed.proofs.answer_feed.Tie as tie
 
--- src/main.rt:87:9
 feed-requires : tie.Need-feed-requires
 feed-requires c κs = search needs
 
--- src/main.rt:90:9
 put-field-requires : tie.Need-put-field-requires
 put-field-requires c κs =
     let at-feed = c .before .before .before .before .before .before .before .before in
     let start = at-feed .before .before .before .before .before .before .before .before .before .before .before in
     omega (arith, field-11 (at-feed .feed .result .code) 10 (search needs), start .pre .1)
 
--- src/main.rt:90:9
 same-length : tie.Need-same-length
 same-length c = search needs
 
--- src/main.rt:90:9
 same-length-2 : tie.Need-same-length-2
 same-length-2 c = search needs
 
--- src/main.rt:90:9
 same-length-3 : tie.Need-same-length-3
 same-length-3 c = search needs
 
--- src/main.rt:90:9
 same-length-4 : tie.Need-same-length-4
 same-length-4 c = search needs
 
--- src/main.rt:90:9
 returns : tie.Need-returns
 returns c =
     let at-put-field = c .before .before in
@@ -43,7 +37,6 @@ returns c =
     shows-refused (mapOf _ _ _ _ _) _ _ _ _ _ _ _ (at-feed .feed .ensures) (at-if1 .if1 .taken) (search needs) _
     (start .pre .1) _ _ (at-put-field .put-field .ensures)
 
--- src/main.rt:92:9
 put-table-requires : tie.Need-put-table-requires
 put-table-requires c κs =
     let at-if1 = c .before .before .before in
@@ -52,7 +45,6 @@ put-table-requires c κs =
     table-ready (mapOf _ _ _ _ _) _ _ _ _ _ _ _ (at-feed .feed .ensures) (at-if1 .if1 .left) (start .pre .0) _
     (start .pre .1)
 
--- src/main.rt:93:5
 put-figures-requires : tie.Need-put-figures-requires
 put-figures-requires c κs =
     let at-put-table = c .before .before .before in
@@ -62,23 +54,18 @@ put-figures-requires c κs =
     figures-room (mapOf _ _ _ _ _) _ _ _ _ _ _ _ (at-feed .feed .ensures) (at-if1 .if1 .left) (start .pre .0) _
     (start .pre .1) _ _ (at-put-table .put-table .ensures)
 
--- src/main.rt:69:1
 same-length-5 : tie.Need-same-length-5
 same-length-5 c = search needs
 
--- src/main.rt:69:1
 same-length-6 : tie.Need-same-length-6
 same-length-6 c = search needs
 
--- src/main.rt:69:1
 same-length-7 : tie.Need-same-length-7
 same-length-7 c = search needs
 
--- src/main.rt:69:1
 same-length-8 : tie.Need-same-length-8
 same-length-8 c = search needs
 
--- src/main.rt:69:1
 returns-2 : tie.Need-returns-2
 returns-2 c =
     let at-put-figures = c .before .before in

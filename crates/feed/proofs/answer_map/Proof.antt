@@ -1,9 +1,10 @@
--- `answer_map` meets its contract.
+-- `answer_map` meets its contract. What is not named here: the lists that are lent keep their lengths.
 use native.Mathlib.Omega.{arith}
 use mathlib.Core.Path.{sym}
 use lib.Seq.{length-take-le}
 use Rattle.mapfile.specs.Read.{readMap}
-use Rattle.feed.proofs.Printing.{field-11, spans-read, store-fits, map-refused, map-many, map-fed}
+use Rattle.feed.proofs.Fields.{field-11}
+use Rattle.feed.proofs.MapShown.{spans-read, store-fits, map-refused, map-many, map-fed}
 use borrow.Author.Needs.{needs}
 use Rattle.feed.proofs.answer_map.Statement.{statement}
 use Rattle.feed.proofs.answer_map.Tie as tie
@@ -17,18 +18,6 @@ put-field-requires c κs =
     let back-19 = at-read .before .before .before .before .before .before .before .before .before .before .before in
     let start = back-19 .before in
     omega (arith, field-11 (at-read .read .result .code) 10 (search needs), start .pre .room)
-
-same-length : tie.Need-same-length
-same-length c = search needs
-
-same-length-2 : tie.Need-same-length-2
-same-length-2 c = search needs
-
-same-length-3 : tie.Need-same-length-3
-same-length-3 c = search needs
-
-same-length-4 : tie.Need-same-length-4
-same-length-4 c = search needs
 
 returns : tie.Need-returns
 returns c =
@@ -45,18 +34,6 @@ put-field-requires-2 c κs =
     let back-11 = c .before .before .before .before .before .before .before .before .before .before .before in
     let start = back-11 .before .before .before .before .before .before .before .before .before .before in
     omega (arith, field-11 14 10 (omega arith), start .pre .room)
-
-same-length-5 : tie.Need-same-length-5
-same-length-5 c = search needs
-
-same-length-6 : tie.Need-same-length-6
-same-length-6 c = search needs
-
-same-length-7 : tie.Need-same-length-7
-same-length-7 c = search needs
-
-same-length-8 : tie.Need-same-length-8
-same-length-8 c = search needs
 
 returns-2 : tie.Need-returns-2
 returns-2 c =
@@ -153,27 +130,6 @@ slice-aggregate-answer-feed-6 c =
 answer-feed-requires : tie.Need-answer-feed-requires
 answer-feed-requires c κs = search needs
 
-same-length-9 : tie.Need-same-length-9
-same-length-9 c = search needs
-
-same-length-10 : tie.Need-same-length-10
-same-length-10 c = search needs
-
-same-length-11 : tie.Need-same-length-11
-same-length-11 c = search needs
-
-same-length-12 : tie.Need-same-length-12
-same-length-12 c = search needs
-
-same-length-13 : tie.Need-same-length-13
-same-length-13 c = search needs
-
-same-length-14 : tie.Need-same-length-14
-same-length-14 c = search needs
-
-same-length-15 : tie.Need-same-length-15
-same-length-15 c = search needs
-
 returns-3 : tie.Need-returns-3
 returns-3 c =
     let at-answer-feed = c .before .before .before .before .before .before .before .before in
@@ -192,16 +148,16 @@ answer-map-spec =
     (tie.spec
     read-requires
     put-field-requires
-    same-length
-    same-length-2
-    same-length-3
-    same-length-4
+    (λ c. search needs)
+    (λ c. search needs)
+    (λ c. search needs)
+    (λ c. search needs)
     returns
     put-field-requires-2
-    same-length-5
-    same-length-6
-    same-length-7
-    same-length-8
+    (λ c. search needs)
+    (λ c. search needs)
+    (λ c. search needs)
+    (λ c. search needs)
     returns-2
     cast-n
     cast-e
@@ -219,11 +175,11 @@ answer-map-spec =
     slice-relend-prefix-answer-feed-3
     slice-aggregate-answer-feed-6
     answer-feed-requires
-    same-length-9
-    same-length-10
-    same-length-11
-    same-length-12
-    same-length-13
-    same-length-14
-    same-length-15
+    (λ c. search needs)
+    (λ c. search needs)
+    (λ c. search needs)
+    (λ c. search needs)
+    (λ c. search needs)
+    (λ c. search needs)
+    (λ c. search needs)
     returns-3)

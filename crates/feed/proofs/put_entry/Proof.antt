@@ -1,16 +1,14 @@
 -- `put_entry` meets its contract.
 use native.Mathlib.Omega.{arith}
-use Rattle.feed.proofs.Printing.{field-11, after-field, after-word, wrote-entry}
+use Rattle.feed.proofs.Fields.{field-11, after-field, after-word, wrote-entry}
 use borrow.Author.Needs.{needs}
 use Rattle.feed.proofs.put_entry.Statement.{statement}
 use Rattle.feed.proofs.put_entry.Tie as tie
 
--- src/main.rt:39:9
 put-field-requires : tie.Need-put-field-requires
 put-field-requires c κs =
     omega (arith, field-11 (c .before .before .args .place) 44 (search needs), c .before .before .pre)
 
--- src/main.rt:40:9
 put-word-requires : tie.Need-put-word-requires
 put-word-requires c κs =
     omega (
@@ -19,7 +17,6 @@ put-word-requires c κs =
           (omega (arith, c .before .before .before .before .before .before .pre)),
     )
 
--- src/main.rt:41:5
 put-word-requires-2 : tie.Need-put-word-requires-2
 put-word-requires-2 c κs =
     after-word 11 _ _ (search needs) (c .before .before .before .put-word .ensures)
@@ -30,11 +27,9 @@ put-word-requires-2 c κs =
           (omega (arith, c .before .before .before .before .before .before .before .before .before .before .pre)),
     ))
 
--- src/main.rt:35:1
 same-length : tie.Need-same-length
 same-length c = search needs
 
--- src/main.rt:35:1
 returns : tie.Need-returns
 returns c =
     wrote-entry _ _ _ (search needs) (search needs) (search needs)

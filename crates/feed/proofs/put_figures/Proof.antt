@@ -1,16 +1,14 @@
 -- `put_figures` meets its contract.
 use native.Mathlib.Omega.{arith}
-use Rattle.feed.proofs.Printing.{field-11, after-field, wrote-figures}
+use Rattle.feed.proofs.Fields.{field-11, after-field, wrote-figures}
 use borrow.Author.Needs.{needs}
 use Rattle.feed.proofs.put_figures.Statement.{statement}
 use Rattle.feed.proofs.put_figures.Tie as tie
 
--- src/main.rt:63:9
 put-field-requires : tie.Need-put-field-requires
 put-field-requires c κs =
     omega (arith, field-11 (c .before .before .args .links) 44 (search needs), c .before .before .pre)
 
--- src/main.rt:64:9
 put-field-requires-2 : tie.Need-put-field-requires-2
 put-field-requires-2 c κs =
     omega (
@@ -21,7 +19,6 @@ put-field-requires-2 c κs =
           (omega (arith, c .before .before .before .before .before .before .pre)),
     )
 
--- src/main.rt:65:5
 put-field-requires-3 : tie.Need-put-field-requires-3
 put-field-requires-3 c κs =
     omega (
@@ -38,11 +35,9 @@ put-field-requires-3 c κs =
           )),
     )
 
--- src/main.rt:59:1
 same-length : tie.Need-same-length
 same-length c = search needs
 
--- src/main.rt:59:1
 returns : tie.Need-returns
 returns c =
     wrote-figures _ _ _ (search needs) (search needs) (search needs)

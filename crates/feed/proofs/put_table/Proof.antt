@@ -4,7 +4,7 @@ use mathlib.Core.Path.{_≡_, refl}
 use native.Mathlib.Omega.{arith}
 use borrow.Author.Needs.{needs}
 use lib.ListN.{length}
-use Rattle.feed.proofs.Printing.{Rows, no-rows, row-room, more-rows, all-rows}
+use Rattle.feed.proofs.TableRows.{Rows, no-rows, row-room, more-rows, all-rows}
 use Rattle.feed.proofs.put_table.Statement.{statement}
 use Rattle.feed.proofs.put_table.Tie as tie
 
@@ -14,25 +14,20 @@ Inv-loop out₀ best last at₀ p₀ out at p = Rows best last out₀ p at out �
 abbrev μ-loop : tie.MeasureT-loop
 μ-loop out₀ best last at₀ p₀ out at p = length best - p
 
--- src/main.rt:51:5
 loop-holds : tie.Need-loop-holds Inv-loop μ-loop
 loop-holds c = (no-rows _ _ _, refl)
 
--- src/main.rt:52:33
 cast-put-entry : tie.Need-cast-put-entry Inv-loop μ-loop
 cast-put-entry c =
     omega (arith, c .before .before .before .before .before .before .pre .few, c .before .loop-test .taken)
 
--- src/main.rt:52:43
 mul-put-entry : tie.Need-mul-put-entry Inv-loop μ-loop
 mul-put-entry c =
     omega (arith, c .before .before .before .before .before .before .pre .few, c .before .loop-test .taken)
 
--- src/main.rt:52:43
 shared-slice-read-put-entry : tie.Need-shared-slice-read-put-entry Inv-loop μ-loop
 shared-slice-read-put-entry c = omega (arith, c .before .before .loop-test .taken)
 
--- src/main.rt:52:52
 mul-put-entry-2 : tie.Need-mul-put-entry-2 Inv-loop μ-loop
 mul-put-entry-2 c =
     omega (
@@ -41,7 +36,6 @@ mul-put-entry-2 c =
       c .before .before .loop-test .taken,
     )
 
--- src/main.rt:52:52
 shared-slice-read-put-entry-2 : tie.Need-shared-slice-read-put-entry-2 Inv-loop μ-loop
 shared-slice-read-put-entry-2 c =
     omega (
@@ -50,14 +44,12 @@ shared-slice-read-put-entry-2 c =
       c .before .before .before .loop-test .taken,
     )
 
--- src/main.rt:52:9
 put-entry-requires : tie.Need-put-entry-requires Inv-loop μ-loop
 put-entry-requires c κs =
     row-room _ _ _ _ _ _ (c .before .before .before .before .loop .inv .0)
     (c .before .before .before .before .before .before .before .before .pre)
     (c .before .before .before .loop-test .taken)
 
--- src/main.rt:53:9
 add-p : tie.Need-add-p Inv-loop μ-loop
 add-p c =
     omega (
@@ -66,11 +58,9 @@ add-p c =
       c .before .before .before .before .before .before .loop-test .taken,
     )
 
--- src/main.rt:51:5
 loop-less : tie.Need-loop-less Inv-loop μ-loop
 loop-less c = omega (arith, c .before .before .before .before .before .before .loop-test .taken)
 
--- src/main.rt:51:5
 loop-again : tie.Need-loop-again Inv-loop μ-loop
 loop-again c = (
   more-rows _ _ _ _ _ _ (c .before .before .before .before .before .before .before .loop .inv .0)
@@ -79,11 +69,9 @@ loop-again c = (
   search needs,
 )
 
--- src/main.rt:45:1
 same-length : tie.Need-same-length Inv-loop μ-loop
 same-length c = c .before .loop .inv .1
 
--- src/main.rt:45:1
 returns : tie.Need-returns Inv-loop μ-loop
 returns c = all-rows _ _ _ _ _ _ (c .before .loop .inv .0) (c .loop-test .left)
 

@@ -1,29 +1,24 @@
 -- `put_word` meets its contract.
 use native.Mathlib.Omega.{arith}
-use Rattle.feed.proofs.Printing.{field-11, wrote-dash, wrote-word}
+use Rattle.feed.proofs.Fields.{field-11, wrote-dash, wrote-word}
 use borrow.Author.Needs.{needs}
 use Rattle.feed.proofs.put_word.Statement.{statement}
 use Rattle.feed.proofs.put_word.Tie as tie
 
--- src/main.rt:28:13
 put-byte-requires : tie.Need-put-byte-requires
 put-byte-requires c κs = search needs
 
--- src/main.rt:29:9
 put-byte-requires-2 : tie.Need-put-byte-requires-2
 put-byte-requires-2 c κs = search needs
 
--- src/main.rt:29:9
 same-length : tie.Need-same-length
 same-length c = search needs
 
--- src/main.rt:29:9
 returns : tie.Need-returns
 returns c =
     wrote-dash _ (c .before .before .before .before .before .before .before .before .if1 .taken)
     (c .before .before .before .before .before .before .put-byte .ensures) (c .before .before .put-byte2 .ensures)
 
--- src/main.rt:31:5
 put-field-requires : tie.Need-put-field-requires
 put-field-requires c κs =
     omega (
@@ -33,11 +28,9 @@ put-field-requires c κs =
       c .before .before .before .pre,
     )
 
--- src/main.rt:23:1
 same-length-2 : tie.Need-same-length-2
 same-length-2 c = search needs
 
--- src/main.rt:23:1
 returns-2 : tie.Need-returns-2
 returns-2 c = wrote-word _ _ (c .before .before .before .before .if1 .left) (c .before .before .put-field .ensures)
 

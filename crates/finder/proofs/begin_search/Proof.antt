@@ -1,22 +1,18 @@
 -- `finder::begin_search` meets its contract.
-use Rattle.finder.proofs.Searching.{begin-ready, begun}
+use Rattle.finder.proofs.Beginning.{begin-ready, begun}
 use borrow.Author.Needs.{needs}
 use Rattle.finder.proofs.begin_search.Statement.{statement}
 use Rattle.finder.proofs.begin_search.Tie as tie
 
--- src/lib.rt:44:5
 fill-requires : tie.Need-fill-requires
 fill-requires c κs = search needs
 
--- src/lib.rt:45:5
 fill-requires-2 : tie.Need-fill-requires-2
 fill-requires-2 c κs = search needs
 
--- src/lib.rt:46:5
 make-empty-requires : tie.Need-make-empty-requires
 make-empty-requires c κs = search needs
 
--- src/lib.rt:48:9
 perform-requires : tie.Need-perform-requires
 perform-requires c κs =
     let at-make-empty = c .before .before .before in
@@ -25,27 +21,21 @@ perform-requires c κs =
     let start = back-14 .before .before in
     begin-ready _ _ _ _ _ (start .pre) _ (at-make-empty .make-empty .ensures)
 
--- src/lib.rt:50:5
 mul-best : tie.Need-mul-best
 mul-best c = search needs
 
--- src/lib.rt:50:5
 slice-write-best : tie.Need-slice-write-best
 slice-write-best c = search needs
 
--- src/lib.rt:40:1
 same-length : tie.Need-same-length
 same-length c = search needs
 
--- src/lib.rt:40:1
 same-length-2 : tie.Need-same-length-2
 same-length-2 c = search needs
 
--- src/lib.rt:40:1
 same-length-3 : tie.Need-same-length-3
 same-length-3 c = search needs
 
--- src/lib.rt:40:1
 returns : tie.Need-returns
 returns c =
     let at-perform = c .before .before .before in

@@ -4,7 +4,7 @@ use mathlib.Core.Path.{_≡_, refl}
 use native.Mathlib.Omega.{arith}
 use borrow.Author.Needs.{needs}
 use lib.ListN.{length}
-use Rattle.finder.specs.Map.{mapOf}
+use Rattle.paths.specs.Map.{mapOf}
 use Rattle.finder.specs.Progress.{Stands}
 use Rattle.finder.proofs.Walk.{sorted}
 use Rattle.finder.proofs.Searching.{goes-on, goes-below, stands-found}

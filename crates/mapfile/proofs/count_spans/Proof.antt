@@ -8,10 +8,6 @@ use Rattle.mapfile.proofs.LineAt.{line-within}
 use Rattle.mapfile.proofs.Counting.{Counting, none-counted, all-counted, one-counted, bad-line}
 use Rattle.mapfile.proofs.count_spans.Statement.{statement}
 use Rattle.mapfile.proofs.count_spans.Tie as tie
-use Rattle.mapfile.proofs.count_spans.Reads as reads
-use Rattle.mapfile.proofs.count_spans.Lts as lts
-use Rattle.mapfile.proofs.is_span.Reads as is-span-reads
-use Rattle.text.proofs.line_end.Reads as line-end-reads
 
 abbrev Inv-loop : tie.InvT-loop
 Inv-loop text first at₀ n₀ at n = Counting text first at n

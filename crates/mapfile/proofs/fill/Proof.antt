@@ -8,10 +8,6 @@ use Rattle.mapfile.proofs.LineAt.{line-within}
 use Rattle.mapfile.proofs.Filling.{Stored, none-stored, all-stored, place-in, one-stored}
 use Rattle.mapfile.proofs.fill.Statement.{statement}
 use Rattle.mapfile.proofs.fill.Tie as tie
-use Rattle.mapfile.proofs.fill.Reads as reads
-use Rattle.mapfile.proofs.fill.Lts as lts
-use Rattle.mapfile.proofs.span_of.Reads as span-of-reads
-use Rattle.text.proofs.line_end.Reads as line-end-reads
 
 abbrev Inv-loop : tie.InvT-loop
 Inv-loop text first from₀ to₀ loss₀ at₀ n₀ from to loss at n =
@@ -21,89 +17,73 @@ Inv-loop text first from₀ to₀ loss₀ at₀ n₀ from to loss at n =
 abbrev μ-loop : tie.MeasureT-loop
 μ-loop text first from₀ to₀ loss₀ at₀ n₀ from to loss at n = length text - at
 
--- src/lib.rt:85:5
 loop-holds : tie.Need-loop-holds Inv-loop μ-loop
 loop-holds c =
     let p = c .before .before .before .before .pre in
     (none-stored _ _ _ _ (p .inFrom), none-stored _ _ _ _ (p .inTo), none-stored _ _ _ _ (p .inLoss))
 
--- src/lib.rt:86:13
 line-end-requires : tie.Need-line-end-requires Inv-loop μ-loop
 line-end-requires c κs = search needs
 
--- src/lib.rt:87:28
 sub-span-of : tie.Need-sub-span-of Inv-loop μ-loop
 sub-span-of c =
     let e = line-within _ _ _ (c .line-end .ensures) (omega arith) in
     search needs
 
--- src/lib.rt:87:28
 part-span-of-start : tie.Need-part-span-of-start Inv-loop μ-loop
 part-span-of-start c =
     let e = line-within _ _ _ (c .line-end .ensures) (omega arith) in
     search needs
 
--- src/lib.rt:87:28
 part-span-of-end : tie.Need-part-span-of-end Inv-loop μ-loop
 part-span-of-end c =
     let e = line-within _ _ _ (c .line-end .ensures) (omega arith) in
     search needs
 
--- src/lib.rt:87:13
 span-of-requires : tie.Need-span-of-requires Inv-loop μ-loop
 span-of-requires c κs = search needs
 
--- src/lib.rt:88:9
 mul-from : tie.Need-mul-from Inv-loop μ-loop
 mul-from c = search needs
 
--- src/lib.rt:88:9
 slice-write-from : tie.Need-slice-write-from Inv-loop μ-loop
 slice-write-from c =
     let p = place-in (c .before .before .before .before .loop .inv .0) (omega arith) in
     search needs
 
--- src/lib.rt:89:9
 mul-to : tie.Need-mul-to Inv-loop μ-loop
 mul-to c = search needs
 
--- src/lib.rt:89:9
 slice-write-to : tie.Need-slice-write-to Inv-loop μ-loop
 slice-write-to c =
     let p = place-in (c .before .before .before .before .loop .inv .1) (omega arith) in
     search needs
 
--- src/lib.rt:90:9
 mul-loss : tie.Need-mul-loss Inv-loop μ-loop
 mul-loss c = search needs
 
--- src/lib.rt:90:9
 slice-write-loss : tie.Need-slice-write-loss Inv-loop μ-loop
 slice-write-loss c =
     let p = place-in (c .before .before .before .before .loop .inv .2) (omega arith) in
     search needs
 
--- src/lib.rt:91:9
 add-n : tie.Need-add-n Inv-loop μ-loop
 add-n c =
     let p = place-in (c .before .before .before .before .loop .inv .0) (omega arith) in
     search needs
 
--- src/lib.rt:92:14
 add-at : tie.Need-add-at Inv-loop μ-loop
 add-at c =
     let w = c .before .before in
     let e = line-within _ _ _ (w .line-end .ensures) (omega arith) in
     search needs
 
--- src/lib.rt:85:5
 loop-less : tie.Need-loop-less Inv-loop μ-loop
 loop-less c =
     let w = c .before .before in
     let e = line-within _ _ _ (w .line-end .ensures) (omega arith) in
     search needs
 
--- src/lib.rt:85:5
 loop-again : tie.Need-loop-again Inv-loop μ-loop
 loop-again c =
     let w = c .before .before in
@@ -114,19 +94,15 @@ loop-again c =
       one-stored (i .2) _ (w .line-end .ensures) (omega arith) _ (ap (λ s. s .loss) e),
     )
 
--- src/lib.rt:77:1
 same-length : tie.Need-same-length Inv-loop μ-loop
 same-length c = c .before .loop .inv .0 .same
 
--- src/lib.rt:77:1
 same-length-2 : tie.Need-same-length-2 Inv-loop μ-loop
 same-length-2 c = c .before .loop .inv .1 .same
 
--- src/lib.rt:77:1
 same-length-3 : tie.Need-same-length-3 Inv-loop μ-loop
 same-length-3 c = c .before .loop .inv .2 .same
 
--- src/lib.rt:77:1
 returns : tie.Need-returns Inv-loop μ-loop
 returns c =
     let i = c .before .loop .inv in

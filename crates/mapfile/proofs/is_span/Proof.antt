@@ -4,22 +4,16 @@ use Rattle.mapfile.proofs.Variants.{not-three}
 use borrow.Author.Needs.{needs}
 use Rattle.mapfile.proofs.is_span.Statement.{statement}
 use Rattle.mapfile.proofs.is_span.Tie as tie
-use Rattle.mapfile.proofs.is_span.Reads as reads
-use Rattle.mapfile.proofs.is_span.Lts as lts
-use Rattle.mapfile.proofs.line_numbers.Reads as line-numbers-reads
 
--- src/lib.rt:40:9
 line-numbers-requires : tie.Need-line-numbers-requires
 line-numbers-requires c κs = search needs
 
 enum-told : tie.Need-enum-told
 enum-told c = search needs
 
--- src/lib.rt:42:9
 returns : tie.Need-returns
 returns c = rw (← c .before .line-numbers .ensures) (not-three _ (c .match .keys2))
 
--- src/lib.rt:37:1
 returns-2 : tie.Need-returns-2
 unfolding isThree
 returns-2 c = rw (← c .before .before .line-numbers .ensures, c .enum-told .given .1)

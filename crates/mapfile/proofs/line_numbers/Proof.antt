@@ -3,10 +3,6 @@ use borrow.Author.Needs.{needs}
 use Rattle.mapfile.specs.Lines.{numbersOf}
 use Rattle.mapfile.proofs.line_numbers.Statement.{statement}
 use Rattle.mapfile.proofs.line_numbers.Tie as tie
-use Rattle.mapfile.proofs.line_numbers.Reads as reads
-use Rattle.mapfile.proofs.line_numbers.Lts as lts
-use Rattle.text.proofs.number_at.Reads as number-at-reads
-use Rattle.text.proofs.numbers_from.Reads as numbers-from-reads
 
 number-at-requires : tie.Need-number-at-requires
 number-at-requires c κs = search needs

@@ -5,12 +5,6 @@ use Rattle.mapfile.proofs.Ways.{refuses, as-read, too-long, bad-head, g
 use borrow.Author.Needs.{needs}
 use Rattle.mapfile.proofs.read.Statement.{statement}
 use Rattle.mapfile.proofs.read.Tie as tie
-use Rattle.mapfile.proofs.read.Reads as reads
-use Rattle.mapfile.proofs.read.Lts as lts
-use Rattle.mapfile.proofs.line_numbers.Reads as line-numbers-reads
-use Rattle.mapfile.proofs.read_spans.Reads as read-spans-reads
-use Rattle.mapfile.proofs.refuse.Reads as refuse-reads
-use Rattle.text.proofs.line_end.Reads as line-end-reads
 
 refuse-requires : tie.Need-refuse-requires
 refuse-requires c κs = search needs

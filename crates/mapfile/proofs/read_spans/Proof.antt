@@ -12,11 +12,6 @@ use Rattle.mapfile.proofs.Ways.{
 use borrow.Author.Needs.{needs}
 use Rattle.mapfile.proofs.read_spans.Statement.{statement}
 use Rattle.mapfile.proofs.read_spans.Tie as tie
-use Rattle.mapfile.proofs.read_spans.Reads as reads
-use Rattle.mapfile.proofs.read_spans.Lts as lts
-use Rattle.mapfile.proofs.count_spans.Reads as count-spans-reads
-use Rattle.mapfile.proofs.fill.Reads as fill-reads
-use Rattle.mapfile.proofs.refuse.Reads as refuse-reads
 
 count-spans-requires : tie.Need-count-spans-requires
 count-spans-requires c κs = search needs

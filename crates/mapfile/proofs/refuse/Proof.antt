@@ -3,8 +3,6 @@ use mathlib.Core.Path.{refl}
 use Rattle.mapfile.specs.Read.{refusal}
 use Rattle.mapfile.proofs.refuse.Statement.{statement}
 use Rattle.mapfile.proofs.refuse.Tie as tie
-use Rattle.mapfile.proofs.refuse.Reads as reads
-use Rattle.mapfile.proofs.refuse.Lts as lts
 
 returns : tie.Need-returns
 unfolding refusal

@@ -4,23 +4,16 @@ use Rattle.mapfile.proofs.Variants.{no-span}
 use borrow.Author.Needs.{needs}
 use Rattle.mapfile.proofs.span_of.Statement.{statement}
 use Rattle.mapfile.proofs.span_of.Tie as tie
-use Rattle.mapfile.proofs.span_of.Reads as reads
-use Rattle.mapfile.proofs.span_of.Lts as lts
-use Rattle.mapfile.proofs.line_numbers.Reads as line-numbers-reads
 
--- src/lib.rt:51:9
 line-numbers-requires : tie.Need-line-numbers-requires
 line-numbers-requires c κs = search needs
 
--- src/lib.rt:52:24
 enum-known-numbers : tie.Need-enum-known-numbers
 enum-known-numbers c = search needs
 
--- src/lib.rt:53:9
 returns : tie.Need-returns
 returns c = rw (← c .before .line-numbers .ensures) (no-span _ (c .match .keys2))
 
--- src/lib.rt:48:1
 returns-2 : tie.Need-returns-2
 unfolding spanFrom
 returns-2 c = rw (← c .before .before .before .line-numbers .ensures, c .before .numbers .given .1)

@@ -4,43 +4,33 @@ use borrow.Author.Needs.{needs}
 use Rattle.finder.proofs.relax.enter.Statement.{statement}
 use Rattle.finder.proofs.relax.enter.Tie as tie
 
--- src/relax.rt:29:9
 perform-requires : tie.Need-perform-requires
 perform-requires c κs = search needs
 
--- src/relax.rt:31:5
 mul-best : tie.Need-mul-best
 mul-best c = search needs
 
--- src/relax.rt:31:5
 slice-write-best : tie.Need-slice-write-best
 slice-write-best c = search needs
 
--- src/relax.rt:32:5
 mul-last : tie.Need-mul-last
 mul-last c = search needs
 
--- src/relax.rt:32:5
 slice-write-last : tie.Need-slice-write-last
 slice-write-last c = search needs
 
--- src/relax.rt:36:14
 add-t18 : tie.Need-add-t18
 add-t18 c = search needs
 
--- src/relax.rt:22:1
 same-length : tie.Need-same-length
 same-length c = search needs
 
--- src/relax.rt:22:1
 same-length-2 : tie.Need-same-length-2
 same-length-2 c = search needs
 
--- src/relax.rt:22:1
 same-length-3 : tie.Need-same-length-3
 same-length-3 c = search needs
 
--- src/relax.rt:22:1
 returns : tie.Need-returns
 returns c =
     enter-moves _ _ _ _ _ _ _

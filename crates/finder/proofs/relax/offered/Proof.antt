@@ -4,31 +4,24 @@ use borrow.Author.Needs.{needs}
 use Rattle.finder.proofs.relax.offered.Statement.{statement}
 use Rattle.finder.proofs.relax.offered.Tie as tie
 
--- src/relax.rt:71:17
 mul-known : tie.Need-mul-known
 mul-known c = search needs
 
--- src/relax.rt:71:17
 slice-read-known : tie.Need-slice-read-known
 slice-read-known c = search needs
 
--- src/relax.rt:73:9
 enter-requires : tie.Need-enter-requires
 enter-requires c κs = search needs
 
--- src/relax.rt:73:9
 same-length : tie.Need-same-length
 same-length c = search needs
 
--- src/relax.rt:73:9
 same-length-2 : tie.Need-same-length-2
 same-length-2 c = search needs
 
--- src/relax.rt:73:9
 same-length-3 : tie.Need-same-length-3
 same-length-3 c = search needs
 
--- src/relax.rt:73:9
 returns : tie.Need-returns
 returns c =
     let at-enter = c .before .before .before .before .before .before in
@@ -36,23 +29,18 @@ returns c =
     let start = at-if1 .before .before .before .before .before in
     offer-enters _ _ _ _ _ _ _ (start .pre) _ _ _ _ (at-if1 .if1 .taken) (at-enter .enter .ensures)
 
--- src/relax.rt:76:9
 lower-requires : tie.Need-lower-requires
 lower-requires c κs = search needs
 
--- src/relax.rt:76:9
 same-length-4 : tie.Need-same-length-4
 same-length-4 c = search needs
 
--- src/relax.rt:76:9
 same-length-5 : tie.Need-same-length-5
 same-length-5 c = search needs
 
--- src/relax.rt:76:9
 same-length-6 : tie.Need-same-length-6
 same-length-6 c = search needs
 
--- src/relax.rt:76:9
 returns-2 : tie.Need-returns-2
 returns-2 c =
     let at-lower = c .before .before .before .before .before .before in
@@ -62,39 +50,31 @@ returns-2 c =
     offer-lowers _ _ _ _ _ _ _ (start .pre) _ _ _ _ (at-if1 .if1 .left) (at-if2 .if2 .taken)
     (at-lower .lower .ensures)
 
--- src/relax.rt:79:9
 returns-3 : tie.Need-returns-3
 returns-3 c =
     offer-larger _ _ _ _ _ _ _ (c .before .before .before .before .before .before .before .pre)
     (c .before .before .if1 .left) (c .before .if2 .left) (c .if3 .taken)
 
--- src/relax.rt:81:8
 mul-if4 : tie.Need-mul-if4
 mul-if4 c = search needs
 
--- src/relax.rt:81:8
 slice-read-if4 : tie.Need-slice-read-if4
 slice-read-if4 c = search needs
 
--- src/relax.rt:82:9
 returns-4 : tie.Need-returns-4
 returns-4 c =
     offer-late _ _ _ _ _ _ _ (c .before .before .before .before .before .before .before .before .before .pre)
     (c .before .before .before .before .if1 .left) (c .before .before .before .if2 .left) (c .if4 .taken)
 
--- src/relax.rt:84:5
 mul-last : tie.Need-mul-last
 mul-last c = search needs
 
--- src/relax.rt:84:5
 slice-write-last : tie.Need-slice-write-last
 slice-write-last c = search needs
 
--- src/relax.rt:64:1
 same-length-7 : tie.Need-same-length-7
 same-length-7 c = search needs
 
--- src/relax.rt:64:1
 returns-5 : tie.Need-returns-5
 returns-5 c =
     offer-ties _ _ _ _ _ _ _ (c .before .before .before .before .before .before .before .before .before .pre)

@@ -1,17 +1,21 @@
 -- `finder::visit::try_spans` meets its contract. The invariant: the spans of u below e are tried.
 use Prim.Native.Nat.{_+_, _-_, _<_}
-use mathlib.Core.Path.{_≡_, refl}
+use mathlib.Core.Path.{_≡_, refl, _∙_}
 use native.Mathlib.Omega.{arith}
 use borrow.Author.Needs.{needs}
 use lib.ListN.{length, getD}
-use Rattle.finder.specs.Map.{Map}
+use Rattle.paths.specs.Map.{Map}
 use Rattle.finder.specs.Progress.{Taken}
-use Rattle.finder.proofs.Visiting.{
+use Rattle.finder.proofs.AtPlace.{place-small}
+use Rattle.finder.proofs.Walking.{
   Walking,
-  place-small,
   first-small,
   end-small,
   walking-begins,
+  visited-small,
+  walking-ends,
+}
+use Rattle.finder.proofs.Visiting.{
   examined-small,
   span-small,
   in-to,
@@ -19,8 +23,6 @@ use Rattle.finder.proofs.Visiting.{
   loss-fits,
   offer-ready,
   walking-on,
-  visited-small,
-  walking-ends,
 }
 use Rattle.finder.proofs.visit.try_spans.Statement.{statement}
 use Rattle.finder.proofs.visit.try_spans.Tie as tie
@@ -120,13 +122,13 @@ loop-again : tie.Need-loop-again Inv-loop μ-loop
 loop-again c =
     let o = c .before .before .before .before .before .before in
     let x = o .before .before .before .before .before .before in
-    let t = x .before in (
+    let t = x .before in
+    let i = t .before .loop .inv in (
       λ m K.
-          walking-on K (t .before .loop .inv .0 m K) (t .loop-test .taken)
-          (rw (x .examine .ensures) at (o .offered .ensures)),
-      search needs,
-      search needs,
-      search needs,
+          walking-on K (i .0 m K) (t .loop-test .taken) (rw (x .examine .ensures) at (o .offered .ensures)),
+      c .before .before .before .before .before .best .given ∙ i .1,
+      c .before .before .before .last .given ∙ i .2,
+      c .before .store .given ∙ i .3,
     )
 
 visit-requires : tie.Need-visit-requires Inv-loop μ-loop

@@ -5,11 +5,9 @@ use borrow.Author.Needs.{needs}
 use Rattle.finder.proofs.relax.Progress.examine.Statement.{statement}
 use Rattle.finder.proofs.relax.Progress.examine.Tie as tie
 
--- src/relax.rt:31:23
 add-t3 : tie.Need-add-t3
 add-t3 c = search needs
 
--- src/relax.rt:23:5
 returns : tie.Need-returns
 unfolding examineOne
 returns c = refl

@@ -5,11 +5,9 @@ use borrow.Author.Needs.{needs}
 use Rattle.finder.proofs.relax.Progress.visit.Statement.{statement}
 use Rattle.finder.proofs.relax.Progress.visit.Tie as tie
 
--- src/relax.rt:43:22
 add-t3 : tie.Need-add-t3
 add-t3 c = search needs
 
--- src/relax.rt:37:5
 returns : tie.Need-returns
 unfolding visitOne
 returns c = refl

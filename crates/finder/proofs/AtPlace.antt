@@ -1,0 +1,67 @@
+-- A place was taken: what is known of the search while its spans are tried.
+use Prim.Native.Nat.{ℕ, _+_, _≤_, _<_}
+use mathlib.Core.Path.{_≡_}
+use mathlib.Core.List.{List}
+use native.Mathlib.Omega.{arith}
+use Rattle.paths.specs.Map.{Map, spans}
+use Rattle.paths.specs.Search.{Search, tried, extracted, turns, never, bestAt}
+use Rattle.paths.proofs.Waiting.{next-takes, waits-below}
+use Rattle.paths.proofs.Offers.{TryingOf}
+use Rattle.paths.proofs.Tried.{tried-trying}
+use Rattle.paths.proofs.Turns.{
+  Between,
+  rest,
+  extracted-trying,
+  extracted-rest,
+  turns-between,
+  turns-keep,
+  trying-keeps,
+}
+use Rattle.paths.proofs.Served.{ServedOf, served}
+use Rattle.finder.specs.declared.relax.Progress.{Progress}
+use Rattle.finder.specs.Progress.{Taken}
+
+-- after the spans below e of place u, which was taken after k turns
+abbrev pub at : Map → ℕ → ℕ → ℕ → Search
+at m k u e = tried m u (bestAt (turns never m k) u) e (extracted u (turns never m k))
+
+module _
+    {m : Map} {index to loss : List ℕ} {u d : ℕ} {best₀ last₀ store₀ : List ℕ} {taken : Progress}
+    (K : Taken m index to loss u d best₀ last₀ store₀ taken) where
+  abbrev k : ℕ
+  k = taken .visited
+
+  abbrev before : Search
+  before = turns never m k
+
+  pub betweenTurns : Between never m k before
+  betweenTurns = turns-between never m (K .accepted) k
+
+  -- the places that are not settled
+  abbrev pub left : ℕ
+  left = rest never m (K .accepted) k before betweenTurns u (K .next-is)
+
+  pub left-is : left + 1 + k ≡ m .places
+  left-is =
+      omega (arith, betweenTurns .goes u (K .next-is), extracted-rest never m (K .accepted) k before betweenTurns u (K .next-is))
+
+  pub tryingAt : (e : ℕ) → e ≤ spans m → TryingOf m u (bestAt before u) e left (at m k u e)
+  tryingAt e h =
+      tried-trying m (K .accepted) u (bestAt before u) left (extracted u before)
+      (extracted-trying never m (K .accepted) k before betweenTurns u (K .next-is)) e h
+
+  pub servedAt : (e : ℕ) → e ≤ spans m → ServedOf m (at m k u e)
+  servedAt e h =
+      trying-keeps never m (K .accepted) (ServedOf m) (served never m (K .accepted)) k u (K .next-is)
+      (turns-keep never m (K .accepted) (ServedOf m) (served never m (K .accepted)) k) e h
+
+  pub place-in : u < m .places
+  place-in =
+      omega (
+        arith,
+        betweenTurns .invariant .waitsN,
+        waits-below (before .queue .waits) u (next-takes never (before .queue) u (K .next-is) .inside),
+      )
+
+  pub place-small : u < 4096
+  place-small = omega (arith, K .accepted .few, place-in)

@@ -1,0 +1,93 @@
+-- The search by code begins: the store is made empty, and the start inserted.
+use Prim.Native.Nat.{ℕ}
+use mathlib.Core.Path.{_≡_, refl, ap, _∙_}
+use mathlib.Core.List.{List, []}
+use native.Mathlib.Omega.{arith}
+use lib.ListN.{length, set, replicate, length-replicate}
+use Rattle.rules.specs.declared.Call.the-variants.{Insert}
+use Rattle.rules.specs.declared.Tally.{Tally}
+use Rattle.rules.specs.Lists.{sumBy}
+use Rattle.rules.specs.Forests.{none, empty}
+use Rattle.rules.specs.Answers.{answers, after}
+use Rattle.rules.specs.Words.{encode}
+use Rattle.rules.proofs.EmptyForests.{getD-all, emptyWellFormed}
+use Rattle.rules.proofs.SoundWords.{sound-encode}
+use Rattle.rules.proofs.Sums.{sumBy-set}
+use Rattle.heap.specs.declared.Reply.{Reply}
+use Rattle.heap.specs.Performed.{Ready, Performed}
+use Rattle.paths.specs.Map.{Map, mapOf, Accepted}
+use Rattle.paths.specs.Search.{begin, turns, never}
+use Rattle.paths.specs.Feed.{linksOf, cutsOf}
+use Rattle.paths.proofs.Begin.{sum-zeros}
+use Rattle.finder.specs.declared.relax.Progress.{Progress}
+use Rattle.finder.specs.Progress.{Logged, Holds, Stands, BeginReady, Begun}
+use Rattle.finder.proofs.Logged.{call-logged}
+
+abbrev noCall : Tally
+noCall = record { links = 0; cuts = 0 }
+
+module _ (places start : ℕ) (best last store : List ℕ) (R : BeginReady places start best last store) where
+  pub begin-ready : (store₁ : List ℕ) → store₁ ≡ encode (empty places) → Ready store₁ noCall
+  begin-ready store₁ e =
+      record {
+        sound = rw e (sound-encode (empty places) (emptyWellFormed places (R .sized .small)));
+        links = omega arith;
+        cuts = omega arith;
+      }
+
+  none-logged : (store₁ : List ℕ) → store₁ ≡ encode (empty places) → Logged places [] store₁ noCall
+  unfolding after linksOf cutsOf answers sumBy
+  none-logged store₁ e = record { words = e; links = refl; cuts = refl }
+
+  pub begun : (best₁ last₁ store₁ : List ℕ) → best₁ ≡ replicate (length best) none
+      → last₁ ≡ replicate (length last) none
+      → store₁ ≡ encode (empty places) → (reply : Reply) (store′ : List ℕ)
+      → Performed store₁ (Insert 0 start 0) noCall reply store′
+      → Begun places start (set best₁ start 0) last₁ store′
+      (record { visited = 0; met = 1; examined = 0; tally = reply .tally })
+  unfolding begin after
+  begun best₁ last₁ store₁ eb el es reply store′ P =
+      record {
+        visited-is = refl;
+        holds =
+            record {
+              best-is = ap (λ l. set l start 0) (eb ∙ ap (λ n. replicate n none) (R .bestN));
+              last-is = el ∙ ap (λ n. replicate n none) (R .lastN);
+              logged =
+                  call-logged places [] store₁ noCall (none-logged store₁ es)
+                  (emptyWellFormed places (R .sized .small)) (Insert 0 start 0) reply store′ P;
+              examined-is = refl;
+              met-is =
+                  omega (
+                    arith,
+                    sumBy-set (λ w. w) (replicate places 0) start 1 0
+                        (rw (length-replicate {A = ℕ} places 0) (R .startIn)),
+                    sum-zeros places,
+                    getD-all {A = ℕ} places start 0,
+                  );
+            };
+      }
+
+-- no turn is made
+no-turn : (m : Map) (k : ℕ) → k ≡ 0 → (best last store : List ℕ) (r : Progress)
+    → Holds (m .places) 0 (begin m) best last store r → Holds (m .places) k (turns never m k) best last store r
+unfolding turns
+no-turn m k z best last store r H = rw z H
+
+pub begun-stands : {places start : ℕ} {from to loss : List ℕ} → Accepted (mapOf places start from to loss)
+    → {best last store : List ℕ} {r : Progress} → Begun places start best last store r
+    → Stands (mapOf places start from to loss) best last store r
+unfolding begin
+begun-stands {places} {start} {from} {to} {loss} A {best} {last} {store} {r} G =
+    record {
+      accepted = A;
+      few = omega (arith, G .visited-is);
+      holds =
+          no-turn (mapOf places start from to loss) (r .visited) (G .visited-is) best last store r
+          (same (G .holds));
+    }
+  where
+    -- a search begins alike whatever the spans are
+    same : Holds places 0 (begin (mapOf places start [] [] [])) best last store r
+        → Holds places 0 (begin (mapOf places start from to loss)) best last store r
+    same H = H

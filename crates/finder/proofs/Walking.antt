@@ -1,0 +1,115 @@
+-- The spans of a place that was taken, walked by code: where the code stands before each, at the first and at the end.
+use Prim.Native.Nat.{ℕ, suc, _+_, _≤_, _<_}
+use mathlib.Core.Path.{_≡_, refl, ap, _∙_}
+use mathlib.Core.Bool.{Bool, true, false}
+use mathlib.Core.List.{List}
+use native.Mathlib.Nat.{le-refl}
+use native.Mathlib.Omega.{arith}
+use lib.ListN.{getD}
+use lib.Dec.{ltb}
+use borrow.Author.Tests.{ltb-true, ltb-false}
+use Rattle.paths.specs.Map.{Map, spans, fromOf}
+use Rattle.paths.specs.Search.{Search, extracted, visit, turn, turns, never, bestAt}
+use Rattle.spans.specs.Range.{FirstSpan}
+use Rattle.finder.specs.declared.relax.Progress.{Progress}
+use Rattle.finder.specs.Progress.{Holds, Taken, Visits, visitOne}
+use Rattle.finder.proofs.Walk.{walk-begins, walk-ends}
+use Rattle.finder.proofs.AtPlace.{at, left, left-is, place-in}
+
+-- Before span e of place u, which was taken after k turns: the spans from e to `end` are its spans still to be tried.
+pub record Walking (m : Map) (k u end e : ℕ) (best last store : List ℕ) (go : Progress) : Type 0 where
+  pub visited-is : go .visited ≡ k
+  pub ordered : e ≤ end
+  pub within : end ≤ spans m
+  pub own : (i : ℕ) → e ≤ i → i < end → fromOf m i ≡ u
+  pub beyond : end < spans m → u < fromOf m end
+  pub holds : Holds (m .places) (suc k) (at m k u e) best last store go
+
+module _
+    {m : Map} {index to loss : List ℕ} {u d : ℕ} {best₀ last₀ store₀ : List ℕ} {taken : Progress}
+    (K : Taken m index to loss u d best₀ last₀ store₀ taken) where
+  abbrev k : ℕ
+  k = taken .visited
+
+  abbrev before : Search
+  before = turns never m k
+
+  F : FirstSpan (m .from) u (getD index u 0)
+  F = K .lists .indexed .first u (omega (arith, place-in K))
+
+  E : FirstSpan (m .from) (u + 1) (getD index (u + 1) 0)
+  E = K .lists .indexed .first (u + 1) (omega (arith, place-in K))
+
+  -- a word of the index is the number of a span, or the number of the spans
+  pub first-small : getD index u 0 ≤ 16384
+  first-small = omega (arith, F .within, K .accepted .short)
+
+  pub end-small : getD index (u + 1) 0 ≤ 16384
+  end-small = omega (arith, E .within, K .accepted .short)
+
+  pub walking-begins : Walking m k u (getD index (u + 1) 0) (getD index u 0) best₀ last₀ store₀ taken
+  walking-begins =
+      record {
+        visited-is = refl;
+        ordered = ordered;
+        within = E .within;
+        own =
+            λ i a b. omega (arith, F .above i a (omega (arith, E .within)), E .below i b);
+        beyond = λ h. omega (arith, E .above end (le-refl _) h);
+        holds = rw (walk-begins m u (bestAt before u) (extracted u before) first (F .below)) (K .holds);
+      }
+    where
+      first : ℕ
+      first = getD index u 0
+
+      end : ℕ
+      end = getD index (u + 1) 0
+
+      ordered : first ≤ end
+      ordered = go (ltb end first) refl
+        where
+          go : (t : Bool) → ltb end first ≡ t → first ≤ end
+          go false q = ltb-false end first q
+          go true q =
+              let h = ltb-true end first q in
+              absurd (omega (arith, F .below end h, E .above end (le-refl _) (omega (arith, h, F .within))))
+
+  module _ {end e : ℕ} {best last store : List ℕ} {go : Progress} (W : Walking m k u end e best last store go) where
+    pub visited-small : go .visited < 4294967295
+    visited-small = omega (arith, W .visited-is, left-is K, K .accepted .few)
+
+    -- the spans after e leave other places
+    turns-next : end ≤ e → turns never m (suc k) ≡ at m k u e
+    unfolding turns turn visit
+    turns-next j =
+        let q : end ≡ e = omega (arith, W .ordered) in
+        rw (K .next-is)
+        (walk-ends m (K .accepted) u (bestAt before u) (extracted u before) end (W .within) (W .beyond)
+        ∙ ap (λ i. at m k u i) q)
+
+    visited-holds : Holds (m .places) (suc k) (at m k u e) best last store (visitOne go)
+    unfolding visitOne
+    visited-holds =
+        record {
+          best-is = W .holds .best-is;
+          last-is = W .holds .last-is;
+          logged = W .holds .logged;
+          examined-is = W .holds .examined-is;
+          met-is = W .holds .met-is;
+        }
+
+    turned : end ≤ e → (i : ℕ) → i ≡ suc k → Holds (m .places) i (turns never m i) best last store (visitOne go)
+    turned j i q = rw (q, turns-next j) visited-holds
+
+    pub walking-ends : end ≤ e → Visits m taken best last store (visitOne go)
+    unfolding visitOne
+    walking-ends j =
+        record {
+          stands =
+              record {
+                accepted = K .accepted;
+                few = omega (arith, W .visited-is, left-is K);
+                holds = turned j (go .visited + 1) (omega (arith, W .visited-is));
+              };
+          one-more = omega (arith, W .visited-is);
+        }

@@ -1,0 +1,130 @@
+-- Code 0 is given exactly to accepted maps with lists and a store of the right sizes.
+use Prim.Native.Nat.{ℕ, zero, suc, _≤_, _<_}
+use mathlib.Core.Path.{_≡_, refl, sym}
+use mathlib.Core.Logic.{_≢_}
+use mathlib.Core.Bool.{Bool, true, false, cond, not, _&&_, _||_, true≢false, false≢true}
+use native.Mathlib.Omega.{arith}
+use lib.ListN.{length}
+use lib.Dec.{eqb, ltb, leb}
+use borrow.Author.Tests.{
+  eqb-true,
+  eqb-false,
+  eq-eqb,
+  ne-eqb,
+  ltb-false,
+  le-ltb,
+  leb-true,
+  leb-false,
+  le-leb,
+  lt-leb,
+  not-false,
+}
+use Rattle.rules.specs.Words.{storeSize}
+use Rattle.paths.specs.Map.{Map, spans, fromOf, toOf, lossOf, Accepted}
+use Rattle.paths.specs.Codes.{fault, previous, spanCode, spanLists, resultLists, feedCode}
+use Rattle.paths.specs.Theorems.{Fits, CodeZero}
+use Rattle.paths.proofs.Codes.{fault-none, each-none, all-none}
+
+no-cond : (t : Bool) (c x : ℕ) → c ≢ 0 → _≡_ {A = ℕ} (cond t c x) 0 → (t ≡ false) × (x ≡ 0)
+no-cond true c x n e = absurd (n e)
+no-cond false c x n e = (refl, e)
+
+no-or : (a b : Bool) → (a || b) ≡ false → (a ≡ false) × (b ≡ false)
+no-or true b e = absurd (true≢false e)
+no-or false b e = (refl, e)
+
+both : (a b : Bool) → (a && b) ≡ true → (a ≡ true) × (b ≡ true)
+both true b e = (refl, e)
+both false b e = absurd (false≢true e)
+
+module _ (m : Map) where
+  -- what a span without a fault is
+  record Faultless (e : ℕ) : Type 0 where
+    fromIn : fromOf m e < m .places
+    toIn : toOf m e < m .places
+    low : 1 ≤ lossOf m e
+    high : lossOf m e ≤ 1000000
+    level : previous (m .from) e ≤ fromOf m e
+
+  faultless : (e : ℕ) → spanCode (m .places) (m .from) (m .to) (m .loss) e ≡ 0 → Faultless e
+  unfolding spanCode fault
+  faultless e z =
+      let a = no-cond (leb (m .places) (fromOf m e) || leb (m .places) (toOf m e)) 18 _ (λ q. omega arith) z in
+      let b = no-cond (eqb (lossOf m e) 0 || ltb 1000000 (lossOf m e)) 19 _ (λ q. omega arith) (a .1) in
+      let c = no-cond (ltb (fromOf m e) (previous (m .from) e)) 20 0 (λ q. omega arith) (b .1) in
+      let f = no-or (leb (m .places) (fromOf m e)) (leb (m .places) (toOf m e)) (a .0) in
+      let g = no-or (eqb (lossOf m e) 0) (ltb 1000000 (lossOf m e)) (b .0) in
+      let n : lossOf m e ≢ 0 = eqb-false (lossOf m e) 0 (g .0) in
+      record {
+        fromIn = leb-false (m .places) (fromOf m e) (f .0);
+        toIn = leb-false (m .places) (toOf m e) (f .1);
+        low = omega (arith, n);
+        high = ltb-false 1000000 (lossOf m e) (g .1);
+        level = ltb-false (fromOf m e) (previous (m .from) e) (c .0);
+      }
+
+  no-fault : Accepted m → (e : ℕ) → e < spans m → spanCode (m .places) (m .from) (m .to) (m .loss) e ≡ 0
+  unfolding spanCode previous
+  no-fault A e h =
+      sym (fault-none (m .places) (fromOf m e) (toOf m e) (lossOf m e) (previous (m .from) e) (A .fromIn e h)
+      (A .toIn e h) (λ q. omega (arith, A .low e h)) (A .high e h) (level e h))
+    where
+      level : (e : ℕ) → e < spans m → previous (m .from) e ≤ fromOf m e
+      level zero h = omega arith
+      level (suc e) h = A .rising e h
+
+  module _ (bestN lastN storeN : ℕ) where
+    fits : feedCode m bestN lastN storeN ≡ 0 → Fits m bestN lastN storeN
+    unfolding feedCode previous
+    fits z =
+        let c₁ = no-cond (eqb (m .places) 0 || ltb 4096 (m .places)) 14 _ (λ q. omega arith) z in
+        let c₂ = no-cond (leb (m .places) (m .start)) 15 _ (λ q. omega arith) (c₁ .1) in
+        let c₃ = no-cond (not (spanLists m)) 16 _ (λ q. omega arith) (c₂ .1) in
+        let c₄ = no-cond (not (resultLists m bestN lastN storeN)) 17 _ (λ q. omega arith) (c₃ .1) in
+        let f = no-or (eqb (m .places) 0) (ltb 4096 (m .places)) (c₁ .0) in
+        let g = both _ (leb (spans m) 16384) (not-false _ (c₃ .0)) in
+        let g′ = both (eqb (length (m .to)) (spans m)) (eqb (length (m .loss)) (spans m)) (g .0) in
+        let h = both _ (eqb storeN (storeSize (m .places))) (not-false _ (c₄ .0)) in
+        let h′ = both (eqb bestN (m .places)) (eqb lastN (m .places)) (h .0) in
+        let n : m .places ≢ 0 = eqb-false (m .places) 0 (f .0) in
+        let s : (e : ℕ) → e < spans m → Faultless e =
+        λ e k. faultless e (each-none (m .places) (m .from) (m .to) (m .loss) (spans m) (c₄ .1) e k) in
+        record {
+          accepted =
+              record {
+                some = omega (arith, n);
+                few = ltb-false 4096 (m .places) (f .1);
+                startIn = leb-false (m .places) (m .start) (c₂ .0);
+                toN = eqb-true (length (m .to)) (spans m) (g′ .0);
+                lossN = eqb-true (length (m .loss)) (spans m) (g′ .1);
+                short = leb-true (spans m) 16384 (g .1);
+                fromIn = λ e k. s e k .fromIn;
+                toIn = λ e k. s e k .toIn;
+                low = λ e k. s e k .low;
+                high = λ e k. s e k .high;
+                rising = λ e k. s (suc e) k .level;
+              };
+          best = eqb-true bestN (m .places) (h′ .0);
+          last = eqb-true lastN (m .places) (h′ .1);
+          store = eqb-true storeN (storeSize (m .places)) (h .1);
+        }
+
+    accepts : Fits m bestN lastN storeN → feedCode m bestN lastN storeN ≡ 0
+    unfolding feedCode
+    accepts F =
+        let A = F .accepted in
+        rw (
+          ne-eqb (m .places) 0 (λ q. omega (arith, A .some)),
+          le-ltb 4096 (m .places) (A .few),
+          lt-leb (m .places) (m .start) (A .startIn),
+          eq-eqb (length (m .to)) (spans m) (A .toN),
+          eq-eqb (length (m .loss)) (spans m) (A .lossN),
+          le-leb (spans m) 16384 (A .short),
+          eq-eqb bestN (m .places) (F .best),
+          eq-eqb lastN (m .places) (F .last),
+          eq-eqb storeN (storeSize (m .places)) (F .store),
+        )
+        (all-none (m .places) (m .from) (m .to) (m .loss) (spans m) (no-fault A))
+
+pub codeZero : CodeZero
+codeZero = record { accepts = accepts; only = fits }

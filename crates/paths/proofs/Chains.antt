@@ -1,0 +1,151 @@
+-- The invariant against all chains: no chain does better than the losses found, and chains attain them.
+use Prim.Native.Nat.{ℕ, zero, suc, _+_, _≤_, _<_}
+use mathlib.Core.Path.{_≡_, refl, sym}
+use mathlib.Core.Logic.{_≢_}
+use mathlib.Core.List.{List, [], _∷_}
+use mathlib.Core.Bool.{Bool, true, false}
+use native.Mathlib.Nat.{le-refl}
+use native.Mathlib.Omega.{arith}
+use lib.ListN.{getD}
+use lib.Dec.{eqb, leb}
+use borrow.Author.Tests.{eqb-true, eqb-false, leb-true, leb-false}
+use Rattle.rules.specs.Lists.{sumBy}
+use Rattle.rules.specs.Forests.{none}
+use Rattle.paths.specs.Map.{Map, spans, fromOf, toOf, lossOf, Accepted}
+use Rattle.paths.specs.Chains.{Chain, chainLoss, AsGood}
+use Rattle.paths.specs.Table.{Reached, Entry, atStart, reached, unreached}
+use Rattle.paths.proofs.Invariant.{Waits, Met, Settled, Invariant}
+
+-- p is settled, with a loss of at most t
+record Covered (waits best : List ℕ) (p t : ℕ) : Type 0 where
+  is : Settled waits best p
+  le : getD best p none ≤ t
+
+-- the spans `before` and then e lead to p at loss l
+record Attained (m : Map) (p l : ℕ) : Type 0 where
+  chain : List ℕ
+  leads : Chain m chain p
+  loss : chainLoss m chain ≡ l
+
+module _
+    (m : Map) (A : Accepted m) (u d : ℕ) (waits key best last : List ℕ)
+    (I : Invariant m u d (spans m) waits key best last) where
+  -- a met place's loss fits its word, and is not none
+  pub met-small : (p : ℕ) → Met best p → getD best p none ≤ 4096000000
+  met-small p n = omega (arith, I .small p n, A .few)
+
+  -- A chain whose loss is below all that wait leads to a settled place, whose loss is no more than the chain's.
+  covers : (limit : ℕ) → ((q : ℕ) → Waits waits q → limit < getD best q none) → (c : List ℕ) (p : ℕ) → Chain m c p
+      → chainLoss m c ≤ limit → Covered waits best p (chainLoss m c)
+  unfolding chainLoss sumBy
+  covers b w [] p e k = rw e (go (eqb (getD waits (m .start) 0) 0) refl)
+    where
+      z : getD best (m .start) none ≡ 0
+      z = I .begun .0
+
+      go : (t : Bool) → eqb (getD waits (m .start) 0) 0 ≡ t → Covered waits best (m .start) 0
+      go true q =
+          record { is = (eqb-true (getD waits (m .start) 0) 0 q, λ n. omega (arith, z)); le = omega (arith, z) }
+      go false q = absurd (omega (arith, z, w (m .start) (eqb-false (getD waits (m .start) 0) 0 q)))
+  covers b w (e ∷ c) p h k =
+      rw (sym (h .1)) (go (eqb (getD waits (toOf m e) 0) 0) refl (covers b w c (fromOf m e) (h .2) (omega arith)))
+    where
+      go : (t : Bool) → eqb (getD waits (toOf m e) 0) 0 ≡ t → Covered waits best (fromOf m e) (chainLoss m c)
+          → Covered waits best (toOf m e) (lossOf m e + chainLoss m c)
+      go true q C =
+          let R = I .relaxed e (h .0) (C .is) (λ _. h .0 .0) in
+          let n : Met best (toOf m e) =
+          λ n. omega (arith, R .le, met-small (fromOf m e) (C .is .1), A .high e (h .0 .0)) in
+          record { is = (eqb-true (getD waits (toOf m e) 0) 0 q, n); le = omega (arith, C .le, R .le) }
+      go false q C =
+          absurd
+          (omega (
+            arith,
+            w (toOf m e) (eqb-false (getD waits (toOf m e) 0) 0 q),
+            C .le,
+            I .relaxed e (h .0) (C .is) (λ _. h .0 .0) .le,
+          ))
+
+  -- A met place has a chain of its loss: back along the spans that gave the losses, which fall.
+  attains : (n p : ℕ) → Met best p → getD best p none < n → Attained m p (getD best p none)
+  unfolding chainLoss sumBy
+  attains zero p a k = absurd (omega arith)
+  attains (suc n) p a k = go (eqb p (m .start)) refl (attains n)
+    where
+      go : (t : Bool) → eqb p (m .start) ≡ t
+          → ((q : ℕ) → Met best q → getD best q none < n → Attained m q (getD best q none))
+          → Attained m p (getD best p none)
+      go true q ih =
+          let e : p ≡ m .start = eqb-true p (m .start) q in
+          record { chain = []; leads = e; loss = rw e (sym (I .begun .0)) }
+      go false q ih =
+          let G = I .given p a (eqb-false p (m .start) q) in
+          let e : ℕ = getD last p none in
+          let t = ih (fromOf m e) (G .origin .1) (omega (arith, G .sum, A .low e (G .is .0))) in
+          record { chain = e ∷ t .chain; leads = (G .is, G .to, t .leads); loss = omega (arith, t .loss, G .sum) }
+
+  -- All that waits is beyond b, and p's loss is not: what is shown at p is final.
+  module _ (b : ℕ) (w : (q : ℕ) → Waits waits q → b < getD best q none) (p : ℕ) (within : getD best p none ≤ b) where
+    cheapest : (c : List ℕ) → Chain m c p → getD best p none ≤ chainLoss m c
+    cheapest c h = go (leb (chainLoss m c) b) refl
+      where
+        go : (t : Bool) → leb (chainLoss m c) b ≡ t → getD best p none ≤ chainLoss m c
+        go true e = covers b w c p h (leb-true (chainLoss m c) b e) .le
+        go false e = omega (arith, leb-false (chainLoss m c) b e)
+
+    -- a span that ends a chain of p's loss was tried
+    lowest : (f : ℕ) (c : List ℕ) → Chain m (f ∷ c) p → chainLoss m (f ∷ c) ≡ getD best p none → getD last p none ≤ f
+    unfolding chainLoss sumBy
+    lowest f c h has =
+        let C = covers b w c (fromOf m f) (h .2) (omega (arith, has)) in
+        let R = I .relaxed f (h .0) (C .is) (λ _. h .0 .0) in
+        let l : getD best p none ≤ getD best (fromOf m f) none + lossOf m f = rw (h .1) at (R .le) in
+        let t : getD best p none ≡ getD best (fromOf m f) none + lossOf m f → getD last p none ≤ f =
+        rw (h .1) at (R .tie) in
+        t (omega (arith, l, C .le, has))
+
+    is-reached : Met best p → p ≢ m .start → Reached m p (getD best p none) (getD last p none)
+    unfolding AsGood chainLoss sumBy
+    is-reached a n =
+        let G = I .given p a n in
+        let e : ℕ = getD last p none in
+        let t = attains (suc (getD best (fromOf m e) none)) (fromOf m e) (G .origin .1) (le-refl _) in
+        let has : chainLoss m (e ∷ t .chain) ≡ getD best p none = omega (arith, t .loss, G .sum) in
+        let leads : Chain m (e ∷ t .chain) p = (G .is, G .to, t .leads) in
+        record {
+          before = t .chain;
+          least = record { leads = leads; least = λ c h. omega (arith, cheapest c h, has) };
+          loss = has;
+          lowest =
+              λ f c L.
+              lowest f c (L .leads)
+              (omega (arith, cheapest (f ∷ c) (L .leads), L .least (e ∷ t .chain) leads, has));
+        }
+
+    final : Met best p → Entry m p (getD best p none) (getD last p none)
+    final a = go (eqb p (m .start)) refl
+      where
+        go : (t : Bool) → eqb p (m .start) ≡ t → Entry m p (getD best p none) (getD last p none)
+        go true q =
+            let e : p ≡ m .start = eqb-true p (m .start) q in
+            atStart e (rw e (I .begun .0)) (rw e (I .begun .1))
+        go false q = let n : p ≢ m .start = eqb-false p (m .start) q in reached n (is-reached a n)
+
+  -- No place waits: a chain leads only to places that are met, and all that is shown is final.
+  module _ (z : (q : ℕ) → getD waits q 0 ≡ 0) (p : ℕ) where
+    above : (b q : ℕ) → Waits waits q → b < getD best q none
+    above b q w = absurd (w (z q))
+
+    pub leads-met : (c : List ℕ) → Chain m c p → Met best p
+    leads-met c h = covers (chainLoss m c) (above (chainLoss m c)) c p h (le-refl _) .is .1
+
+    pub shown : Entry m p (getD best p none) (getD last p none)
+    shown = go (eqb (getD best p none) none) refl
+      where
+        go : (t : Bool) → eqb (getD best p none) none ≡ t → Entry m p (getD best p none) (getD last p none)
+        go true q =
+            let e : getD best p none ≡ none = eqb-true (getD best p none) none q in
+            unreached (λ c h. leads-met c h e) e (I .unmet p e)
+        go false q =
+            let a : Met best p = eqb-false (getD best p none) none q in
+            final none (above none) p (omega (arith, met-small p a)) a

@@ -1,0 +1,25 @@
+-- The proofs about the search, bottom to top.
+pub mod ByHand
+pub mod Waiting
+pub mod Invariant
+pub mod Improve
+pub mod Pass
+pub mod Take
+pub mod Judge
+pub mod Offers
+pub mod Tried
+pub mod Begin
+pub mod Turns
+pub mod Chains
+pub mod Table
+pub mod Calls
+pub mod AllFree
+pub mod Log
+pub mod Served
+pub mod Settling
+pub mod Examined
+pub mod Costs
+pub mod Counts
+pub mod Codes
+pub mod Accepts
+pub mod FeedDone

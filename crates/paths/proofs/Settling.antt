@@ -1,0 +1,83 @@
+-- Which places are settled, as a number; offers settle none.
+use Prim.Native.Nat.{ℕ, _+_, _≤_, zero-le}
+use mathlib.Core.Path.{_≡_, refl, sym, _∙_}
+use mathlib.Core.Logic.{_≢_}
+use mathlib.Core.Bool.{Bool, true, false, cond, not}
+use native.Mathlib.Nat.{le-refl}
+use native.Mathlib.Omega.{arith}
+use lib.ListN.{getD}
+use lib.Seq.{getD-set-same, getD-set-other}
+use lib.Dec.{eqb}
+use borrow.Author.Tests.{eqb-true, eqb-false, ne-eqb}
+use Rattle.rules.specs.Lists.{indicator}
+use Rattle.rules.specs.Forests.{none}
+use Rattle.rules.proofs.Occurs.{byItem}
+use Rattle.paths.specs.Map.{Map, fromOf, toOf, lossOf, IsSpan, Accepted}
+use Rattle.paths.specs.Search.{Search, Verdict, unmet, smaller, tie, worse, update, examine, bestAt}
+use Rattle.paths.specs.Theorems.{isReached}
+use Rattle.paths.proofs.Offers.{TryingOf, Case, at-unmet, at-smaller}
+use Rattle.paths.proofs.Tried.{KeptByOffers}
+
+-- 1 for a settled place: it does not wait, and is met
+unfoldable pub isSettled : ℕ → ℕ → ℕ
+isSettled w l = cond (eqb w 0) (isReached l) 0
+
+pub waits-not : (w l : ℕ) → w ≢ 0 → isSettled w l ≡ 0
+unfolding isSettled
+waits-not w l n = rw (ne-eqb w 0 n)
+
+pub not-settled : (w l : ℕ) → ((w ≡ 0) × (l ≢ none) → ⊥) → isSettled w l ≡ 0
+unfolding isSettled isReached
+not-settled w l f = go (eqb w 0) (eqb l none) refl refl
+  where
+    go : (a b : Bool) → eqb w 0 ≡ a → eqb l none ≡ b → _≡_ {A = ℕ} (cond a (indicator (not b)) 0) 0
+    go true true p q = refl
+    go true false p q = absurd (f (eqb-true w 0 p, eqb-false l none q))
+    go false b p q = refl
+
+pub is-settled : (l : ℕ) → l ≢ none → isSettled 0 l ≡ 1
+unfolding isSettled isReached
+is-settled l n = rw (ne-eqb l none n)
+
+pub settled-le : (w l : ℕ) → isSettled w l ≤ 1
+unfolding isSettled isReached
+settled-le w l = go (eqb w 0) (eqb l none)
+  where
+    go : (a b : Bool) → cond a (indicator (not b)) 0 ≤ 1
+    go true true = zero-le
+    go true false = le-refl 1
+    go false b = zero-le
+
+abbrev pub settledAt : Search → ℕ → ℕ
+settledAt s q = isSettled (getD (s .queue .waits) q 0) (bestAt s q)
+
+-- offers settle no place
+pub update-settles : (m : Map) → Accepted m → (f : ℕ → ℕ) → KeptByOffers m (λ s. (q : ℕ) → settledAt s q ≡ f q)
+unfolding update
+update-settles m A f = record { examined = λ _ _ _ _ s _ h. h; offered = offered }
+  where
+    offered : (u d k r : ℕ) (s : Search) → TryingOf m u d k r s → IsSpan m k → fromOf m k ≡ u → (v : Verdict)
+        → Case s (toOf m k) (d + lossOf m k) k v → ((q : ℕ) → settledAt s q ≡ f q) → (q : ℕ)
+        → settledAt (update v (toOf m k) (d + lossOf m k) k (examine s)) q ≡ f q
+    offered u d k r s T is fu v c h = go v c
+      where
+        p : ℕ
+        p = toOf m k
+
+        l : ℕ
+        l = d + lossOf m k
+
+        one : getD (s .queue .waits) p 0 ≡ 1 → (x : ℕ) → isSettled (getD (s .queue .waits) p 0) x ≡ f p
+        one w x = waits-not _ x (λ e. omega (arith, w)) ∙ sym (waits-not _ (bestAt s p) (λ e. omega (arith, w))) ∙ h p
+
+        go : (v : Verdict) → Case s p l k v → (q : ℕ) → settledAt (update v p l k (examine s)) q ≡ f q
+        go unmet (at-unmet z o) =
+            let i = getD-set-same (s .queue .waits) p 1 0 (omega (arith, T .invariant .waitsN, A .toIn k (is .0))) in
+            byItem p
+            (rw i (waits-not 1 _ (λ e. omega arith))
+            ∙ sym (not-settled (getD (s .queue .waits) p 0) (bestAt s p) (λ x. x .1 z)) ∙ h p)
+            (λ q n. rw (getD-set-other (s .queue .waits) p q 1 0 n, getD-set-other (s .best) p q l none n) (h q))
+        go smaller (at-smaller _ o w _) =
+            byItem p (one w _) (λ q n. rw (getD-set-other (s .best) p q l none n) (h q))
+        go tie c = h
+        go worse c = h

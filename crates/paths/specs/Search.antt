@@ -1,0 +1,135 @@
+-- The feed finder as the scope paper tells it: a search over a queue, which keeps the table so far and logs its calls.
+use Prim.Native.Nat.{ℕ, zero, suc, _+_}
+use mathlib.Core.List.{List, [], _∷_, _++_}
+use mathlib.Core.Bool.{Bool, true, false, cond, _&&_}
+use lib.ListN.{getD, set, replicate}
+use lib.Dec.{eqb, ltb}
+use Rattle.rules.specs.declared.Call.the-variants.{Insert, ExtractMin, DecreaseKey}
+use Rattle.rules.specs.declared.Line.{Line}
+use Rattle.rules.specs.declared.Line.the-variants.{Yields}
+use Rattle.rules.specs.Forests.{none}
+use Rattle.paths.specs.Map.{Map, spans, fromOf, toOf, lossOf}
+use Rattle.paths.specs.Queue.{Queue, Stop, Next, halts, takes, noneWait, enter, lower, leave, next}
+
+-- the queue, the table so far, the queue calls made, and the number of spans examined
+pub record Search : Type 0 where
+  pub queue : Queue
+  pub best : List ℕ
+  pub last : List ℕ
+  pub calls : List Line
+  pub examined : ℕ
+
+abbrev pub bestAt : Search → ℕ → ℕ
+bestAt s p = getD (s .best) p none
+
+abbrev pub lastAt : Search → ℕ → ℕ
+lastAt s p = getD (s .last) p none
+
+-- What an offered loss is to a place: the place is not met, the loss is smaller, it is equal but by a lower-numbered
+-- span, or it is no better.
+pub data Verdict : Type 0 where
+  unmet : Verdict
+  smaller : Verdict
+  tie : Verdict
+  worse : Verdict
+
+-- the offer of loss l by span e to a place that has loss l₀ by span e₀
+unfoldable pub judge : ℕ → ℕ → ℕ → ℕ → Verdict
+judge l₀ e₀ l e = cond (eqb l₀ none) unmet (cond (ltb l l₀) smaller (cond (eqb l l₀ && ltb e e₀) tie worse))
+
+-- Place p is offered loss l by span e: if not met it is inserted, a smaller loss lowers it, an equal one makes no call.
+unfoldable pub update : Verdict → ℕ → ℕ → ℕ → Search → Search
+update unmet p l e s =
+    record {
+      queue = enter p l (s .queue);
+      best = set (s .best) p l;
+      last = set (s .last) p e;
+      calls = s .calls ++ (Yields (Insert 0 p l) ∷ []);
+      examined = s .examined;
+    }
+update smaller p l e s =
+    record {
+      queue = lower p l (s .queue);
+      best = set (s .best) p l;
+      last = set (s .last) p e;
+      calls = s .calls ++ (Yields (DecreaseKey p l) ∷ []);
+      examined = s .examined;
+    }
+update tie p l e s =
+    record {
+      queue = s .queue;
+      best = s .best;
+      last = set (s .last) p e;
+      calls = s .calls;
+      examined = s .examined;
+    }
+update worse p l e s = s
+
+unfoldable pub offer : ℕ → ℕ → ℕ → Search → Search
+offer p l e s = update (judge (bestAt s p) (lastAt s p) l e) p l e s
+
+abbrev pub examine : Search → Search
+examine s =
+    record {
+      queue = s .queue;
+      best = s .best;
+      last = s .last;
+      calls = s .calls;
+      examined = suc (s .examined);
+    }
+
+-- Span e is tried if it leaves the place that was taken, with loss d. It offers only if it is usable.
+unfoldable pub try : Bool → Bool → Map → ℕ → ℕ → Search → Search
+try false usable m d e s = s
+try true false m d e s = examine s
+try true true m d e s = offer (toOf m e) (d + lossOf m e) e (examine s)
+
+-- The spans of place u below number e are tried in list order.
+unfoldable pub tried : Map → ℕ → ℕ → ℕ → Search → Search
+tried m u d zero s = s
+tried m u d (suc e) s = try (eqb (fromOf m e) u) (m .usable e) m d e (tried m u d e s)
+
+-- Place u is taken from the queue.
+abbrev pub extracted : ℕ → Search → Search
+extracted u s =
+    record {
+      queue = leave u (s .queue);
+      best = s .best;
+      last = s .last;
+      calls = s .calls ++ (Yields (ExtractMin 0) ∷ []);
+      examined = s .examined;
+    }
+
+unfoldable pub visit : Map → ℕ → Search → Search
+visit m u s = tried m u (bestAt s u) (spans m) (extracted u s)
+
+unfoldable pub turn : Map → Next → Search → Search
+turn m halts s = s
+turn m (takes u) s = visit m u s
+
+-- The start is inserted with key 0.
+unfoldable pub begin : Map → Search
+begin m =
+    record {
+      queue = enter (m .start) 0 (noneWait (m .places));
+      best = set (replicate (m .places) none) (m .start) 0;
+      last = replicate (m .places) none;
+      calls = Yields (Insert 0 (m .start) 0) ∷ [];
+      examined = 0;
+    }
+
+-- after k turns
+unfoldable pub turns : Stop → Map → ℕ → Search
+turns stop m zero = begin m
+turns stop m (suc k) = turn m (next stop ((turns stop m k) .queue)) (turns stop m k)
+
+-- Each turn takes a place, so there are no more turns than places: `SearchHalts` says so.
+unfoldable pub search : Stop → Map → Search
+search stop m = turns stop m (m .places)
+
+-- the full feed call goes on until no place waits
+abbrev pub never : Stop
+never key = false
+
+abbrev pub find : Map → Search
+find m = search never m

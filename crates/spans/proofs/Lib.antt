@@ -1,0 +1,3 @@
+pub mod SpansCode
+pub mod FeedCodes
+pub mod Range
