@@ -155,7 +155,11 @@ linkTrees-held d (x ∷ xs) h w k hh H =
 pub start : (h : ℕ) (s : Forests) → h < 8 → Formed s → Held h (replicate 17 none) (rowOf s h) s
 unfolding occupied
 start h s hh S =
-    record { formed = re-row s h (rowOf s h) S hh (λ z. refl); long = refl; rank = λ r n. absurd (n (getD-all 17 r none)) }
+    record {
+      formed = re-row s h (rowOf s h) S hh (λ z. refl);
+      long = refl;
+      rank = λ r n. absurd (n (getD-all 17 r none));
+    }
 
 unfoldable pub linked-row : (d h : ℕ) (s : Forests) → Linking
 linked-row d h s = linkTrees d (rowOf s h) (record { places = replicate 17 none; links = 0; forests = s })

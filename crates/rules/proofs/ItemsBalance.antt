@@ -45,7 +45,12 @@ sum-heaps : (l : List ℕ) → ((i : ℕ) → getD l i 0 ≤ 8) → sumTo 8 (λ 
 unfolding sumBy
 sum-heaps [] f = sumTo-zero 8
 sum-heaps (v ∷ l) f =
-    omega (arith, sumTo-add 8 (λ g. inHeap g v) (λ g. sumBy (inHeap g) l), one-heap v (f 0), sum-heaps l (λ i. f (suc i)))
+    omega (
+      arith,
+      sumTo-add 8 (λ g. inHeap g v) (λ g. sumBy (inHeap g) l),
+      one-heap v (f 0),
+      sum-heaps l (λ i. f (suc i)),
+    )
 
 -- the eight counts sum to the items that are in a heap
 items-live : (s : Forests) → Disjoint s → items s ≡ sumBy live (s .heap)

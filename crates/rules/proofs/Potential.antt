@@ -1,4 +1,5 @@
--- What linking, taking, insertion and joining do to the potential. These hold of any lists whatever, well-formed or not.
+-- What linking, taking, insertion and joining do to the potential. These hold of any lists whatever, well-formed or
+-- not.
 use Prim.Native.Nat.{ℕ, zero, suc, _+_, _≤_, zero-le}
 use mathlib.Core.Path.{_≡_, refl, sym, ap}
 use mathlib.Core.Logic.{_≢_}
