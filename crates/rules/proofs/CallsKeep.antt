@@ -1,31 +1,17 @@
 -- Each call leaves the forests formed, and is paid for by its price.
 use Prim.Native.Nat.{ℕ, zero, suc, _+_, _≤_, _<_}
-use mathlib.Core.Path.{_≡_, refl, sym, ap, _∙_}
+use mathlib.Core.Path.{_≡_, refl, sym, ap}
 use mathlib.Core.Logic.{_≢_}
-use mathlib.Core.List.{List, [], _∷_, _++_}
-use mathlib.Core.Bool.{Bool, true, false, cond, not, _&&_, true≢false, false≢true}
+use mathlib.Core.Bool.{Bool, true, false, cond, _&&_}
 use native.Mathlib.Omega.{arith}
-use lib.ListN.{length, set, length-append}
-use lib.Seq.{getD-set-other}
 use lib.Dec.{eqb}
-use borrow.Author.Tests.{eqb-true, ne-eqb}
+use borrow.Author.Tests.{eqb-true, eqb-false, ne-eqb, not-true, not-false}
 use Rattle.rules.specs.declared.Line.{Line}
 use Rattle.rules.specs.declared.Line.the-variants.{NoCall, Yields}
 use Rattle.rules.specs.declared.Call.{Call}
 use Rattle.rules.specs.declared.Call.the-variants.{DecreaseKey, Delete, ExtractMin, FindMin, Insert, Meld}
 use Rattle.rules.specs.Answers.{answer, refusal, refused, unlessRefused}
-use Rattle.rules.specs.Calls.{
-  Outcome,
-  decreaseKey,
-  delete,
-  deleteAs,
-  extract,
-  hasParent,
-  insert,
-  meld,
-  perform,
-  removeRoot,
-}
+use Rattle.rules.specs.Calls.{Outcome, decreaseKey, delete, deleteAs, extract, hasParent, perform, removeRoot}
 use Rattle.rules.specs.Cut.{Cuts, cutIf}
 use Rattle.rules.specs.Fibonacci.{R}
 use Rattle.rules.specs.Forests.{
@@ -44,52 +30,29 @@ use Rattle.rules.specs.Forests.{
 }
 use Rattle.rules.specs.Ledger.{allowance, ifDone, price}
 use Rattle.rules.specs.Lists.{occurs, sumBy}
-use Rattle.rules.specs.Order.{leastIn, minimum, precedes}
+use Rattle.rules.specs.Order.{minimum, precedes}
 use Rattle.rules.specs.WellFormed.{KeysFit, WellFormed}
-use Rattle.rules.specs.Words.{at}
 use Rattle.rules.proofs.CascadeKeeps.{cutOut-formed, ordered-but}
-use Rattle.rules.proofs.ConsolidateKeeps.{consolidate-formed, low}
+use Rattle.rules.proofs.ConsolidateKeeps.{consolidate-formed}
+use Rattle.rules.proofs.CutPotential.{cutOut-potential}
 use Rattle.rules.proofs.Cutting.{cutIf-heap, cutIf-key, cutOut-root}
 use Rattle.rules.proofs.Excused.{Formed, FormedBut, OrderedBut, exact, to-formed, well-formed}
 use Rattle.rules.proofs.InsertKeeps.{insert-formed}
 use Rattle.rules.proofs.KeyKeeps.{key-formed}
 use Rattle.rules.proofs.MeldKeeps.{meld-formed}
 use Rattle.rules.proofs.Members.{heap-in, not-none, root-row, row-root}
-use Rattle.rules.proofs.Minimum.{leastOf-in}
+use Rattle.rules.proofs.Minimum.{minimum-root}
 use Rattle.rules.proofs.Occurs.{byItem}
 use Rattle.rules.proofs.Order.{precedes-irrefl, precedes-total}
-use Rattle.rules.proofs.Potential.{cutOut-potential, extract-potential, removeRoot-potential}
+use Rattle.rules.proofs.Potential.{extract-potential, insert-potential, meld-potential, removeRoot-potential}
 use Rattle.rules.proofs.RankBound.{rank-le}
 use Rattle.rules.proofs.Refusals.{decrease-ok, delete-ok, extract-ok, insert-ok, meld-ok}
 use Rattle.rules.proofs.RemoveRootKeeps.{remove-formed}
-use Rattle.rules.proofs.Sums.{sumBy-set-le}
-use Rattle.rules.proofs.Words.{same}
 
 -- what a call is to keep
 pub record Kept (s : Forests) (o : Outcome) (price : ℕ) : Type 0 where
   pub formed : Formed (o .next)
   pub paid : o .reply .links + o .reply .cuts + potential (o .next) ≤ potential s + price
-
-insert-potential : (h i k : ℕ) (s : Forests) → potential (insert h i k s) ≤ potential s + 1
-unfolding insert potential trees marks
-insert-potential h i k s =
-    omega (
-      arith,
-      sumBy-set-le length (s .rows) h (rowOf s h ++ (i ∷ [])) [] refl,
-      length-append (rowOf s h) (i ∷ []),
-    )
-
-meld-potential : (a b : ℕ) (s : Forests) → a ≢ b → potential (meld a b s) ≤ potential s
-unfolding meld potential trees marks
-meld-potential a b s n =
-    let r : List ℕ = rowOf s a ++ rowOf s b in
-    omega (
-      arith,
-      sumBy-set-le length (set (s .rows) a r) b [] [] refl,
-      sumBy-set-le length (s .rows) a r [] refl,
-      length-append (rowOf s a) (rowOf s b),
-      ap length (getD-set-other (s .rows) a b r [] (λ e. n (sym e))),
-    )
 
 extract-kept : (s : Forests) → Formed s → (h x : ℕ) → 1 ≤ occurs x (rowOf s h)
     → Kept s (extract h x s) (R (count s h))
@@ -103,17 +66,13 @@ extract-kept s S h x k =
       paid = omega (arith, extract-potential h x s k, rank-le s (S .disjoint) (S .ranked) h x k);
     }
 
-pub has-parent : (s : Forests) (i : ℕ) → hasParent s i ≡ true → parentOf s i ≢ none
+has-parent : (s : Forests) (i : ℕ) → hasParent s i ≡ true → parentOf s i ≢ none
 unfolding hasParent
-has-parent s i e n = let z : false ≡ true = sym (rw n) ∙ e in absurd (false≢true z)
+has-parent s i e = eqb-false (parentOf s i) none (not-true (eqb (parentOf s i) none) e)
 
 pub has-none : (s : Forests) (i : ℕ) → hasParent s i ≡ false → parentOf s i ≡ none
 unfolding hasParent
-has-none s i e = go (eqb (parentOf s i) none) refl e
-  where
-    go : (t : Bool) → eqb (parentOf s i) none ≡ t → not t ≡ false → parentOf s i ≡ none
-    go true q _ = eqb-true (parentOf s i) none q
-    go false q z = absurd (true≢false z)
+has-none s i e = eqb-true (parentOf s i) none (not-false (eqb (parentOf s i) none) e)
 
 -- i, which alone may come before its parent, is cut if it does
 record CutKept (t : Forests) (c : Cuts) : Type 0 where
@@ -162,27 +121,22 @@ decrease-kept s S i k l low =
     right true b n e = e
     right false b n e = absurd (n refl)
 
--- an item that is cut if it has a parent leaves well-formed forests well-formed
+-- an item that is cut if it has a parent
+cut-child-kept : (s : Forests) → Formed s → (i : ℕ) → heapOf s i ≢ 0
+    → CutKept s (cutIf (hasParent s i) (heapNumber s i) i s)
+cut-child-kept s S i l =
+    cutIf-kept s (heapNumber s i) i
+    (record { disjoint = S .disjoint; ordered = ordered-but s i (S .disjoint) (S .ordered); ranked = S .ranked })
+    (omega arith) (hasParent s i) (has-parent s i) (λ z n. absurd (n (has-none s i z)))
+
+-- so well-formed forests stay well-formed
 pub cut-child-formed : (s : Forests) → WellFormed s → (i : ℕ) → heapOf s i ≢ 0
     → WellFormed ((cutIf (hasParent s i) (heapNumber s i) i s) .forests)
 unfolding KeysFit
 cut-child-formed s W i l =
-    let S = to-formed s W in
     let h : ℕ = heapNumber s i in
-    let c = cutIf-kept s h i
-    (record { disjoint = S .disjoint; ordered = ordered-but s i (S .disjoint) (S .ordered); ranked = S .ranked })
-    (omega arith) (hasParent s i) (has-parent s i) (λ z n. absurd (n (has-none s i z))) in
-    well-formed ((cutIf (hasParent s i) h i s) .forests) (c .formed)
+    well-formed ((cutIf (hasParent s i) h i s) .forests) (cut-child-kept s (to-formed s W) i l .formed)
     (λ x. rw (cutIf-key (hasParent s i) h i s) (W .keys x))
-
--- a minimum that is an item stands in its row
-minimum-stands : (s : Forests) (h : ℕ) → minimum s h ≢ none → 1 ≤ occurs (minimum s h) (rowOf s h)
-unfolding minimum leastIn
-minimum-stands s h n = go (rowOf s h) n
-  where
-    go : (l : List ℕ) → leastIn (s .key) l ≢ none → 1 ≤ occurs (leastIn (s .key) l) l
-    go [] n = absurd (n refl)
-    go (x ∷ xs) n = leastOf-in (s .key) x xs
 
 delete-kept : (s : Forests) → Formed s → (i : ℕ) → heapOf s i ≢ 0 → (b : Bool)
     → eqb (minimum s (heapNumber s i)) i ≡ b → Kept s (deleteAs b i s) (R (count s (heapNumber s i)) + 3)
@@ -190,16 +144,13 @@ unfolding deleteAs cutIf count
 delete-kept s S i l true e =
     let h : ℕ = heapNumber s i in
     let q : minimum s h ≡ i = eqb-true _ _ e in
-    let n : minimum s h ≢ none = λ z. not-none s (S .disjoint) i (heap-in s i l) (sym z ∙ q) in
-    let k = extract-kept s S h i (rw q at (minimum-stands s h n)) in
+    let k = extract-kept s S h i (rw q at (minimum-root s S h i (omega arith))) in
     record { formed = k .formed; paid = omega (arith, k .paid) }
 delete-kept s S i l false e =
     let h : ℕ = heapNumber s i in
     let hi : heapOf s i ≡ suc h = omega arith in
     let m : Cuts = cutIf (hasParent s i) h i s in
-    let c = cutIf-kept s h i
-    (record { disjoint = S .disjoint; ordered = ordered-but s i (S .disjoint) (S .ordered); ranked = S .ranked }) hi
-    (hasParent s i) (has-parent s i) (λ z n. absurd (n (has-none s i z))) in
+    let c = cut-child-kept s S i l in
     let same : m .forests .heap ≡ s .heap = cutIf-heap (hasParent s i) h i s in
     let hm : heapOf (m .forests) i ≡ suc h = rw same hi in
     let r : parentOf (m .forests) i ≡ none = rooted (hasParent s i) refl in

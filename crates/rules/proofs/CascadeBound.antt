@@ -17,7 +17,8 @@ use Rattle.rules.specs.Cut.{
 use Rattle.rules.specs.Forests.{Forests, marks, parentOf, tableSize}
 use Rattle.rules.specs.Theorems.{CascadeBound, MarksFit}
 use Rattle.rules.proofs.CascadeKeeps.{marks-le}
-use Rattle.rules.proofs.Potential.{cut-marks, marked-standing}
+use Rattle.rules.proofs.CutPotential.{cut-marks}
+use Rattle.rules.proofs.Standing.{standing-marked}
 
 cascade-bound : (d d′ : ℕ) (f : Standing) (h p : ℕ) (s : Forests) → standing s p ≡ f → marks s < d → marks s < d′
     → cascadingCut d f h p s ≡ cascadingCut d′ f h p s
@@ -30,8 +31,8 @@ cascade-bound (suc d) (suc d′) marked h p s e k k′ =
     let t : Forests = cut h p s in
     ap (λ (m : Cuts). record { cuts = suc (m .cuts); forests = m .forests })
     (cascade-bound d d′ (standing t (parentOf s p)) h (parentOf s p) t refl
-    (omega (arith, cut-marks h p s, marked-standing s p e))
-    (omega (arith, cut-marks h p s, marked-standing s p e)))
+    (omega (arith, cut-marks h p s, standing-marked s p e))
+    (omega (arith, cut-marks h p s, standing-marked s p e)))
 
 pub cascadeBound : CascadeBound
 unfolding cutOut cutWithin

@@ -3,13 +3,10 @@ use Prim.Native.Nat.{ℕ, zero, suc, _+_, _≤_, _<_}
 use mathlib.Core.Path.{_≡_, refl, sym, ap, _∙_}
 use mathlib.Core.Logic.{_≢_}
 use mathlib.Core.List.{List, [], _∷_}
-use mathlib.Core.Bool.{Bool, true, false, cond}
 use native.Mathlib.Nat.{le-refl}
 use native.Mathlib.Omega.{arith}
 use lib.ListN.{length, getD, set, length-set}
 use lib.Seq.{getD-set-same, getD-set-other}
-use lib.Dec.{eqb}
-use borrow.Author.Tests.{eqb-true}
 use Rattle.rules.specs.Cut.{Standing, cascadingCut, cut, cutOut, cutWithin, marked, root, standing, unmarked}
 use Rattle.rules.specs.Forests.{Forests, childrenOf, heapOf, markOf, marks, none, parentOf, setMark}
 use Rattle.rules.specs.Lists.{delta, occurs, sumBy}
@@ -18,36 +15,15 @@ use Rattle.rules.proofs.CutKeeps.{cut-disjoint, cut-ordered, cut-ranked
 use Rattle.rules.proofs.Excused.{Formed, FormedBut, OrderedBut, RankedBut, exact, ranks-mono}
 use Rattle.rules.proofs.Members.{heap-in, not-none, root-child}
 use Rattle.rules.proofs.Occurs.{byItem, delta-other, delta-self}
-use Rattle.rules.proofs.Potential.{cut-marks, marked-standing}
-
-standing-root : (s : Forests) (p : ℕ) → standing s p ≡ root → parentOf s p ≡ none
-unfolding standing
-standing-root s p e = go (eqb (parentOf s p) none) (eqb (markOf s p) 0) refl e
-  where
-    go : (a b : Bool) → eqb (parentOf s p) none ≡ a → cond a root (cond b unmarked marked) ≡ root
-        → parentOf s p ≡ none
-    go true b q e = eqb-true (parentOf s p) none q
-    go false true q e = let z : _≡_ {A = ℕ} 0 1 = cc in absurd (omega arith)
-    go false false q e = let z : _≡_ {A = ℕ} 0 1 = cc in absurd (omega arith)
-
-standing-child : (s : Forests) (p : ℕ) (f : Standing) → f ≢ root → standing s p ≡ f → parentOf s p ≢ none
-unfolding standing
-standing-child s p f n e q = n (sym e ∙ rw (q))
-
-standing-unmarked : (s : Forests) (p : ℕ) → standing s p ≡ unmarked → markOf s p ≡ 0
-unfolding standing
-standing-unmarked s p e = go (eqb (parentOf s p) none) (eqb (markOf s p) 0) refl e
-  where
-    go : (a b : Bool) → eqb (markOf s p) 0 ≡ b → cond a root (cond b unmarked marked) ≡ unmarked → markOf s p ≡ 0
-    go a true q e = eqb-true (markOf s p) 0 q
-    go true false q e = let z : _≡_ {A = ℕ} 0 1 = cc in absurd (omega arith)
-    go false false q e = let z : _≡_ {A = ℕ} 0 1 = cc in absurd (omega arith)
-
-unmarked-child : unmarked ≢ root
-unmarked-child e = let z : _≡_ {A = ℕ} 0 1 = cc in absurd (omega arith)
-
-marked-child : marked ≢ root
-marked-child e = let z : _≡_ {A = ℕ} 0 1 = cc in absurd (omega arith)
+use Rattle.rules.proofs.CutPotential.{cut-marks}
+use Rattle.rules.proofs.Standing.{
+  marked-child,
+  standing-child,
+  standing-marked,
+  standing-root,
+  standing-unmarked,
+  unmarked-child,
+}
 
 -- a root is no child, so what it lacks of rank breaks no rule
 pub root-ranked : (s : Forests) (p : ℕ) → Disjoint s → parentOf s p ≡ none → RankedBut (delta p) s → RankedBut exact s
@@ -139,7 +115,7 @@ cascade-formed (suc d) marked h p s e S hp k =
           (ordered-but s p (S .disjoint) (S .ordered));
       ranked = cut-ranked s (S .disjoint) h p hp n (S .ranked);
     })
-    (S .disjoint .up p (λ z. omega (arith, hp)) n .1 ∙ hp) (omega (arith, cut-marks h p s, marked-standing s p e))
+    (S .disjoint .up p (λ z. omega (arith, hp)) n .1 ∙ hp) (omega (arith, cut-marks h p s, standing-marked s p e))
 
 sum-bits : (l : List ℕ) → ((i : ℕ) → getD l i 0 ≤ 1) → sumBy (λ m. m) l ≤ length l
 unfolding sumBy

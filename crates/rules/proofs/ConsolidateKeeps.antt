@@ -1,17 +1,14 @@
--- Consolidating a row leaves the forests formed, no tree is lost at the seventeen places, and the ranks rise.
+-- Consolidating a row leaves the forests formed, and no tree is lost at the seventeen places.
 use Prim.Native.Nat.{ℕ, zero, suc, _+_, _≤_, _<_}
 use mathlib.Core.Path.{_≡_, refl, sym, ap, _∙_}
 use mathlib.Core.Logic.{_≢_}
-use mathlib.Core.List.{List, [], _∷_, _++_, map}
+use mathlib.Core.List.{List, [], _∷_, _++_}
 use mathlib.Core.Bool.{Bool, true, false, cond}
 use native.Mathlib.Nat.{le-refl}
 use native.Mathlib.Omega.{arith}
 use lib.ListN.{length, getD, set, replicate, length-set, length-append}
 use lib.Seq.{getD-set-same, getD-set-other}
-use lib.Dec.{eqb}
-use borrow.Author.Tests.{eqb-true, eqb-false, ne-eqb}
-use Rattle.rules.specs.Answers.{answer, unlessRefused}
-use Rattle.rules.specs.Calls.{extract, perform, removeRoot}
+use borrow.Author.Tests.{eqb-true, eqb-false}
 use Rattle.rules.specs.Consolidate.{
   Linking,
   climb,
@@ -24,52 +21,17 @@ use Rattle.rules.specs.Consolidate.{
   occupied,
   winner,
 }
-use Rattle.rules.specs.Fibonacci.{F}
 use Rattle.rules.specs.Forests.{Forests, childrenOf, none, rankOf, rowOf, setRow}
 use Rattle.rules.specs.Lists.{delta, occurs, sumBy}
-use Rattle.rules.specs.Order.{minimum, precedes}
-use Rattle.rules.specs.Theorems.{ClimbBound, RanksRise, Rising}
-use Rattle.rules.proofs.Excused.{Formed, to-formed}
+use Rattle.rules.specs.Order.{precedes}
+use Rattle.rules.proofs.EmptyForests.{getD-all}
+use Rattle.rules.proofs.Excused.{Formed}
 use Rattle.rules.proofs.LinkKeeps.{anew, in-row, link-formed, once, re-row, row-h}
-use Rattle.rules.proofs.Members.{heap-in, not-none, row-root}
+use Rattle.rules.proofs.Members.{heap-in, not-none}
+use Rattle.rules.proofs.Occupied.{occupied-extract, occupied-put}
 use Rattle.rules.proofs.Occurs.{byItem, delta-self, occurs-append}
 use Rattle.rules.proofs.Order.{precedes-total}
 use Rattle.rules.proofs.RankSixteen.{root-rank-16}
-use Rattle.rules.proofs.Refusals.{extract-ok}
-use Rattle.rules.proofs.RemoveRootKeeps.{remove-formed}
-use Rattle.rules.proofs.Sums.{sumBy-set}
-
--- ---- the places
-
--- how often z stands at a place
-stand : ℕ → ℕ → ℕ
-stand z p = cond (eqb p none) 0 (delta z p)
-
-occurs-occupied : (z : ℕ) (ps : List ℕ) → occurs z (occupied ps) ≡ sumBy (stand z) ps
-unfolding occurs occupied sumBy stand
-occurs-occupied z [] = refl
-occurs-occupied z (p ∷ ps) = go (eqb p none) (occurs-occupied z ps)
-  where
-    go : (t : Bool) → occurs z (occupied ps) ≡ sumBy (stand z) ps
-        → occurs z (cond t (occupied ps) (p ∷ occupied ps)) ≡ cond t 0 (delta z p) + sumBy (stand z) ps
-    go true e = omega arith
-    go false e = omega arith
-
--- a tree put at a free place, and one taken from its place
-occupied-put : (ps : List ℕ) (r x z : ℕ) → r < length ps → getD ps r none ≡ none → x ≢ none
-    → occurs z (occupied (set ps r x)) ≡ occurs z (occupied ps) + delta z x
-unfolding stand
-occupied-put ps r x z k e n =
-    let a : stand z (getD ps r none) ≡ 0 = rw e in
-    let b : stand z x ≡ delta z x = rw (ne-eqb x none n) in
-    omega (arith, occurs-occupied z (set ps r x), occurs-occupied z ps, sumBy-set (stand z) ps r x none k)
-
-occupied-extract : (ps : List ℕ) (r z : ℕ) → r < length ps → getD ps r none ≢ none
-    → occurs z (occupied (set ps r none)) + delta z (getD ps r none) ≡ occurs z (occupied ps)
-unfolding stand
-occupied-extract ps r z k n =
-    let b : stand z (getD ps r none) ≡ delta z (getD ps r none) = rw (ne-eqb (getD ps r none) none n) in
-    omega (arith, occurs-occupied z (set ps r none), occurs-occupied z ps, sumBy-set (stand z) ps r none none k)
 
 -- Between two steps: the row of h is what stands at the places and what is still to come, and a tree at place r has
 -- rank r.
@@ -170,7 +132,7 @@ module _ (h : ℕ) (hh : h < 8) (ps rest : List ℕ) (x : ℕ) (s : Forests) (H 
         linked x y x-in y-in (λ z. y-apart (sym z)) q (H .rank r n) (precedes-total (s .key) y x y-apart e)
         (λ z. refl)
 
-climb-held : (d : ℕ) (f : Bool) (r x h : ℕ) (rest : List ℕ) (w : Linking) → h < 8 → isFree (w .places) r ≡ f
+pub climb-held : (d : ℕ) (f : Bool) (r x h : ℕ) (rest : List ℕ) (w : Linking) → h < 8 → isFree (w .places) r ≡ f
     → Held h (w .places) (x ∷ rest) (w .forests) → rankOf (w .forests) x ≡ r → 18 ≤ d + r
     → Held h ((climb d f r x w) .places) rest ((climb d f r x w) .forests)
 unfolding climb isFree
@@ -190,48 +152,19 @@ linkTrees-held d (x ∷ xs) h w k hh H =
     let v : Linking = climb d (isFree (w .places) r) r x w in
     linkTrees-held d xs h v k hh (climb-held d (isFree (w .places) r) r x h xs w hh refl H refl (omega arith))
 
--- ---- a larger bound on the climb changes nothing
-
-climb-bound : (d d′ : ℕ) (f : Bool) (r x h : ℕ) (rest : List ℕ) (w : Linking) → h < 8 → isFree (w .places) r ≡ f
-    → Held h (w .places) (x ∷ rest) (w .forests) → rankOf (w .forests) x ≡ r → 18 ≤ d + r → 18 ≤ d′ + r
-    → climb d f r x w ≡ climb d′ f r x w
-unfolding climb isFree
-climb-bound zero d′ f r x h rest w hh e H q k k′ =
-    absurd (omega (arith, low h hh (w .places) rest x (w .forests) H))
-climb-bound (suc d) zero f r x h rest w hh e H q k k′ =
-    absurd (omega (arith, low h hh (w .places) rest x (w .forests) H))
-climb-bound (suc d) (suc d′) true r x h rest w hh e H q k k′ = refl
-climb-bound (suc d) (suc d′) false r x h rest w hh e H q k k′ =
-    let v : Linking = linkAt r x w in
-    let m = met h hh (w .places) rest x (w .forests) H r q (eqb-false _ _ e) _ refl in
-    climb-bound d d′ (isFree (v .places) (suc r)) (suc r) (winner r x w) h rest v hh refl (m .0) (m .1)
-    (omega arith) (omega arith)
-
-linkTrees-bound : (d d′ : ℕ) (xs : List ℕ) (h : ℕ) (w : Linking) → 18 ≤ d → 18 ≤ d′ → h < 8
-    → Held h (w .places) xs (w .forests) → linkTrees d xs w ≡ linkTrees d′ xs w
-unfolding linkTrees
-linkTrees-bound d d′ [] h w k k′ hh H = refl
-linkTrees-bound d d′ (x ∷ xs) h w k k′ hh H =
-    let r : ℕ = rankOf (w .forests) x in
-    let f : Bool = isFree (w .places) r in
-    let v : Linking = climb d f r x w in
-    linkTrees-bound d d′ xs h v k k′ hh (climb-held d f r x h xs w hh refl H refl (omega arith))
-    ∙ ap (linkTrees d′ xs) (climb-bound d d′ f r x h xs w hh refl H refl (omega arith) (omega arith))
-
-no-place : (n r : ℕ) → getD (replicate n none) r none ≡ none
-no-place zero r = refl
-no-place (suc n) zero = refl
-no-place (suc n) (suc r) = no-place n r
-
 pub start : (h : ℕ) (s : Forests) → h < 8 → Formed s → Held h (replicate 17 none) (rowOf s h) s
 unfolding occupied
 start h s hh S =
-    record { formed = re-row s h (rowOf s h) S hh (λ z. refl); long = refl; rank = λ r n. absurd (n (no-place 17 r)) }
+    record {
+      formed = re-row s h (rowOf s h) S hh (λ z. refl);
+      long = refl;
+      rank = λ r n. absurd (n (getD-all 17 r none));
+    }
 
-linked-row : (d h : ℕ) (s : Forests) → Linking
+unfoldable pub linked-row : (d h : ℕ) (s : Forests) → Linking
 linked-row d h s = linkTrees d (rowOf s h) (record { places = replicate 17 none; links = 0; forests = s })
 
-linked-held : (h : ℕ) (s : Forests) → h < 8 → Formed s
+pub linked-held : (h : ℕ) (s : Forests) → h < 8 → Formed s
     → Held h ((linked-row 18 h s) .places) [] ((linked-row 18 h s) .forests)
 unfolding linked-row
 linked-held h s hh S = linkTrees-held 18 (rowOf s h) h _ (le-refl 18) hh (start h s hh S)
@@ -242,52 +175,3 @@ consolidate-formed h s hh S =
     let w : Linking = linked-row 18 h s in
     anew (w .forests) h (occupied (w .places) ++ []) (linked-held h s hh S .formed) hh (occupied (w .places))
     (λ y. omega (arith, occurs-append y (occupied (w .places)) []))
-
-pub consolidate-bound : (h : ℕ) (s : Forests) → h < 8 → Formed s → (d : ℕ) → 18 ≤ d
-    → consolidateWithin d h s ≡ consolidate h s
-unfolding consolidate consolidateWithin
-consolidate-bound h s hh S d k =
-    ap (λ (w : Linking). record
-    { places = w .places; links = w .links; forests = setRow h (occupied (w .places)) (w .forests) })
-    (linkTrees-bound d 18 (rowOf s h) h _ k (le-refl 18) hh (start h s hh S))
-
--- ---- after linking the ranks rise strictly along the row
-
-rising-down : (j : ℕ) (l : List ℕ) → Rising (suc j) l → Rising j l
-rising-down j [] t = tt
-rising-down j (r ∷ rs) t = (omega (arith, t .0), t .1)
-
-occupied-rising : (rank : ℕ → ℕ) (j : ℕ) (ps : List ℕ)
-    → ((r : ℕ) → getD ps r none ≢ none → rank (getD ps r none) ≡ j + r)
-    → Rising j (map rank (occupied ps))
-unfolding occupied
-occupied-rising rank j [] f = tt
-occupied-rising rank j (p ∷ ps) f =
-    go (eqb p none) refl (occupied-rising rank (suc j) ps (λ r n. f (suc r) n ∙ omega arith))
-  where
-    go : (t : Bool) → eqb p none ≡ t → Rising (suc j) (map rank (occupied ps))
-        → Rising j (map rank (cond t (occupied ps) (p ∷ occupied ps)))
-    go true e u = rising-down j (map rank (occupied ps)) u
-    go false e u = let q : rank p ≡ j = f 0 (eqb-false p none e) ∙ omega arith in (omega arith, rw q u)
-
-pub consolidate-rising : (h : ℕ) (s : Forests) → h < 8 → Formed s
-    → Rising 0 (map (rankOf ((consolidate h s) .forests)) (rowOf ((consolidate h s) .forests) h))
-unfolding consolidate consolidateWithin linked-row
-consolidate-rising h s hh S =
-    let w : Linking = linked-row 18 h s in
-    let H = linked-held h s hh S in
-    rw (row-h (w .forests) h (occupied (w .places) ++ []) (H .formed) hh (occupied (w .places)))
-    (occupied-rising (rankOf (w .forests)) 0 (w .places) (λ r n. H .rank r n ∙ omega arith))
-
-pub climbBound : ClimbBound
-climbBound s S h hh d k = consolidate-bound h s hh (to-formed s S) d k
-
-pub ranksRise : RanksRise
-unfolding answer unlessRefused perform extract
-ranksRise s S h e =
-    let F = to-formed s S in
-    let r = row-root s (F .disjoint) h (minimum s h) (extract-ok s h e) in
-    let hh : h < 8 = omega (arith, F .disjoint .heaps (minimum s h), r .0) in
-    rw e
-    (consolidate-rising h (removeRoot h (minimum s h) s) hh
-    (remove-formed s (F .disjoint) h (minimum s h) (r .0) (r .1) (F .ordered) (F .ranked)))

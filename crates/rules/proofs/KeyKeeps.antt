@@ -9,7 +9,6 @@ use lib.Seq.{getD-set-same, getD-set-other}
 use Rattle.rules.specs.Forests.{Forests, heapOf, keyOf, none, parentOf, setKey}
 use Rattle.rules.specs.Order.{precedes}
 use Rattle.rules.specs.WellFormed.{Disjoint}
-use Rattle.rules.specs.Words.{at}
 use Rattle.rules.proofs.Excused.{FormedBut, OrderedBut, RankedBut, exact}
 use Rattle.rules.proofs.Members.{heap-in, not-none}
 use Rattle.rules.proofs.Occurs.{byItem}

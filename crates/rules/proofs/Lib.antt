@@ -11,13 +11,18 @@ pub mod Fibonacci
 pub mod RankBound
 pub mod RankSixteen
 pub mod Cutting
+pub mod Standing
+pub mod CutPotential
 pub mod CutKeeps
 pub mod CascadeKeeps
 pub mod CascadeBound
 pub mod RemoveRootKeeps
 pub mod Linking
 pub mod LinkKeeps
+pub mod Occupied
 pub mod ConsolidateKeeps
+pub mod ClimbBound
+pub mod RanksRise
 pub mod InsertKeeps
 pub mod KeyKeeps
 pub mod MeldKeeps
@@ -29,6 +34,7 @@ pub mod Ledger
 pub mod Lists
 pub mod Counts
 pub mod KeepsSound
+pub mod ItemsBalance
 pub mod KeepsWellFormed
 pub mod RankOfAny
 pub mod EmptyForests

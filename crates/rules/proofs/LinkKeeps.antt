@@ -14,7 +14,6 @@ use Rattle.rules.specs.Forests.{Forests, childrenOf, heapOf, markOf, non
 use Rattle.rules.specs.Lists.{delta, indicator, occurs}
 use Rattle.rules.specs.Order.{precedes}
 use Rattle.rules.specs.WellFormed.{Disjoint, isRootOf}
-use Rattle.rules.specs.Words.{at}
 use Rattle.rules.proofs.Excused.{ChildRanksBut, Formed, OrderedBut, RankedBut, exact, ranks-mono, ranks-snoc}
 use Rattle.rules.proofs.Members.{heap-in, not-none, root-child, root-row, row-root}
 use Rattle.rules.proofs.Occurs.{
@@ -26,7 +25,6 @@ use Rattle.rules.proofs.Occurs.{
   occurs-append,
   occurs-one,
 }
-use Rattle.rules.proofs.Order.{ord}
 
 -- ---- a row in another order
 

@@ -1,15 +1,16 @@
--- What each move does to the potential. These hold of any lists whatever, well-formed or not.
-use Prim.Native.Nat.{ℕ, zero, suc, _+_, _*_, _≤_, zero-le}
-use mathlib.Core.Path.{_≡_, refl, ap}
+-- What linking, taking, insertion and joining do to the potential. These hold of any lists whatever, well-formed or
+-- not.
+use Prim.Native.Nat.{ℕ, zero, suc, _+_, _≤_, zero-le}
+use mathlib.Core.Path.{_≡_, refl, sym, ap}
 use mathlib.Core.Logic.{_≢_}
 use mathlib.Core.List.{List, [], _∷_, _++_}
 use mathlib.Core.Bool.{Bool, true, false, cond}
 use native.Mathlib.Nat.{le-refl}
 use native.Mathlib.Omega.{arith}
 use lib.ListN.{length, getD, set, replicate, length-append}
+use lib.Seq.{getD-set-other}
 use lib.Dec.{eqb}
-use borrow.Author.Tests.{eqb-false}
-use Rattle.rules.specs.Calls.{extract, release, removeRoot, setFree}
+use Rattle.rules.specs.Calls.{extract, insert, meld, release, removeRoot, setFree}
 use Rattle.rules.specs.Consolidate.{
   Linking,
   climb,
@@ -22,81 +23,11 @@ use Rattle.rules.specs.Consolidate.{
   occupied,
   winner,
 }
-use Rattle.rules.specs.Cut.{Standing, cascadingCut, cut, cutOut, cutWithin, marked, root, standing, unmarked}
-use Rattle.rules.specs.Forests.{
-  Forests,
-  childrenOf,
-  markOf,
-  marks,
-  none,
-  parentOf,
-  potential,
-  rankOf,
-  rowOf,
-  setMark,
-  tableSize,
-  trees,
-}
+use Rattle.rules.specs.Forests.{Forests, childrenOf, marks, none, potential, rankOf, rowOf, trees}
 use Rattle.rules.specs.Lists.{occurs, setAll, sumBy, without}
+use Rattle.rules.proofs.CutPotential.{clear}
 use Rattle.rules.proofs.Linking.{linkTrees-keeps}
 use Rattle.rules.proofs.Sums.{length-without, sumBy-set-le}
-
-clear : (ms : List ℕ) (i : ℕ) → sumBy (λ m. m) (set ms i 0) + getD ms i 0 ≤ sumBy (λ m. m) ms
-clear ms i = omega (arith, sumBy-set-le (λ m. m) ms i 0 0 refl)
-
--- a cut brings one tree more, and takes away the mark that x had
-pub cut-potential : (h x : ℕ) (s : Forests) → potential (cut h x s) + 2 * markOf s x ≤ potential s + 1
-unfolding potential trees marks cut
-cut-potential h x s =
-    omega (
-      arith,
-      clear (s .mark) x,
-      sumBy-set-le length (s .rows) h (rowOf s h ++ (x ∷ [])) [] refl,
-      length-append
-          (rowOf s h) (x ∷ []),
-    )
-
-pub mark-potential : (p : ℕ) (s : Forests) → potential (setMark p 1 s) ≤ potential s + 2
-unfolding potential trees marks
-mark-potential p s = omega (arith, sumBy-set-le (λ m. m) (s .mark) p 1 0 refl)
-
-pub cut-marks : (h x : ℕ) (s : Forests) → marks (cut h x s) + markOf s x ≤ marks s
-unfolding marks cut
-cut-marks h x s = clear (s .mark) x
-
--- a parent that stands as marked has a mark
-pub marked-standing : (s : Forests) (p : ℕ) → standing s p ≡ marked → 1 ≤ markOf s p
-unfolding standing
-marked-standing s p e = go (eqb (parentOf s p) none) (eqb (markOf s p) 0) refl e
-  where
-    go : (a b : Bool) → eqb (markOf s p) 0 ≡ b → cond a root (cond b unmarked marked) ≡ marked → 1 ≤ markOf s p
-    go true b q e = let z : _≡_ {A = ℕ} 0 1 = cc in omega arith
-    go false true q e = let z : _≡_ {A = ℕ} 0 1 = cc in omega arith
-    go false false q e = let n : markOf s p ≢ 0 = eqb-false (markOf s p) 0 q in omega arith
-
--- cuts that follow cost nothing: each takes a mark away. The last parent may be marked.
-pub cascade-potential : (d : ℕ) (f : Standing) (h p : ℕ) (s : Forests) → standing s p ≡ f
-    → (cascadingCut d f h p s) .cuts + potential ((cascadingCut d f h p s) .forests) ≤ potential s + 2
-unfolding cascadingCut
-cascade-potential zero f h p s e = omega arith
-cascade-potential (suc d) root h p s e = omega arith
-cascade-potential (suc d) unmarked h p s e = omega (arith, mark-potential p s)
-cascade-potential (suc d) marked h p s e =
-    omega (
-      arith,
-      marked-standing s p e,
-      cut-potential h p s,
-      cascade-potential d
-          (standing (cut h p s) (parentOf s p)) h (parentOf s p) (cut h p s) refl,
-    )
-
-pub cutOut-potential : (h x : ℕ) (s : Forests)
-    → (cutOut h x s) .cuts + potential ((cutOut h x s) .forests) ≤ potential s + 4
-unfolding cutOut cutWithin
-cutOut-potential h x s =
-    let t : Forests = cut h x s in
-    let p : ℕ = parentOf s x in
-    omega (arith, cut-potential h x s, cascade-potential (suc (tableSize s)) (standing t p) h p t refl)
 
 -- ---- linking
 
@@ -141,7 +72,7 @@ climb-count (suc d) false r x w e =
       taken-busy (w .places) r e,
     )
 
-pub linkTrees-count : (d : ℕ) (xs : List ℕ) (w : Linking)
+linkTrees-count : (d : ℕ) (xs : List ℕ) (w : Linking)
     → (linkTrees d xs w) .links + sumBy busy ((linkTrees d xs w) .places) ≤ w .links + sumBy busy
     (w .places) + length xs
 unfolding linkTrees
@@ -162,7 +93,7 @@ linkTrees-marks d xs w =
     (le-refl _)
 
 -- each link takes one tree away
-pub consolidate-potential : (h : ℕ) (s : Forests)
+consolidate-potential : (h : ℕ) (s : Forests)
     → (consolidate h s) .links + potential ((consolidate h s) .forests) ≤ potential s
 unfolding consolidate consolidateWithin potential trees sumBy busy marks
 consolidate-potential h s =
@@ -182,7 +113,7 @@ consolidate-potential h s =
 
 -- ---- a root leaves: its children are trees now
 
-pub clear-all : (cs ms : List ℕ) → sumBy (λ m. m) (setAll cs 0 ms) ≤ sumBy (λ m. m) ms
+clear-all : (cs ms : List ℕ) → sumBy (λ m. m) (setAll cs 0 ms) ≤ sumBy (λ m. m) ms
 unfolding setAll
 clear-all [] ms = le-refl _
 clear-all (c ∷ cs) ms = omega (arith, clear-all cs (set ms c 0), clear ms c)
@@ -205,3 +136,26 @@ pub extract-potential : (h x : ℕ) (s : Forests) → 1 ≤ occurs x (rowOf s h)
     ≤ potential s + rankOf s x
 unfolding extract
 extract-potential h x s i = omega (arith, removeRoot-potential h x s i, consolidate-potential h (removeRoot h x s))
+
+-- ---- insertion and joining
+
+pub insert-potential : (h i k : ℕ) (s : Forests) → potential (insert h i k s) ≤ potential s + 1
+unfolding insert potential trees marks
+insert-potential h i k s =
+    omega (
+      arith,
+      sumBy-set-le length (s .rows) h (rowOf s h ++ (i ∷ [])) [] refl,
+      length-append (rowOf s h) (i ∷ []),
+    )
+
+pub meld-potential : (a b : ℕ) (s : Forests) → a ≢ b → potential (meld a b s) ≤ potential s
+unfolding meld potential trees marks
+meld-potential a b s n =
+    let r : List ℕ = rowOf s a ++ rowOf s b in
+    omega (
+      arith,
+      sumBy-set-le length (set (s .rows) a r) b [] [] refl,
+      sumBy-set-le length (s .rows) a r [] refl,
+      length-append (rowOf s a) (rowOf s b),
+      ap length (getD-set-other (s .rows) a b r [] (λ e. n (sym e))),
+    )

@@ -12,7 +12,6 @@ use Rattle.rules.specs.Fibonacci.{F, R}
 use Rattle.rules.specs.Forests.{Forests, childrenOf, count, heapOf, markOf, none, parentOf, rankOf, rowOf}
 use Rattle.rules.specs.Lists.{delta, indicator, occurs, sumBy, sumTo}
 use Rattle.rules.specs.WellFormed.{Disjoint}
-use Rattle.rules.specs.Words.{at}
 use Rattle.rules.proofs.Excused.{ChildRanksBut, RankedBut, exact}
 use Rattle.rules.proofs.Fibonacci.{F-mono, F-rec, R-max}
 use Rattle.rules.proofs.Members.{out-heap}

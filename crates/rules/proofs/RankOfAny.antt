@@ -15,7 +15,6 @@ use Rattle.rules.specs.Fibonacci.{R}
 use Rattle.rules.specs.Forests.{Forests, childrenOf, count, heapOf, none, parentOf, rankOf, tableSize}
 use Rattle.rules.specs.Lists.{delta, without}
 use Rattle.rules.specs.Theorems.{RankBound, RankSixteen}
-use Rattle.rules.specs.Words.{at}
 use Rattle.rules.proofs.CascadeKeeps.{ordered-but, ranked-but, root-ranked}
 use Rattle.rules.proofs.CutKeeps.{cut-disjoint, cut-ordered, cut-ranked}
 use Rattle.rules.proofs.Excused.{Formed, FormedBut, to-formed}

@@ -15,7 +15,7 @@ use Rattle.rules.specs.Answers.{answer, refusal, refused, unlessRefused}
 use Rattle.rules.specs.Calls.{decreaseKey, delete, deleteAs, extract, perform}
 use Rattle.rules.specs.Forests.{Forests, heapNumber, keyOf, potential, rowOf, tableSize, trees}
 use Rattle.rules.specs.Ledger.{price}
-use Rattle.rules.specs.Lists.{occurs, sumBy}
+use Rattle.rules.specs.Lists.{sumBy}
 use Rattle.rules.specs.Order.{minimum}
 use Rattle.rules.specs.Theorems.{InRange}
 use Rattle.rules.specs.WellFormed.{Disjoint, KeysFit, WellFormed}

@@ -1,7 +1,7 @@
 -- Laws of sums over lists, and of a list without an element.
 use Prim.Native.Nat.{ℕ, zero, suc, _+_, _≤_, _<_}
 use mathlib.Core.Path.{_≡_, refl, ap}
-use mathlib.Core.List.{List, [], _∷_, _++_}
+use mathlib.Core.List.{List, [], _∷_, _++_, map}
 use mathlib.Core.Bool.{Bool, true, false, cond}
 use native.Mathlib.Omega.{arith}
 use lib.ListN.{length, getD, set}
@@ -30,6 +30,16 @@ module _ {ℓ} {A : Type ℓ} (f : A → ℕ) where
   sumBy-set-le [] i v d e = omega arith
   sumBy-set-le (x ∷ xs) zero v d e = omega arith
   sumBy-set-le (x ∷ xs) (suc i) v d e = omega (arith, sumBy-set-le xs i v d e)
+
+pub sumBy-map : (f g : ℕ → ℕ) (l : List ℕ) → sumBy f (map g l) ≡ sumBy (λ x. f (g x)) l
+unfolding sumBy
+sumBy-map f g [] = refl
+sumBy-map f g (x ∷ l) = omega (arith, sumBy-map f g l)
+
+pub sumBy-two : (f g k : ℕ → ℕ) (l : List ℕ) → ((x : ℕ) → f x ≡ g x + k x) → sumBy f l ≡ sumBy g l + sumBy k l
+unfolding sumBy
+sumBy-two f g k [] e = refl
+sumBy-two f g k (x ∷ l) e = omega (arith, sumBy-two f g k l e, e x)
 
 pub length-without : (x : ℕ) (xs : List ℕ) → 1 ≤ occurs x xs → suc (length (without x xs)) ≡ length xs
 unfolding occurs delta sumBy without

@@ -15,9 +15,9 @@ use Rattle.rules.proofs.SoundWords.{sound-forests, sound-words}
 use Rattle.heap.specs.declared.Reply.{Reply}
 use Rattle.heap.specs.Performed.{Performed}
 use Rattle.text.specs.Output.{Wrote}
-use Rattle.sheet.specs.Promises.{Answerable, Answered}
 use Rattle.lines.specs.Print.{answerRow}
 use Rattle.lines.proofs.Printed.{row-32}
+use Rattle.sheet.specs.Promises.{Answerable, Answered}
 
 abbrev pub six : Answer
 six = record { code = 6; item = 0; key = 0; links = 0; cuts = 0 }

@@ -12,9 +12,9 @@ use Rattle.rules.proofs.EmptyForests.{emptyWellFormed}
 use Rattle.rules.proofs.SoundWords.{forests-encode, sound-encode, sound-forests}
 use Rattle.text.specs.Lines.{closed}
 use Rattle.lines.specs.Parse.{linesOf}
+use Rattle.lines.proofs.InRange.{lines-range}
 use Rattle.sheet.specs.Runs.{doneRun, keptRun, limitCode}
 use Rattle.sheet.specs.Theorems.{Continues, KeptContinues, SameAs}
-use Rattle.lines.proofs.InRange.{lines-range}
 use Rattle.sheet.proofs.Limits.{within}
 use Rattle.sheet.proofs.Runs.{fresh-done, kept-done, parts, run-room}
 

@@ -13,10 +13,10 @@ use Rattle.rules.proofs.EmptyForests.{emptyWellFormed}
 use Rattle.rules.proofs.Sizes.{same-items}
 use Rattle.lines.specs.Parse.{linesOf}
 use Rattle.lines.specs.Print.{printed}
-use Rattle.sheet.specs.Runs.{Run, doneRun, freshRun, limitCode, refusedRun, unlessLimit}
 use Rattle.lines.proofs.InRange.{lines-range}
-use Rattle.sheet.proofs.Limits.{same-limits, within}
 use Rattle.lines.proofs.Printed.{printed-32}
+use Rattle.sheet.specs.Runs.{Run, doneRun, freshRun, limitCode, refusedRun, unlessLimit}
+use Rattle.sheet.proofs.Limits.{same-limits, within}
 use Rattle.sheet.proofs.Runs.{run-room}
 
 -- two runs that answer the same and write the same

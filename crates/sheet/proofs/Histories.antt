@@ -13,15 +13,15 @@ use Rattle.rules.proofs.DecodeEncode.{encode-length}
 use Rattle.rules.proofs.EmptyForests.{emptyWellFormed}
 use Rattle.rules.proofs.Ledger.{ledger}
 use Rattle.rules.proofs.SoundWords.{forests-encode, sound-encode, sound-forests, sound-words}
-use Rattle.sheet.specs.Histories.{historyLines, linesIf, shown, storeAfter}
 use Rattle.lines.specs.Parse.{linesOf}
 use Rattle.lines.specs.Print.{printed}
+use Rattle.lines.proofs.InRange.{lines-range}
+use Rattle.lines.proofs.Printed.{printed-after}
+use Rattle.sheet.specs.Histories.{historyLines, linesIf, shown, storeAfter}
 use Rattle.sheet.specs.Runs.{Run, doneRun, keptRun, limitCode, refusedRun, unlessLimit}
 use Rattle.sheet.specs.Theorems.{FreshIsKept, HistoryLedger, HistoryOneList}
 use Rattle.sheet.proofs.Accepted.{sound-accepted}
-use Rattle.lines.proofs.InRange.{lines-range}
 use Rattle.sheet.proofs.Limits.{same-limits, within}
-use Rattle.lines.proofs.Printed.{printed-after}
 use Rattle.sheet.proofs.Runs.{fresh-done, kept-done, run-room, wrote}
 
 pub freshIsKept : FreshIsKept

@@ -14,17 +14,17 @@ use Rattle.rules.proofs.SoundWords.{forests-encode, sound-encode, sound-forests
 use Rattle.soundness.specs.Check.{soundWords}
 use Rattle.store.specs.Says.{Sized}
 use Rattle.text.specs.Lines.{lines}
-use Rattle.sheet.specs.declared.Checked.{Checked}
-use Rattle.sheet.specs.declared.Ran.{Ran}
 use Rattle.lines.specs.Parse.{linesOf}
 use Rattle.lines.specs.Print.{printed}
+use Rattle.lines.proofs.InRange.{lines-range}
+use Rattle.lines.proofs.LinesOf.{lines-length}
+use Rattle.lines.proofs.Printed.{printed-32}
+use Rattle.sheet.specs.declared.Checked.{Checked}
+use Rattle.sheet.specs.declared.Ran.{Ran}
 use Rattle.sheet.specs.Promises.{Limited, RanLines, Refuses, Runnable}
 use Rattle.sheet.specs.Runs.{Leaves, Run, doneRun, freshRun, keptRun, limitCode, refusedRun, unlessLimit}
 use Rattle.sheet.proofs.Accepted.{accepted-sound}
-use Rattle.lines.proofs.InRange.{lines-range}
-use Rattle.lines.proofs.LinesOf.{lines-length}
 use Rattle.sheet.proofs.Limits.{Within, within}
-use Rattle.lines.proofs.Printed.{printed-32}
 use Rattle.sheet.proofs.Runs.{fresh-done, kept-done}
 
 -- the bytes that the lines took

@@ -13,8 +13,8 @@ use Rattle.store.specs.Says.{Sized}
 use Rattle.store.proofs.Sizes.{store-sized}
 use Rattle.text.specs.Lines.{lines}
 use Rattle.text.proofs.Cases.{by-cond}
-use Rattle.sheet.specs.declared.Checked.{Checked}
 use Rattle.lines.proofs.LinesOf.{lines-length}
+use Rattle.sheet.specs.declared.Checked.{Checked}
 use Rattle.sheet.specs.Promises.{Limited}
 use Rattle.sheet.specs.Runs.{limitCode}
 

@@ -13,7 +13,6 @@ use Rattle.rules.proofs.ReplyBounds.{answer-small}
 use Rattle.rules.proofs.SoundWords.{sound-forests, sound-words}
 use Rattle.text.specs.Output.{Wrote}
 use Rattle.text.proofs.Wrote.{wrote-length, wrote-none, wrote-then}
-use Rattle.sheet.specs.Promises.{Answerable, Answered, RanLines, Runnable}
 use Rattle.lines.specs.declared.reader.Next.the-variants.{Found, NoMore}
 use Rattle.lines.specs.LineAt.{lineAt}
 use Rattle.lines.specs.Parse.{linesOf}
@@ -21,6 +20,7 @@ use Rattle.lines.specs.Print.{answerRow, printed}
 use Rattle.lines.proofs.LinesOf.{lines-length}
 use Rattle.lines.proofs.LineFound.{LineFound, found, no-line}
 use Rattle.lines.proofs.Printed.{row-32}
+use Rattle.sheet.specs.Promises.{Answerable, Answered, RanLines, Runnable}
 
 -- the lines before `at` are answered, and the answers end at `to`
 pub record Going (w₀ sheet out₀ w out : List ℕ) (at to : ℕ) : Type 0 where

@@ -15,13 +15,13 @@ use Rattle.rules.proofs.Answers.{AllInRange, after-append, after-well-formed}
 use Rattle.text.specs.Lines.{closed}
 use Rattle.lines.specs.Parse.{linesOf}
 use Rattle.lines.specs.Print.{printed}
+use Rattle.lines.proofs.InRange.{lines-range}
+use Rattle.lines.proofs.LinesOf.{lines-length, lines-of-append}
+use Rattle.lines.proofs.Printed.{printed-32, printed-after}
 use Rattle.sheet.specs.Runs.{doneRun, freshRun, keptRun, limitCode, unlessLimit}
 use Rattle.sheet.specs.Theorems.{SameAs}
 use Rattle.sheet.proofs.Accepted.{sound-accepted}
-use Rattle.lines.proofs.InRange.{lines-range}
-use Rattle.lines.proofs.LinesOf.{lines-length, lines-of-append}
 use Rattle.sheet.proofs.Limits.{within}
-use Rattle.lines.proofs.Printed.{printed-32, printed-after}
 
 pub fresh-done : (store sheet out : List ℕ) → limitCode store sheet out ≡ 0
     → freshRun store sheet out ≡ doneRun (empty (itemsIn store)) (linesOf sheet) out

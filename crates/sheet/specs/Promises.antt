@@ -9,10 +9,10 @@ use Rattle.rules.specs.Theorems.{InRange}
 use Rattle.rules.specs.Words.{Sound, encode, forestsOf, itemsIn}
 use Rattle.text.specs.Lines.{lines}
 use Rattle.text.specs.Output.{Wrote}
-use Rattle.sheet.specs.declared.Checked.{Checked}
-use Rattle.sheet.specs.declared.Ran.{Ran}
 use Rattle.lines.specs.Parse.{linesOf}
 use Rattle.lines.specs.Print.{answerRow, printed}
+use Rattle.sheet.specs.declared.Checked.{Checked}
+use Rattle.sheet.specs.declared.Ran.{Ran}
 use Rattle.sheet.specs.Runs.{limitCode}
 
 -- a sound store, room for a line of output, and a call whose numbers are words

@@ -13,9 +13,9 @@ use Rattle.rules.specs.Answers.{answers, after}
 use Rattle.rules.specs.Words.{itemsIn, isStore, encode, forestsOf}
 use Rattle.soundness.specs.Check.{soundWords}
 use Rattle.text.specs.Lines.{lines}
-use Rattle.sheet.specs.declared.Ran.{Ran}
 use Rattle.lines.specs.Parse.{linesOf}
 use Rattle.lines.specs.Print.{printed}
+use Rattle.sheet.specs.declared.Ran.{Ran}
 
 -- What a run returns, and what it leaves in the store and in the output.
 pub record Run : Type 0 where

@@ -13,7 +13,8 @@ beyond-requires c κs = search needs
 
 returns : tie.Need-returns
 returns c =
-    met 0 (code-1 _ _ _ (told-false _ _ (c .before .before .is-store .ensures) (c .before .if1 .taken))) (c .beyond .ensures)
+    met 0 (code-1 _ _ _ (told-false _ _ (c .before .before .is-store .ensures) (c .before .if1 .taken)))
+    (c .beyond .ensures)
 
 beyond-requires-2 : tie.Need-beyond-requires-2
 beyond-requires-2 c κs = search needs
