@@ -21,6 +21,7 @@ use Rattle.rules.specs.declared.Field.the-variants.{
 }
 use Rattle.rules.specs.Calls.{meld, moveHeap}
 use Rattle.rules.specs.Forests.{Forests, childrenOf, count, heapOf, keyOf, markOf, none, rowOf, tableSize}
+use Rattle.rules.specs.Kinds.{Apart}
 use Rattle.rules.specs.Lists.{occurs}
 use Rattle.rules.specs.Order.{leastIn, lesser, minimum}
 use Rattle.rules.specs.WellFormed.{Disjoint}
@@ -34,6 +35,7 @@ use Rattle.store.specs.declared.Owner.the-variants.{Row}
 use Rattle.store.specs.Empty.{emptyHeap}
 use Rattle.store.specs.ItemOrder.{itemKey}
 use Rattle.store.proofs.ConcatWords.{linkKinds}
+use Rattle.store.proofs.Emptying.{empty-else, nones}
 use Rattle.store.proofs.ItemOrder.{key-is}
 use Rattle.heap.specs.HeapsJoined.{heapsJoined, movedState, poured, rehomed}
 use Rattle.heap.proofs.FollowedRow.{
@@ -161,6 +163,16 @@ module _ (t : Forests) (D : Disjoint t) (a b : ℕ) (o : (a < 8) × (b < 8) × (
   abbrev moved : List Field
   moved = FirstTree ∷ LastTree ∷ Minimum ∷ Count ∷ FirstChild ∷ LastChild ∷ Next ∷ Prev ∷ State ∷ []
 
+  other-word : (f : Field) → Apart moved f → (j : ℕ) → rehomed a b (heapsJoined a b (word t)) f j ≡ word new f j
+  unfolding rehomed heapsJoined poured word meld
+  other-word f p j =
+      let q = apart-from moved f p in
+      let plain = apart-some moved (linkKinds (Row a)) f refl p in
+      rw (q Minimum refl, q Count refl, q State refl)
+      (empty-else t b (after t a two) f (apart-some moved (Count ∷ nones) f refl p) (plain-after t D a two f b plain) j
+      ∙ plain-after t D a two f j plain
+      ∙ kept-words (children ∷ parents ∷ keys ∷ []) moved t new refl refl refl refl f p j)
+
   pub melded-word : (n : ℕ) → tableSize t ≡ n → (f : Field) → Melds n f
   unfolding rehomed heapsJoined poured emptyHeap word meld headOr lastOr
   melded-word n e =
@@ -181,8 +193,4 @@ module _ (t : Forests) (D : Disjoint t) (a b : ℕ) (o : (a < 8) × (b < 8) × (
       (λ j l. next-word j (λ q. omega (arith, q, D .small)))
       (λ j l. prev-word j (λ q. omega (arith, q, D .small)))
       (λ j l. ap (movedState a b) (plain-after t D a two State j refl) ∙ state-word j)
-      (λ f p j l.
-      let q = apart-from moved f p in
-      rw (q FirstTree refl, q LastTree refl, q Minimum refl, q Count refl, q State refl)
-      (plain-after t D a two f j (apart-some moved (linkKinds (Row a)) f refl p)
-      ∙ kept-words (children ∷ parents ∷ keys ∷ []) moved t new refl refl refl refl f p j))
+      (λ f p j l. other-word f p j)

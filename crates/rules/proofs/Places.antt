@@ -47,11 +47,13 @@ field-number State = refl
 pub number-injective : (f g : Field) → fieldNumber f ≡ fieldNumber g → f ≡ g
 number-injective f g e = sym (field-number f) ∙ ap (λ k. getD fields k State) e ∙ field-number g
 
-number-onto : (k : ℕ) → k < 12 → fieldNumber (getD fields k State) ≡ k
+number-onto : (k : ℕ) → k < length fields → fieldNumber (getD fields k State) ≡ k
 unfolding tabulateFrom
 number-onto k h =
-    let e : map fieldNumber fields ≡ tabulate 12 (λ i. i) = refl in
-    sym (List·getD-map fieldNumber fields k State) ∙ ap (λ l. getD l k 11) e ∙ getD-tabulate 12 (λ i. i) k 11 h
+    let e : map fieldNumber fields ≡ tabulate (length fields) (λ i. i) = refl in
+    sym (List·getD-map fieldNumber fields k State)
+    ∙ ap (λ l. getD l k (fieldNumber State)) e
+    ∙ getD-tabulate (length fields) (λ i. i) k (fieldNumber State) h
 
 -- where a kind lies: among the words of the heaps, or as a column of words of the items
 data Lies (n : ℕ) (f : Field) : Type 0 where

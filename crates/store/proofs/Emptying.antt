@@ -22,9 +22,9 @@ use Rattle.rules.specs.declared.Field.the-variants.{
   Rank,
   State,
 }
-use Rattle.rules.specs.Kinds.{isOneOf}
+use Rattle.rules.specs.Kinds.{isOneOf, Apart}
 use Rattle.rules.specs.Lists.{sumBy}
-use Rattle.rules.specs.Forests.{none, empty, count}
+use Rattle.rules.specs.Forests.{Forests, none, empty, count}
 use Rattle.rules.specs.Order.{leastIn, minimum}
 use Rattle.rules.specs.Words.{room, at, headOr, lastOr, stateOf, unlessFree, word, wordsOf, encode}
 use Rattle.rules.proofs.ByKind.{apart-from, by-kinds}
@@ -34,20 +34,28 @@ use Rattle.store.specs.Says.{Sized, Values, Says, Changes}
 use Rattle.store.specs.Empty.{emptyHeap}
 use Rattle.store.proofs.Says.{says-as}
 
--- the kinds that are not 0 in an empty heap
-abbrev links : List Field
-links = FirstTree ∷ LastTree ∷ Minimum ∷ []
+-- the kinds of which an empty heap has the word `none`
+abbrev pub nones : List Field
+nones = FirstTree ∷ LastTree ∷ Minimum ∷ []
 
 -- the first k heaps are empty, all other words 0
 abbrev pub emptied : ℕ → Values
-emptied k f i = cond (isOneOf links f) (cond (ltb i k) none 0) 0
+emptied k f i = cond (isOneOf nones f) (cond (ltb i k) none 0) 0
 
 emptied-none : (f : Field) (i : ℕ) → 0 ≡ emptied 0 f i
-emptied-none f i = rw (le-ltb i 0 (omega arith)) (go (isOneOf links f))
+emptied-none f i = rw (le-ltb i 0 (omega arith)) (go (isOneOf nones f))
   where
     go : (t : Bool) → 0 ≡ cond {A = ℕ} t 0 0
     go true = refl
     go false = refl
+
+-- emptying a heap leaves its words of every other kind, if they are those of a heap
+pub empty-else : (s : Forests) (h : ℕ) (v : Values) (f : Field) → Apart (Count ∷ nones) f → v f h ≡ word s f h
+    → (i : ℕ) → emptyHeap h v f i ≡ v f i
+unfolding emptyHeap
+empty-else s h v f o q i =
+    let e = apart-from (Count ∷ nones) f o in
+    rw (e Count refl, e FirstTree refl, e LastTree refl, e Minimum refl)
 
 -- one heap more
 one-more : (k i : ℕ) → cond (eqb k i) none (cond (ltb i k) none 0) ≡ cond (ltb i (k + 1)) none 0
@@ -63,10 +71,10 @@ one-more k i = go (eqb k i) (ltb i k) refl refl
 emptied-more : (k : ℕ) (f : Field) (i : ℕ) → emptyHeap k (emptied k) f i ≡ emptied (k + 1) f i
 unfolding emptyHeap
 emptied-more k =
-    by-kinds (Count ∷ links) (λ f. (i : ℕ) → emptyHeap k (emptied k) f i ≡ emptied (k + 1) f i)
+    by-kinds (Count ∷ nones) (λ f. (i : ℕ) → emptyHeap k (emptied k) f i ≡ emptied (k + 1) f i)
     (λ i. go (eqb k i)) (one-more k) (one-more k) (one-more k)
     (λ f o i.
-    let e = apart-from (Count ∷ links) f o in
+    let e = apart-from (Count ∷ nones) f o in
     rw (e Count refl, e FirstTree refl, e LastTree refl, e Minimum refl))
   where
     go : (t : Bool) → cond {A = ℕ} t 0 0 ≡ 0
