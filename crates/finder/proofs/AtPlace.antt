@@ -18,8 +18,8 @@ use Rattle.paths.proofs.Turns.{
   trying-keeps,
 }
 use Rattle.paths.proofs.Served.{ServedOf, served}
-use Rattle.finder.specs.declared.relax.Progress.{Progress}
-use Rattle.finder.specs.Progress.{Taken}
+use Rattle.relax.specs.declared.Progress.{Progress}
+use Rattle.finder.specs.Standing.{Taken}
 
 -- after the spans below e of place u, which was taken after k turns
 abbrev pub at : Map → ℕ → ℕ → ℕ → Search

@@ -13,9 +13,11 @@ use Rattle.paths.specs.Theorems.{trying}
 use Rattle.paths.proofs.Invariant.{unsettled}
 use Rattle.paths.proofs.Offers.{TryingOf, sum-fits, out-of-queue}
 use Rattle.paths.proofs.Examined.{examinedAtMost}
-use Rattle.finder.specs.declared.relax.Progress.{Progress}
-use Rattle.finder.specs.Progress.{Holds, Offerable, OfferReady, Moves, Taken, examineOne}
-use Rattle.finder.proofs.Logged.{logged-ready}
+use Rattle.relax.specs.declared.Progress.{Progress}
+use Rattle.relax.specs.Holds.{Holds, examineOne}
+use Rattle.relax.specs.Moves.{Offerable, OfferReady, Moves}
+use Rattle.finder.specs.Standing.{Taken}
+use Rattle.finder.proofs.Ready.{logged-ready}
 use Rattle.finder.proofs.AtPlace.{at, left, left-is, tryingAt, servedAt}
 use Rattle.finder.proofs.Walking.{Walking}
 

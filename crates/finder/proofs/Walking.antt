@@ -11,8 +11,9 @@ use borrow.Author.Tests.{ltb-true, ltb-false}
 use Rattle.paths.specs.Map.{Map, spans, fromOf}
 use Rattle.paths.specs.Search.{Search, extracted, visit, turn, turns, never, bestAt}
 use Rattle.spans.specs.Range.{FirstSpan}
-use Rattle.finder.specs.declared.relax.Progress.{Progress}
-use Rattle.finder.specs.Progress.{Holds, Taken, Visits, visitOne}
+use Rattle.relax.specs.declared.Progress.{Progress}
+use Rattle.relax.specs.Holds.{Holds, visitOne}
+use Rattle.finder.specs.Standing.{Taken, Visits}
 use Rattle.finder.proofs.Walk.{walk-begins, walk-ends}
 use Rattle.finder.proofs.AtPlace.{at, left, left-is, place-in}
 

@@ -10,11 +10,11 @@ use Rattle.rules.specs.Forests.{none}
 use Rattle.rules.proofs.Sums.{sumBy-set}
 use Rattle.heap.specs.declared.Reply.{Reply}
 use Rattle.heap.specs.Performed.{Performed}
-use Rattle.finder.specs.declared.relax.Progress.{Progress}
+use Rattle.relax.specs.declared.Progress.{Progress}
 use Rattle.paths.specs.Search.{Verdict, unmet, smaller, tie, worse, judge, update, offer}
-use Rattle.finder.specs.Progress.{EnterReady, OfferReady, Moves}
+use Rattle.relax.specs.Moves.{EnterReady, OfferReady, Moves}
 use Rattle.paths.proofs.Judge.{judge-unmet, judge-smaller, judge-larger, judge-tie, judge-late}
-use Rattle.finder.proofs.Logged.{call-logged}
+use Rattle.relax.proofs.Logged.{call-logged}
 
 -- below the length the default does not matter
 same-at : (l : List ℕ) (i a b : ℕ) → i < length l → getD l i a ≡ getD l i b
