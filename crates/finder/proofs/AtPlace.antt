@@ -43,7 +43,11 @@ module _
 
   pub left-is : left + 1 + k ≡ m .places
   left-is =
-      omega (arith, betweenTurns .goes u (K .next-is), extracted-rest never m (K .accepted) k before betweenTurns u (K .next-is))
+      omega (
+        arith,
+        betweenTurns .goes u (K .next-is),
+        extracted-rest never m (K .accepted) k before betweenTurns u (K .next-is),
+      )
 
   pub tryingAt : (e : ℕ) → e ≤ spans m → TryingOf m u (bestAt before u) e left (at m k u e)
   tryingAt e h =

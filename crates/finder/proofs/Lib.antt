@@ -1,5 +1,5 @@
 -- What the functions of the finder need, bottom to top.
-pub mod Walk
+pub mod OwnSpans
 pub mod Ready
 pub mod AtPlace
 pub mod Walking
