@@ -18,8 +18,8 @@ use Rattle.paths.proofs.Turns.{
   trying-keeps,
 }
 use Rattle.paths.proofs.Served.{ServedOf, served}
-use Rattle.finder.specs.declared.relax.Progress.{Progress}
-use Rattle.finder.specs.Progress.{Taken}
+use Rattle.relax.specs.declared.Progress.{Progress}
+use Rattle.finder.specs.Standing.{Taken}
 
 -- after the spans below e of place u, which was taken after k turns
 abbrev pub at : Map → ℕ → ℕ → ℕ → Search
@@ -43,7 +43,11 @@ module _
 
   pub left-is : left + 1 + k ≡ m .places
   left-is =
-      omega (arith, betweenTurns .goes u (K .next-is), extracted-rest never m (K .accepted) k before betweenTurns u (K .next-is))
+      omega (
+        arith,
+        betweenTurns .goes u (K .next-is),
+        extracted-rest never m (K .accepted) k before betweenTurns u (K .next-is),
+      )
 
   pub tryingAt : (e : ℕ) → e ≤ spans m → TryingOf m u (bestAt before u) e left (at m k u e)
   tryingAt e h =

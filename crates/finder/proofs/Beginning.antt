@@ -19,9 +19,10 @@ use Rattle.paths.specs.Map.{Map, mapOf, Accepted}
 use Rattle.paths.specs.Search.{begin, turns, never}
 use Rattle.paths.specs.Feed.{linksOf, cutsOf}
 use Rattle.paths.proofs.Begin.{sum-zeros}
-use Rattle.finder.specs.declared.relax.Progress.{Progress}
-use Rattle.finder.specs.Progress.{Logged, Holds, Stands, BeginReady, Begun}
-use Rattle.finder.proofs.Logged.{call-logged}
+use Rattle.relax.specs.declared.Progress.{Progress}
+use Rattle.relax.specs.Holds.{Logged, Holds}
+use Rattle.finder.specs.Standing.{Stands, BeginReady, Begun}
+use Rattle.relax.proofs.Logged.{call-logged}
 
 abbrev noCall : Tally
 noCall = record { links = 0; cuts = 0 }

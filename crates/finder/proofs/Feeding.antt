@@ -6,13 +6,13 @@ use mathlib.Core.List.{List}
 use native.Mathlib.Omega.{arith}
 use lib.ListN.{length}
 use Rattle.rules.specs.Words.{encode}
-use Rattle.finder.specs.declared.relax.Progress.{Progress}
+use Rattle.relax.specs.declared.Progress.{Progress}
 use Rattle.paths.specs.Map.{Map, Accepted}
 use Rattle.paths.specs.Search.{never, search, find}
 use Rattle.paths.specs.Codes.{feedCode}
 use Rattle.paths.specs.Feed.{feedAs, feedResult}
 use Rattle.paths.specs.Theorems.{between, Fits}
-use Rattle.finder.specs.Progress.{BeginReady, Found}
+use Rattle.finder.specs.Standing.{BeginReady, Found}
 use Rattle.finder.specs.Promise.{Feeds}
 use Rattle.paths.proofs.Served.{endsEmpty}
 use Rattle.paths.proofs.Examined.{examinedAtMost}

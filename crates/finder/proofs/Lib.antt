@@ -1,7 +1,6 @@
 -- What the functions of the finder need, bottom to top.
-pub mod Walk
-pub mod Logged
-pub mod Relaxing
+pub mod OwnSpans
+pub mod Ready
 pub mod AtPlace
 pub mod Walking
 pub mod Visiting

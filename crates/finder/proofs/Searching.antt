@@ -18,9 +18,10 @@ use Rattle.paths.proofs.Waiting.{next-takes, waits-below, some-next, none-next}
 use Rattle.paths.proofs.Turns.{extracted-rest, turns-between, turns-keep, search-is}
 use Rattle.paths.proofs.Served.{ServedOf, served, takesMinimum}
 use Rattle.spans.specs.Range.{Index}
-use Rattle.finder.specs.declared.relax.Progress.{Progress}
-use Rattle.finder.specs.Progress.{Taken, Stands, Goes, Found}
-use Rattle.finder.proofs.Logged.{call-logged, logged-forests, logged-ready}
+use Rattle.relax.specs.declared.Progress.{Progress}
+use Rattle.finder.specs.Standing.{Taken, Stands, Goes, Found}
+use Rattle.relax.proofs.Logged.{call-logged, logged-forests}
+use Rattle.finder.proofs.Ready.{logged-ready}
 
 -- ---- a place is taken
 

@@ -13,9 +13,11 @@ use Rattle.paths.specs.Theorems.{trying}
 use Rattle.paths.proofs.Invariant.{unsettled}
 use Rattle.paths.proofs.Offers.{TryingOf, sum-fits, out-of-queue}
 use Rattle.paths.proofs.Examined.{examinedAtMost}
-use Rattle.finder.specs.declared.relax.Progress.{Progress}
-use Rattle.finder.specs.Progress.{Holds, Offerable, OfferReady, Moves, Taken, examineOne}
-use Rattle.finder.proofs.Logged.{logged-ready}
+use Rattle.relax.specs.declared.Progress.{Progress}
+use Rattle.relax.specs.Holds.{Holds, examineOne}
+use Rattle.relax.specs.Moves.{Offerable, OfferReady, Moves}
+use Rattle.finder.specs.Standing.{Taken}
+use Rattle.finder.proofs.Ready.{logged-ready}
 use Rattle.finder.proofs.AtPlace.{at, left, left-is, tryingAt, servedAt}
 use Rattle.finder.proofs.Walking.{Walking}
 
@@ -32,32 +34,32 @@ module _
   module _
       {end e : ℕ} {best last store : List ℕ} {go : Progress} (W : Walking m k u end e best last store go)
       (j : e < end) where
-    h : e < spans m
-    h = omega (arith, W .within)
+    span-in : e < spans m
+    span-in = omega (arith, W .within)
 
-    f : fromOf m e ≡ u
-    f = W .own e (omega arith) j
+    leaves-u : fromOf m e ≡ u
+    leaves-u = W .own e (omega arith) j
 
-    T : TryingOf m u (bestAt before u) e (left K) (at m k u e)
-    T = tryingAt K e (omega (arith, h))
+    tryingE : TryingOf m u (bestAt before u) e (left K) (at m k u e)
+    tryingE = tryingAt K e (omega (arith, span-in))
 
     pub examined-small : go .examined < 4294967295
     examined-small =
         omega (
           arith,
           W .holds .examined-is,
-          examinedAtMost never m (K .accepted) (at m k u e) (trying k u e (K .next-is) (omega (arith, h))),
+          examinedAtMost never m (K .accepted) (at m k u e) (trying k u e (K .next-is) (omega (arith, span-in))),
           K .accepted .short,
         )
 
     pub span-small : e < 16384
-    span-small = omega (arith, h, K .accepted .short)
+    span-small = omega (arith, span-in, K .accepted .short)
 
     pub in-to : e < length to
-    in-to = omega (arith, h, K .accepted .toN, ap length (K .lists .to-is))
+    in-to = omega (arith, span-in, K .accepted .toN, ap length (K .lists .to-is))
 
     pub in-loss : e < length loss
-    in-loss = omega (arith, h, K .accepted .lossN, ap length (K .lists .loss-is))
+    in-loss = omega (arith, span-in, K .accepted .lossN, ap length (K .lists .loss-is))
 
     pub loss-fits : d + getD loss e 0 < none
     loss-fits =
@@ -65,17 +67,19 @@ module _
         (omega (
           arith,
           K .loss-is,
-          sum-fits m (K .accepted) u (bestAt before u) e (left K) (at m k u e) T (h, K .lists .free e) f,
+          sum-fits m (K .accepted) u (bestAt before u) e (left K) (at m k u e) tryingE
+              (span-in, K .lists .free e) leaves-u,
         ))
 
     offerable : Offerable (m .places) (toOf m e) (examine (at m k u e))
     offerable =
         record {
-          formed = servedAt K e (omega (arith, h)) .formed;
-          inside = omega (arith, T .invariant .waitsN, K .accepted .toIn e h);
+          formed = servedAt K e (omega (arith, span-in)) .formed;
+          inside = omega (arith, tryingE .invariant .waitsN, K .accepted .toIn e span-in);
           apart =
               λ z.
-              out-of-queue m (K .accepted) u (bestAt before u) e (left K) (at m k u e) T (h, K .lists .free e) f z;
+              out-of-queue m (K .accepted) u (bestAt before u) e (left K) (at m k u e) tryingE
+              (span-in, K .lists .free e) leaves-u z;
         }
 
     pub offer-ready : OfferReady (getD to e 0) best last store (examineOne go)
@@ -83,12 +87,12 @@ module _
     offer-ready =
         rw (K .lists .to-is)
         (record {
-          inBest = omega (arith, ap length (W .holds .best-is), T .invariant .bestN, K .accepted .toIn e h);
-          inLast = omega (arith, ap length (W .holds .last-is), T .invariant .lastN, K .accepted .toIn e h);
+          inBest = omega (arith, ap length (W .holds .best-is), tryingE .invariant .bestN, K .accepted .toIn e span-in);
+          inLast = omega (arith, ap length (W .holds .last-is), tryingE .invariant .lastN, K .accepted .toIn e span-in);
           ready =
-              logged-ready m (K .accepted) (at m k u e) (trying k u e (K .next-is) (omega (arith, h))) store
+              logged-ready m (K .accepted) (at m k u e) (trying k u e (K .next-is) (omega (arith, span-in))) store
               (go .tally) (W .holds .logged);
-          room = omega (arith, W .holds .met-is, T .left, left-is K, K .accepted .few);
+          room = omega (arith, W .holds .met-is, tryingE .left, left-is K, K .accepted .few);
         })
 
     examined-holds : Holds (m .places) (suc k) (examine (at m k u e)) best last store (examineOne go)
@@ -116,6 +120,6 @@ module _
           own = λ i a b. W .own i (omega arith) b;
           beyond = W .beyond;
           holds =
-              rw (add-one, eq-eqb (fromOf m e) u f, K .lists .free e)
+              rw (add-one, eq-eqb (fromOf m e) u leaves-u, K .lists .free e)
               (M .holds (m .places) (suc k) (examine (at m k u e)) offerable examined-holds);
         }

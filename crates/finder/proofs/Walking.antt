@@ -11,10 +11,11 @@ use borrow.Author.Tests.{ltb-true, ltb-false}
 use Rattle.paths.specs.Map.{Map, spans, fromOf}
 use Rattle.paths.specs.Search.{Search, extracted, visit, turn, turns, never, bestAt}
 use Rattle.spans.specs.Range.{FirstSpan}
-use Rattle.finder.specs.declared.relax.Progress.{Progress}
-use Rattle.finder.specs.Progress.{Holds, Taken, Visits, visitOne}
-use Rattle.finder.proofs.Walk.{walk-begins, walk-ends}
-use Rattle.finder.proofs.AtPlace.{at, left, left-is, place-in}
+use Rattle.relax.specs.declared.Progress.{Progress}
+use Rattle.relax.specs.Holds.{Holds, visitOne}
+use Rattle.finder.specs.Standing.{Taken, Visits}
+use Rattle.finder.proofs.OwnSpans.{walk-begins, walk-ends}
+use Rattle.finder.proofs.AtPlace.{at, left-is, place-in}
 
 -- Before span e of place u, which was taken after k turns: the spans from e to `end` are its spans still to be tried.
 pub record Walking (m : Map) (k u end e : ℕ) (best last store : List ℕ) (go : Progress) : Type 0 where
@@ -34,29 +35,30 @@ module _
   abbrev before : Search
   before = turns never m k
 
-  F : FirstSpan (m .from) u (getD index u 0)
-  F = K .lists .indexed .first u (omega (arith, place-in K))
+  -- the first span of u, and that of the next place
+  firstOf : FirstSpan (m .from) u (getD index u 0)
+  firstOf = K .lists .indexed .first u (omega (arith, place-in K))
 
-  E : FirstSpan (m .from) (u + 1) (getD index (u + 1) 0)
-  E = K .lists .indexed .first (u + 1) (omega (arith, place-in K))
+  endOf : FirstSpan (m .from) (u + 1) (getD index (u + 1) 0)
+  endOf = K .lists .indexed .first (u + 1) (omega (arith, place-in K))
 
   -- a word of the index is the number of a span, or the number of the spans
   pub first-small : getD index u 0 ≤ 16384
-  first-small = omega (arith, F .within, K .accepted .short)
+  first-small = omega (arith, firstOf .within, K .accepted .short)
 
   pub end-small : getD index (u + 1) 0 ≤ 16384
-  end-small = omega (arith, E .within, K .accepted .short)
+  end-small = omega (arith, endOf .within, K .accepted .short)
 
   pub walking-begins : Walking m k u (getD index (u + 1) 0) (getD index u 0) best₀ last₀ store₀ taken
   walking-begins =
       record {
         visited-is = refl;
         ordered = ordered;
-        within = E .within;
+        within = endOf .within;
         own =
-            λ i a b. omega (arith, F .above i a (omega (arith, E .within)), E .below i b);
-        beyond = λ h. omega (arith, E .above end (le-refl _) h);
-        holds = rw (walk-begins m u (bestAt before u) (extracted u before) first (F .below)) (K .holds);
+            λ i a b. omega (arith, firstOf .above i a (omega (arith, endOf .within)), endOf .below i b);
+        beyond = λ h. omega (arith, endOf .above end (le-refl _) h);
+        holds = rw (walk-begins m u (bestAt before u) (extracted u before) first (firstOf .below)) (K .holds);
       }
     where
       first : ℕ
@@ -72,7 +74,12 @@ module _
           go false q = ltb-false end first q
           go true q =
               let h = ltb-true end first q in
-              absurd (omega (arith, F .below end h, E .above end (le-refl _) (omega (arith, h, F .within))))
+              absurd
+              (omega (
+                arith,
+                firstOf .below end h,
+                endOf .above end (le-refl _) (omega (arith, h, firstOf .within)),
+              ))
 
   module _ {end e : ℕ} {best last store : List ℕ} {go : Progress} (W : Walking m k u end e best last store go) where
     pub visited-small : go .visited < 4294967295

@@ -4,7 +4,7 @@ ghost use Prim.Native.Nat.{ℕ};
 ghost use lib.ListN.{length, replicate};
 ghost use Rattle.paths.specs.Map.{mapOf};
 ghost use Rattle.paths.specs.Feed.{feedResult};
-ghost use Rattle.finder.specs.Progress.{BeginReady, Begun, Stands, Found};
+ghost use Rattle.finder.specs.Standing.{BeginReady, Begun, Stands, Found};
 ghost use Rattle.finder.specs.Promise.{Feeds};
 use heap::perform::perform;
 use relax::Progress;
@@ -17,7 +17,6 @@ use store::NONE;
 use store::make_empty;
 use visit::visit_next;
 
-mod relax;
 mod visit;
 
 // What a feed call answers: its code, and three figures, zeros after a refusal.

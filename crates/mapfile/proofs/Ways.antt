@@ -1,7 +1,7 @@
 -- The ways through the map reader: one law for each, in the order of its tests.
 use Prim.Native.Nat.{ℕ, _+_, _-_, _<_, _≤_}
 use mathlib.Core.Path.{_≡_, refl, ap, _∙_}
-use mathlib.Core.Logic.{_≢_, inl, inr}
+use mathlib.Core.Logic.{_≢_}
 use mathlib.Core.Bool.{Bool, true, false, cond}
 use mathlib.Core.List.{List, [], _∷_}
 use native.Mathlib.Omega.{arith}
@@ -12,7 +12,7 @@ use denote.Enum.Declared.{tagOf}
 use Rattle.text.proofs.Numbers.{the-type}
 use Rattle.text.specs.Lines.{lines, lineEnd, lineLength}
 use Rattle.text.specs.declared.Numbers.{Numbers}
-use Rattle.text.specs.declared.Numbers.the-variants.{One, Two, Three, Other}
+use Rattle.text.specs.declared.Numbers.the-variants.{Two}
 use Rattle.mapfile.specs.declared.MapRead.{MapRead}
 use Rattle.mapfile.specs.declared.Spans.the-variants.{Count, Malformed}
 use Rattle.mapfile.specs.Lines.{numbersOf, allSpans, countOf}
@@ -31,6 +31,7 @@ use Rattle.mapfile.specs.Read.{
   Fills,
   Reads,
 }
+use Rattle.mapfile.proofs.Variants.{not-two}
 use Rattle.mapfile.proofs.LineAt.{at-line}
 
 -- the first line of a text, and the lines after it, also if it is empty
@@ -50,16 +51,6 @@ module _ (text : List ℕ) (end : ℕ) (q : end ≡ lineEnd text 0) where
       go : (t : List ℕ) → end ≡ lineEnd t 0 → spanLines (lines t) ≡ lines (drop (end + 1) t)
       go [] z = rw z
       go (b ∷ bs) z = ap spanLines (at-line (b ∷ bs) 0 end z (omega arith))
-
-not-two : (n : Numbers) (ls : List (List ℕ)) (from to loss : List ℕ) → OneOf (0 ∷ 2 ∷ 3 ∷ []) (tagOf the-type n)
-    → headRead n ls from to loss ≡ refused 21 from to loss
-unfolding headRead
-not-two (One x) ls from to loss h = refl
-not-two (Two x y) ls from to loss (inl h) = absurd (omega arith)
-not-two (Two x y) ls from to loss (inr (inl h)) = absurd (omega arith)
-not-two (Two x y) ls from to loss (inr (inr h)) = absurd (omega arith)
-not-two (Three x y z) ls from to loss h = refl
-not-two Other ls from to loss h = refl
 
 -- the count of spans is that of the lines
 counts : (ls : List (List ℕ)) (n : ℕ) → Count n ≡ countOf ls → n ≡ length ls

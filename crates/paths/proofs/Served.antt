@@ -120,8 +120,8 @@ module _ (stop : Stop) (m : Map) (A : Accepted m) where
   update-served u d k r s T is fu worse c S = S
 
   take-does : (k : ℕ) (s : Search) → Between stop m k s → (u : ℕ) → next stop (s .queue) ≡ takes u → ServedOf m s
-      → Does (answer (forestsAfter m s) (Yields (ExtractMin 0))) u (getD (s .queue .key) u 0) (set (s .queue .waits) u 0)
-      (set (s .queue .key) u 0)
+      → Does (answer (forestsAfter m s) (Yields (ExtractMin 0))) u (getD (s .queue .key) u 0)
+      (set (s .queue .waits) u 0) (set (s .queue .key) u 0)
   take-does k s B u e S = leave-served n (s .queue) (s .calls) S stop u (B .invariant .bit) e
 
   pub served : Kept stop m A (ServedOf m)

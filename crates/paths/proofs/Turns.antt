@@ -29,11 +29,11 @@ module _ (stop : Stop) (m : Map) (A : Accepted m) where
     abbrev pub rest : ℕ
     rest = unsettled (set (s .queue .waits) u 0) (s .best)
 
-    X : TakesNext stop (s .queue .waits) (s .queue .key) u
-    X = next-takes stop (s .queue) u e
+    taken-next : TakesNext stop (s .queue .waits) (s .queue .key) u
+    taken-next = next-takes stop (s .queue) u e
 
     least : (q : ℕ) → getD (s .queue .waits) q 0 ≢ 0 → getD (s .queue .key) u 0 ≤ getD (s .queue .key) q 0
-    least q w = X .first q w .0
+    least q w = taken-next .first q w .0
 
     pub extracted-trying : TryingOf m u (bestAt s u) 0 rest (extracted u s)
     extracted-trying =
@@ -41,17 +41,17 @@ module _ (stop : Stop) (m : Map) (A : Accepted m) where
         record {
           invariant =
               take m (B .lastTaken) (B .reach) (s .queue .waits) (s .queue .key) (s .best) (s .last) I u
-              (X .inside) least;
+              (taken-next .inside) least;
           takenLast =
               take-last m (B .lastTaken) (B .reach) (s .queue .waits) (s .queue .key) (s .best) (s .last) I u
-              (X .inside) least;
+              (taken-next .inside) least;
           left = refl;
         }
 
     pub extracted-rest : rest + 1 ≡ unsettled (s .queue .waits) (s .best)
     extracted-rest =
         take-unsettled m (B .lastTaken) (B .reach) (s .queue .waits) (s .queue .key) (s .best) (s .last) (B .invariant)
-        u (X .inside) least
+        u (taken-next .inside) least
 
     visited : Between stop m (suc k) (visit m u s)
     unfolding visit

@@ -6,5 +6,5 @@ pub mod Queue
 pub mod Search
 pub mod Codes
 pub mod Feed
-pub mod Theorems
 pub mod ByHand
+pub mod Theorems

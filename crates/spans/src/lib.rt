@@ -1,3 +1,4 @@
-// The span lists of a map, before a search: the code under which they are refused, and the spans of each place.
+// What is found of a feed call's lists before the search: the code under which it is refused, and the spans of each
+// place.
 pub mod index;
 pub mod refusal;

@@ -5,8 +5,8 @@ use native.Mathlib.Omega.{arith}
 use borrow.Author.Needs.{needs}
 use lib.ListN.{length}
 use Rattle.paths.specs.Map.{mapOf}
-use Rattle.finder.specs.Progress.{Stands}
-use Rattle.finder.proofs.Walk.{sorted}
+use Rattle.finder.specs.Standing.{Stands}
+use Rattle.finder.proofs.OwnSpans.{sorted}
 use Rattle.finder.proofs.Searching.{goes-on, goes-below, stands-found}
 use Rattle.finder.proofs.search.Statement.{statement}
 use Rattle.finder.proofs.search.Tie as tie

@@ -5,7 +5,7 @@ use native.Mathlib.Omega.{arith}
 use borrow.Author.Needs.{needs}
 use lib.ListN.{length, getD}
 use Rattle.paths.specs.Map.{Map}
-use Rattle.finder.specs.Progress.{Taken}
+use Rattle.finder.specs.Standing.{Taken}
 use Rattle.finder.proofs.AtPlace.{place-small}
 use Rattle.finder.proofs.Walking.{
   Walking,

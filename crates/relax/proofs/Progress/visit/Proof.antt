@@ -1,9 +1,9 @@
--- `finder::relax::Progress::visit` meets its contract.
+-- `relax::Progress::visit` meets its contract.
 use mathlib.Core.Path.{refl}
-use Rattle.finder.specs.Progress.{visitOne}
+use Rattle.relax.specs.Holds.{visitOne}
 use borrow.Author.Needs.{needs}
-use Rattle.finder.proofs.relax.Progress.visit.Statement.{statement}
-use Rattle.finder.proofs.relax.Progress.visit.Tie as tie
+use Rattle.relax.proofs.Progress.visit.Statement.{statement}
+use Rattle.relax.proofs.Progress.visit.Tie as tie
 
 add-t3 : tie.Need-add-t3
 add-t3 c = search needs

@@ -1,8 +1,8 @@
--- `finder::relax::offered` meets its contract: one law for each way out.
-use Rattle.finder.proofs.Relaxing.{offer-enters, offer-lowers, offer-larger, offer-late, offer-ties}
+-- `relax::offered` meets its contract: one law for each way out.
+use Rattle.relax.proofs.Relaxing.{offer-enters, offer-lowers, offer-larger, offer-late, offer-ties}
 use borrow.Author.Needs.{needs}
-use Rattle.finder.proofs.relax.offered.Statement.{statement}
-use Rattle.finder.proofs.relax.offered.Tie as tie
+use Rattle.relax.proofs.offered.Statement.{statement}
+use Rattle.relax.proofs.offered.Tie as tie
 
 mul-known : tie.Need-mul-known
 mul-known c = search needs

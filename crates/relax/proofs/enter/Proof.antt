@@ -1,8 +1,8 @@
--- `finder::relax::lower` meets its contract.
-use Rattle.finder.proofs.Relaxing.{lower-moves}
+-- `relax::enter` meets its contract.
+use Rattle.relax.proofs.Relaxing.{enter-moves}
 use borrow.Author.Needs.{needs}
-use Rattle.finder.proofs.relax.lower.Statement.{statement}
-use Rattle.finder.proofs.relax.lower.Tie as tie
+use Rattle.relax.proofs.enter.Statement.{statement}
+use Rattle.relax.proofs.enter.Tie as tie
 
 perform-requires : tie.Need-perform-requires
 perform-requires c κs = search needs
@@ -19,6 +19,9 @@ mul-last c = search needs
 slice-write-last : tie.Need-slice-write-last
 slice-write-last c = search needs
 
+add-t18 : tie.Need-add-t18
+add-t18 c = search needs
+
 same-length : tie.Need-same-length
 same-length c = search needs
 
@@ -29,10 +32,13 @@ same-length-3 : tie.Need-same-length-3
 same-length-3 c = search needs
 
 returns : tie.Need-returns
-returns c = lower-moves _ _ _ _ _ _ _ _ _ (c .before .before .before .perform .ensures)
+returns c =
+    enter-moves _ _ _ _ _ _ _
+    (c .before .before .before .before .before .before .before .before .before .before .pre) _ _
+    (c .before .before .before .before .perform .ensures)
 
-pub lower-spec : {M : Type 1} → statement M
-lower-spec =
+pub enter-spec : {M : Type 1} → statement M
+enter-spec =
     tie.close
     (tie.spec
     perform-requires
@@ -40,6 +46,7 @@ lower-spec =
     slice-write-best
     mul-last
     slice-write-last
+    add-t18
     same-length
     same-length-2
     same-length-3

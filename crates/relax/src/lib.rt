@@ -2,7 +2,8 @@
 ghost use mathlib.Core.Path.{_≡_};
 ghost use Prim.Native.Nat.{_+_, _<_};
 ghost use Rattle.paths.specs.Search.{unmet, smaller, update, offer};
-ghost use Rattle.finder.specs.Progress.{examineOne, visitOne, EnterReady, OfferReady, Moves};
+ghost use Rattle.relax.specs.Holds.{examineOne, visitOne};
+ghost use Rattle.relax.specs.Moves.{EnterReady, OfferReady, Moves};
 use heap::perform::perform;
 use rules::Call;
 use rules::Tally;

@@ -1,9 +1,9 @@
--- `finder::relax::Progress::examine` meets its contract.
+-- `relax::Progress::examine` meets its contract.
 use mathlib.Core.Path.{refl}
-use Rattle.finder.specs.Progress.{examineOne}
+use Rattle.relax.specs.Holds.{examineOne}
 use borrow.Author.Needs.{needs}
-use Rattle.finder.proofs.relax.Progress.examine.Statement.{statement}
-use Rattle.finder.proofs.relax.Progress.examine.Tie as tie
+use Rattle.relax.proofs.Progress.examine.Statement.{statement}
+use Rattle.relax.proofs.Progress.examine.Tie as tie
 
 add-t3 : tie.Need-add-t3
 add-t3 c = search needs

@@ -1,5 +1,4 @@
--- A queue call made on the store: the log grows by it, and the store and the tally follow. At each moment of a search
--- another call may be made.
+-- A queue call made on the store: the log grows by it, and the store and the tally follow.
 use Prim.Native.Nat.{ℕ, _+_}
 use mathlib.Core.Path.{_≡_, sym, ap, _∙_}
 use mathlib.Core.List.{List, [], _∷_, _++_}
@@ -13,19 +12,13 @@ use Rattle.rules.specs.Forests.{empty}
 use Rattle.rules.specs.Answers.{answer, answers, after}
 use Rattle.rules.specs.WellFormed.{WellFormed}
 use Rattle.rules.specs.Words.{encode, forestsOf}
-use Rattle.rules.proofs.SoundWords.{forests-encode, sound-encode}
+use Rattle.rules.proofs.SoundWords.{forests-encode}
 use Rattle.rules.specs.declared.Tally.{Tally}
 use Rattle.heap.specs.declared.Reply.{Reply}
-use Rattle.heap.specs.Performed.{Ready, Performed}
-use Rattle.paths.specs.Map.{Map, Accepted}
-use Rattle.paths.specs.Search.{Search, never}
+use Rattle.heap.specs.Performed.{Performed}
 use Rattle.paths.specs.Feed.{linksOf, cutsOf}
-use Rattle.paths.specs.Theorems.{Moment}
-use Rattle.finder.specs.Progress.{Logged}
-use Rattle.paths.proofs.Turns.{moments-keep}
+use Rattle.relax.specs.Holds.{Logged}
 use Rattle.paths.proofs.Log.{after-snoc, sum-snoc}
-use Rattle.paths.proofs.Served.{ServedOf, served}
-use Rattle.paths.proofs.Counts.{counts-low}
 
 module _ (n : ℕ) (calls : List Line) (store : List ℕ) (t : Tally) (L : Logged n calls store t) where
   pub logged-forests : WellFormed (after (empty n) calls) → forestsOf store ≡ after (empty n) calls
@@ -53,15 +46,3 @@ module _ (n : ℕ) (calls : List Line) (store : List ℕ) (t : Tally) (L : Logge
         links = adds W c (λ a. a .links) (t .links) (r .tally .links) (P .links) (L .links);
         cuts = adds W c (λ a. a .cuts) (t .cuts) (r .tally .cuts) (P .cuts) (L .cuts);
       }
-
--- at every moment another call may be made
-pub logged-ready : (m : Map) → Accepted m → (s : Search) → Moment never m s → (store : List ℕ) (t : Tally)
-    → Logged (m .places) (s .calls) store t → Ready store t
-logged-ready m A s M store t L =
-    let S = moments-keep never m A (ServedOf m) (served never m A) s M in
-    let low = counts-low never m A s M in
-    record {
-      sound = rw (L .words) (sound-encode (after (empty (m .places)) (s .calls)) (S .formed));
-      links = omega (arith, low, L .links);
-      cuts = omega (arith, low, L .cuts);
-    }

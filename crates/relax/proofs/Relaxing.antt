@@ -10,11 +10,11 @@ use Rattle.rules.specs.Forests.{none}
 use Rattle.rules.proofs.Sums.{sumBy-set}
 use Rattle.heap.specs.declared.Reply.{Reply}
 use Rattle.heap.specs.Performed.{Performed}
-use Rattle.finder.specs.declared.relax.Progress.{Progress}
+use Rattle.relax.specs.declared.Progress.{Progress}
 use Rattle.paths.specs.Search.{Verdict, unmet, smaller, tie, worse, judge, update, offer}
-use Rattle.finder.specs.Progress.{EnterReady, OfferReady, Moves}
+use Rattle.relax.specs.Moves.{EnterReady, OfferReady, Moves}
 use Rattle.paths.proofs.Judge.{judge-unmet, judge-smaller, judge-larger, judge-tie, judge-late}
-use Rattle.finder.proofs.Logged.{call-logged}
+use Rattle.relax.proofs.Logged.{call-logged}
 
 -- below the length the default does not matter
 same-at : (l : List ℕ) (i a b : ℕ) → i < length l → getD l i a ≡ getD l i b
@@ -103,52 +103,54 @@ module _ (p l e : ℕ) (best last store : List ℕ) (go : Progress) where
             rw j (M .holds n out s O H);
       }
 
-  -- One law for each way out, in the order of the tests. The code reads a word as `getD .. 0`.
-  module _ (O : OfferReady p best last store go) (best′ last′ store′ : List ℕ) (r : Progress) where
-    b : getD best p none ≡ getD best p 0
-    b = same-at best p none 0 (O .inBest)
+  module _ (O : OfferReady p best last store go) where
+    -- the code reads a word as `getD .. 0`
+    best-word : getD best p none ≡ getD best p 0
+    best-word = same-at best p none 0 (O .inBest)
 
-    a : getD last p none ≡ getD last p 0
-    a = same-at last p none 0 (O .inLast)
+    last-word : getD last p none ≡ getD last p 0
+    last-word = same-at last p none 0 (O .inLast)
 
-    pub offer-enters : getD best p 0 ≡ none → Moves p (update unmet p l e) best last store go best′ last′ store′ r
-        → Moves p (offer p l e) best last store go best′ last′ store′ r
-    offer-enters z M =
-        judged-moves unmet (judge-unmet (getD best p none) (getD last p none) l e (b ∙ z)) best′ last′ store′ r M
+    -- One law for each way out, in the order of the tests.
+    module _ (best′ last′ store′ : List ℕ) (r : Progress) where
+      pub offer-enters : getD best p 0 ≡ none → Moves p (update unmet p l e) best last store go best′ last′ store′ r
+          → Moves p (offer p l e) best last store go best′ last′ store′ r
+      offer-enters z M =
+          judged-moves unmet (judge-unmet (getD best p none) (getD last p none) l e (best-word ∙ z)) best′ last′
+          store′ r M
 
-    pub offer-lowers : getD best p 0 ≢ none → l < getD best p 0
-        → Moves p (update smaller p l e) best last store go best′ last′ store′ r
-        → Moves p (offer p l e) best last store go best′ last′ store′ r
-    offer-lowers z k M =
-        judged-moves smaller
-        (judge-smaller (getD best p none) (getD last p none) l e (λ q. z (sym b ∙ q)) (omega (arith, b))) best′ last′
-        store′ r M
+      pub offer-lowers : getD best p 0 ≢ none → l < getD best p 0
+          → Moves p (update smaller p l e) best last store go best′ last′ store′ r
+          → Moves p (offer p l e) best last store go best′ last′ store′ r
+      offer-lowers z k M =
+          judged-moves smaller
+          (judge-smaller (getD best p none) (getD last p none) l e (λ q. z (sym best-word ∙ q))
+          (omega (arith, best-word)))
+          best′ last′ store′ r M
 
-  module _ (O : OfferReady p best last store go) (met : getD best p 0 ≢ none) (low : getD best p 0 ≤ l) where
-    met′ : getD best p none ≢ none
-    met′ q = met (sym (same-at best p none 0 (O .inBest)) ∙ q)
+    module _ (met : getD best p 0 ≢ none) (low : getD best p 0 ≤ l) where
+      met′ : getD best p none ≢ none
+      met′ q = met (sym best-word ∙ q)
 
-    low′ : getD best p none ≤ l
-    low′ = omega (arith, same-at best p none 0 (O .inBest))
+      low′ : getD best p none ≤ l
+      low′ = omega (arith, best-word)
 
-    pub offer-larger : getD best p 0 < l → Moves p (offer p l e) best last store go best last store go
-    offer-larger k =
-        judged-moves worse
-        (judge-larger (getD best p none) (getD last p none) l e met′ low′
-        (λ q. omega (arith, k, q, same-at best p none 0 (O .inBest))))
-        best last store go worse-moves
+      pub offer-larger : getD best p 0 < l → Moves p (offer p l e) best last store go best last store go
+      offer-larger k =
+          judged-moves worse
+          (judge-larger (getD best p none) (getD last p none) l e met′ low′ (λ q. omega (arith, k, q, best-word)))
+          best last store go worse-moves
 
-    pub offer-late : getD last p 0 ≤ e → Moves p (offer p l e) best last store go best last store go
-    offer-late k =
-        judged-moves worse
-        (judge-late (getD best p none) (getD last p none) l e met′ low′
-        (omega (arith, same-at last p none 0 (O .inLast))))
-        best last store go worse-moves
+      pub offer-late : getD last p 0 ≤ e → Moves p (offer p l e) best last store go best last store go
+      offer-late k =
+          judged-moves worse
+          (judge-late (getD best p none) (getD last p none) l e met′ low′ (omega (arith, last-word)))
+          best last store go worse-moves
 
-    pub offer-ties : l ≤ getD best p 0 → e < getD last p 0
-        → Moves p (offer p l e) best last store go best (set last p e) store go
-    offer-ties k i =
-        judged-moves tie
-        (judge-tie (getD best p none) (getD last p none) l e met′ low′
-        (omega (arith, low, k, same-at best p none 0 (O .inBest))) (omega (arith, same-at last p none 0 (O .inLast))))
-        best (set last p e) store go tie-moves
+      pub offer-ties : l ≤ getD best p 0 → e < getD last p 0
+          → Moves p (offer p l e) best last store go best (set last p e) store go
+      offer-ties k i =
+          judged-moves tie
+          (judge-tie (getD best p none) (getD last p none) l e met′ low′ (omega (arith, low, k, best-word))
+          (omega (arith, last-word)))
+          best (set last p e) store go tie-moves

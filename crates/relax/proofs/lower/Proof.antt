@@ -1,8 +1,8 @@
--- `finder::relax::enter` meets its contract.
-use Rattle.finder.proofs.Relaxing.{enter-moves}
+-- `relax::lower` meets its contract.
+use Rattle.relax.proofs.Relaxing.{lower-moves}
 use borrow.Author.Needs.{needs}
-use Rattle.finder.proofs.relax.enter.Statement.{statement}
-use Rattle.finder.proofs.relax.enter.Tie as tie
+use Rattle.relax.proofs.lower.Statement.{statement}
+use Rattle.relax.proofs.lower.Tie as tie
 
 perform-requires : tie.Need-perform-requires
 perform-requires c κs = search needs
@@ -19,9 +19,6 @@ mul-last c = search needs
 slice-write-last : tie.Need-slice-write-last
 slice-write-last c = search needs
 
-add-t18 : tie.Need-add-t18
-add-t18 c = search needs
-
 same-length : tie.Need-same-length
 same-length c = search needs
 
@@ -32,13 +29,10 @@ same-length-3 : tie.Need-same-length-3
 same-length-3 c = search needs
 
 returns : tie.Need-returns
-returns c =
-    enter-moves _ _ _ _ _ _ _
-    (c .before .before .before .before .before .before .before .before .before .before .pre) _ _
-    (c .before .before .before .before .perform .ensures)
+returns c = lower-moves _ _ _ _ _ _ _ _ _ (c .before .before .before .perform .ensures)
 
-pub enter-spec : {M : Type 1} → statement M
-enter-spec =
+pub lower-spec : {M : Type 1} → statement M
+lower-spec =
     tie.close
     (tie.spec
     perform-requires
@@ -46,7 +40,6 @@ enter-spec =
     slice-write-best
     mul-last
     slice-write-last
-    add-t18
     same-length
     same-length-2
     same-length-3

@@ -1,0 +1,65 @@
+-- Where the code stands in a search: what its contracts say of the result lists, the store and the progress.
+use Prim.Native.Nat.{ℕ, suc, _+_, _<_, _≤_}
+use mathlib.Core.Path.{_≡_}
+use mathlib.Core.Bool.{true}
+use mathlib.Core.List.{List, []}
+use lib.ListN.{length}
+use Rattle.store.specs.Says.{Sized}
+use Rattle.paths.specs.Map.{Map, mapOf, Accepted}
+use Rattle.paths.specs.Queue.{takes, next}
+use Rattle.paths.specs.Search.{extracted, begin, turns, never, find, bestAt}
+use Rattle.spans.specs.Range.{Index}
+use Rattle.relax.specs.declared.Progress.{Progress}
+use Rattle.relax.specs.Holds.{Holds}
+
+-- ---- one place
+
+-- The lists that the code reads are those of the map, all of whose spans are usable.
+pub record ListsOf (m : Map) (index to loss : List ℕ) : Type 0 where
+  pub indexed : Index (m .places) (m .from) index
+  pub to-is : to ≡ m .to
+  pub loss-is : loss ≡ m .loss
+  pub free : (e : ℕ) → m .usable e ≡ true
+
+-- Place u was taken, with loss d, and none of its spans is tried yet.
+pub record Taken (m : Map) (index to loss : List ℕ) (u d : ℕ) (best last store : List ℕ) (go : Progress) : Type 0 where
+  pub lists : ListsOf m index to loss
+  pub accepted : Accepted m
+  pub next-is : next never ((turns never m (go .visited)) .queue) ≡ takes u
+  pub loss-is : d ≡ bestAt (turns never m (go .visited)) u
+  pub holds : Holds (m .places) (suc (go .visited)) (extracted u (turns never m (go .visited))) best last store go
+
+-- As many turns are made as places were visited.
+pub record Stands (m : Map) (best last store : List ℕ) (go : Progress) : Type 0 where
+  pub accepted : Accepted m
+  pub few : go .visited ≤ m .places
+  pub holds : Holds (m .places) (go .visited) (turns never m (go .visited)) best last store go
+
+-- A place that was met is not visited yet: it waits.
+pub record Goes (m : Map) (index to loss best last store : List ℕ) (go : Progress) : Type 0 where
+  pub lists : ListsOf m index to loss
+  pub stands : Stands m best last store go
+  pub more : go .visited < go .met
+
+pub record Visits (m : Map) (go : Progress) (best last store : List ℕ) (r : Progress) : Type 0 where
+  pub stands : Stands m best last store r
+  pub one-more : r .visited ≡ go .visited + 1
+
+-- ---- the search
+
+-- two result lists and a store of the right sizes
+pub record BeginReady (places start : ℕ) (best last store : List ℕ) : Type 0 where
+  pub startIn : start < places
+  pub bestN : length best ≡ places
+  pub lastN : length last ≡ places
+  pub sized : Sized places store
+
+-- The start alone waits. Nothing depends on the spans.
+pub record Begun (places start : ℕ) (best last store : List ℕ) (r : Progress) : Type 0 where
+  pub visited-is : r .visited ≡ 0
+  pub holds : Holds places 0 (begin (mapOf places start [] [] [])) best last store r
+
+-- The search is done, whatever number of places it took.
+pub record Found (m : Map) (best last store : List ℕ) (r : Progress) : Type 0 where
+  pub out : ℕ
+  pub holds : Holds (m .places) out (find m) best last store r
