@@ -47,18 +47,9 @@ by-heaps P h key parent first last next prev rank state Rank = rank
 by-heaps P h key parent first last next prev rank state State = state
 
 pub room-heap : (n : ℕ) (f : Field) → ofHeap f ≡ true → room n f ≡ 8
-room-heap n FirstTree e = refl
-room-heap n LastTree e = refl
-room-heap n Minimum e = refl
-room-heap n Count e = refl
-room-heap n Key e = absurd (true≢false (sym e))
-room-heap n Parent e = absurd (true≢false (sym e))
-room-heap n FirstChild e = absurd (true≢false (sym e))
-room-heap n LastChild e = absurd (true≢false (sym e))
-room-heap n Next e = absurd (true≢false (sym e))
-room-heap n Prev e = absurd (true≢false (sym e))
-room-heap n Rank e = absurd (true≢false (sym e))
-room-heap n State e = absurd (true≢false (sym e))
+room-heap n =
+    by-kinds heapKinds (λ f. ofHeap f ≡ true → room n f ≡ 8)
+    (λ e. refl) (λ e. refl) (λ e. refl) (λ e. refl) (λ f o e. absurd (true≢false (sym e ∙ o)))
 
 -- the words of a heap of forests
 pub word-heap : (s : Forests) (h : ℕ) (f : Field) → ofHeap f ≡ true
