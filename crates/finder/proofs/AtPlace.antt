@@ -41,6 +41,7 @@ module _
   abbrev pub left : ℕ
   left = rest never m (K .accepted) k before betweenTurns u (K .next-is)
 
+  -- each turn has settled a place
   pub left-is : left + 1 + k ≡ m .places
   left-is =
       omega (
@@ -49,6 +50,7 @@ module _
         extracted-rest never m (K .accepted) k before betweenTurns u (K .next-is),
       )
 
+  -- the invariant, and the calls made, before span e
   pub tryingAt : (e : ℕ) → e ≤ spans m → TryingOf m u (bestAt before u) e left (at m k u e)
   tryingAt e h =
       tried-trying m (K .accepted) u (bestAt before u) left (extracted u before)

@@ -28,6 +28,7 @@ abbrev noCall : Tally
 noCall = record { links = 0; cuts = 0 }
 
 module _ (places start : ℕ) (best last store : List ℕ) (R : BeginReady places start best last store) where
+  -- the empty store is sound
   pub begin-ready : (store₁ : List ℕ) → store₁ ≡ encode (empty places) → Ready store₁ noCall
   begin-ready store₁ e =
       record {
@@ -40,6 +41,7 @@ module _ (places start : ℕ) (best last store : List ℕ) (R : BeginReady place
   unfolding after linksOf cutsOf answers sumBy
   none-logged store₁ e = record { words = e; links = refl; cuts = refl }
 
+  -- after the insertion the code stands where the search begins
   pub begun : (best₁ last₁ store₁ : List ℕ) → best₁ ≡ replicate (length best) none
       → last₁ ≡ replicate (length last) none
       → store₁ ≡ encode (empty places) → (reply : Reply) (store′ : List ℕ)

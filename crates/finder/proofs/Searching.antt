@@ -25,6 +25,7 @@ use Rattle.finder.proofs.Ready.{logged-ready}
 
 -- ---- a place is taken
 
+-- the map that has these lists
 pub goes-on : {places start : ℕ} {from to loss index best last store : List ℕ} {go : Progress}
     → Index places from index → Stands (mapOf places start from to loss) best last store go → go .visited < go .met
     → Goes (mapOf places start from to loss) index to loss best last store go
@@ -45,6 +46,7 @@ module _
   extract-ready =
       logged-ready m (G .stands .accepted) s (between (go .visited)) store (go .tally) (G .stands .holds .logged)
 
+  -- the call takes the place that comes next in the search, with its loss
   pub taken : {reply : Reply} {store′ : List ℕ} → Performed store (ExtractMin 0) (go .tally) reply store′
       → Taken m index to loss (reply .item) (reply .key) best last store′
       (record { visited = go .visited; met = go .met; examined = go .examined; tally = reply .tally })
@@ -87,6 +89,7 @@ module _
             });
       }
 
+  -- each turn has settled a place, and one waits
   pub goes-below : go .visited < m .places
   goes-below =
       let A = G .stands .accepted in
@@ -96,6 +99,7 @@ module _
 
 -- ---- the end
 
+-- as many were visited as met: none waits, and the search is done
 pub stands-found : (m : Map) (best last store : List ℕ) (go : Progress) → Stands m best last store go
     → go .met ≤ go .visited → Found m best last store go
 stands-found m best last store go S h =

@@ -52,6 +52,7 @@ module _ (m : Map) (A : Accepted m) where
   best-o : (q : ℕ) → q ≢ a → getD best₀ q none ≡ none
   best-o q z = getD-set-other (replicate n none) a q 0 none z ∙ getD-all n q none
 
+  -- no place is settled yet
   pub none-settled : (q : ℕ) → Settled waits₀ best₀ q → ⊥
   none-settled = byItem a (λ t. omega (arith, waits-a, t .0)) (λ q z t. t .1 (best-o q z))
 

@@ -70,6 +70,7 @@ moves-le n few ls =
       sum-zeros n,
     )
 
+-- a bound for every moment, far below a word
 pub counts-low : (stop : Stop) (m : Map) → Accepted m → (s : Search) → Moment stop m s
     → linksOf (m .places) (s .calls) + cutsOf (m .places) (s .calls) ≤ 20000000
 unfolding unsettled

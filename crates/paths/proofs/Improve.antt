@@ -100,6 +100,7 @@ module _
   start-p : m .start ≢ p
   start-p e = omega (arith, low, A .low k (is .0), I .begun .0, ap (λ x. getD best x none) e)
 
+  -- p waits now, and is counted once as before
   pub improve-unsettled : unsettled waits′ best′ ≡ unsettled waits best
   unfolding unsettled
   improve-unsettled =

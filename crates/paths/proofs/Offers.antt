@@ -76,6 +76,7 @@ module _
           let w : getD waits p 0 ≢ 0 = eqb-false (getD waits p 0) 0 e in
           omega (arith, T .invariant .bit p)
 
+  -- a place that is not met does not wait
   pub out-of-queue : bestAt s p ≡ none → getD waits p 0 ≡ 0
   out-of-queue z = go (eqb (getD waits p 0) 0) refl
     where
@@ -86,6 +87,7 @@ module _
   keyed : getD waits p 0 ≡ 1 → getD key p 0 ≡ bestAt s p
   keyed w = T .invariant .keyed p (λ z. omega (arith, w))
 
+  -- the verdict on the offer, and what is so then
   pub judged : Case s p l k (judge (bestAt s p) (lastAt s p) l k)
   judged =
       go (eqb (bestAt s p) none) (ltb l (bestAt s p)) (eqb l (bestAt s p)) (ltb k (lastAt s p)) refl refl refl refl

@@ -124,6 +124,7 @@ module _ (stop : Stop) (m : Map) (A : Accepted m) where
       (set (s .queue .waits) u 0) (set (s .queue .key) u 0)
   take-does k s B u e S = leave-served n (s .queue) (s .calls) S stop u (B .invariant .bit) e
 
+  -- kept from the start by each taking and each offer
   pub served : Kept stop m A (ServedOf m)
   unfolding InRange
   served =

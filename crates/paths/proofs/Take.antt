@@ -33,6 +33,7 @@ module _
   stays : (q : ℕ) → getD gone q 0 ≢ 0 → (q ≢ x) × (getD waits q 0 ≢ 0)
   stays q w = let n : q ≢ x = λ e. w (ap (λ z. getD gone z 0) e ∙ gone-x) in (n, rw (gone-o q n) at w)
 
+  -- one place fewer is unsettled
   pub take-unsettled : unsettled gone best + 1 ≡ unsettled waits best
   unfolding unsettled
   take-unsettled = omega (arith, sumBy-set (λ h. h) waits x 0 0 x-in, I .bit x, wx)

@@ -35,6 +35,7 @@ module _ (stop : Stop) (m : Map) (A : Accepted m) where
     least : (q : ℕ) → getD (s .queue .waits) q 0 ≢ 0 → getD (s .queue .key) u 0 ≤ getD (s .queue .key) q 0
     least q w = taken-next .first q w .0
 
+    -- none of its spans is tried yet
     pub extracted-trying : TryingOf m u (bestAt s u) 0 rest (extracted u s)
     extracted-trying =
         let I = B .invariant in
@@ -114,6 +115,7 @@ module _ (stop : Stop) (m : Map) (A : Accepted m) where
         go halts e h = h
         go (takes u) e h = trying-keeps k u e h (spans m) (le-refl _)
 
+    -- so P holds at every moment
     pub moments-keep : (s : Search) → Moment stop m s → P s
     moments-keep s (between k) = turns-keep k
     moments-keep s (trying k u e n l) = trying-keeps k u n (turns-keep k) e l
@@ -148,6 +150,7 @@ turns-stop stop m k (suc n) (suc j) q e =
     ap (λ s. turn m (next stop (s .queue)) s) (turns-stop stop m k n j (omega arith) e)
     ∙ ap (λ x. turn m x (turns stop m k)) e
 
+-- nothing is left to take after k turns: they are the whole search
 pub search-is : (stop : Stop) (m : Map) (k : ℕ) → k ≤ m .places → next stop ((turns stop m k) .queue) ≡ halts
     → search stop m ≡ turns stop m k
 unfolding search

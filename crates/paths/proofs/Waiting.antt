@@ -96,6 +96,7 @@ pub record TakesNext (stop : Stop) (waits key : List ℕ) (u : ℕ) : Type 0 whe
   pub first : (q : ℕ) → getD waits q 0 ≢ 0 → NotAfter key u q
   pub goes : stop (getD key u 0) ≡ false
 
+-- the place that comes next waits, and none that waits comes before it
 pub next-takes : (stop : Stop) (q : Queue) (u : ℕ) → next stop q ≡ takes u → TakesNext stop (q .waits) (q .key) u
 unfolding next nextOf
 next-takes stop q u = go (waiting 0 (q .waits)) refl

@@ -21,6 +21,7 @@ use Rattle.relax.specs.Holds.{Logged}
 use Rattle.paths.proofs.Log.{after-snoc, sum-snoc}
 
 module _ (n : ℕ) (calls : List Line) (store : List ℕ) (t : Tally) (L : Logged n calls store t) where
+  -- the forests that the store's words stand for are those that the calls leave
   pub logged-forests : WellFormed (after (empty n) calls) → forestsOf store ≡ after (empty n) calls
   logged-forests W = ap forestsOf (L .words) ∙ forests-encode (after (empty n) calls) W
 
