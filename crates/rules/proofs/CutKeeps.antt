@@ -54,7 +54,9 @@ module _ (s : Forests) (S : Disjoint s) (h x : ℕ) (hx : heapOf s x ≡ suc h) 
   parent-x : getD (set (s .parent) x none) x 0 ≡ none
   parent-x = getD-set-same (s .parent) x none 0 (omega (arith, S .parentN, x-in))
 
-  mark-x : getD (set (s .mark) x 0) x 0 ≡ 0
+  -- a tree that is cut has no mark
+  mark-x : markOf (cut h x s) x ≡ 0
+  unfolding cut
   mark-x = getD-set-same (s .mark) x 0 0 (omega (arith, S .markN, x-in))
 
   children-p : (l : List ℕ) → getD (set (s .children) p l) p [] ≡ l
@@ -105,9 +107,9 @@ module _ (s : Forests) (S : Disjoint s) (h x : ℕ) (hx : heapOf s x ≡ suc h) 
     up = byItem x (λ l n. absurd (n parent-x)) (λ y n. rw (getD-set-other (s .parent) x y) (S .up y));
     free = byItem x (λ e. absurd (live e))
         (λ y n. rw (getD-set-other (s .parent) x y, getD-set-other (s .mark) x y) (S .free y));
-    bit = byItem x (rw mark-x zero-le) (λ y n. rw (getD-set-other (s .mark) x y) (S .bit y));
     bare = byItem x (λ e. mark-x)
         (λ y n. rw (getD-set-other (s .parent) x y, getD-set-other (s .mark) x y) (S .bare y));
+    bit = byItem x (rw mark-x zero-le) (λ y n. rw (getD-set-other (s .mark) x y) (S .bit y));
   }
 
   pub cut-ordered : OrderedBut x s → OrderedBut none (cut h x s)

@@ -10,7 +10,8 @@ use Rattle.rules.specs.Words.{Sound, encode, forestsOf}
 use Rattle.rules.proofs.KeepsWellFormed.{keepsWellFormed}
 use Rattle.rules.proofs.SoundWords.{forests-encode, sound-encode, sound-forests}
 
-module _ {w w′ : List ℕ} (l : Line) (S : Sound w) (k : InRange l) (e : w′ ≡ encode ((answer (forestsOf w) l) .next)) where
+module _ {w w′ : List ℕ} (l : Line) (S : Sound w) (k : InRange l)
+    (e : w′ ≡ encode ((answer (forestsOf w) l) .next)) where
   next-formed : WellFormed ((answer (forestsOf w) l) .next)
   next-formed = keepsWellFormed (forestsOf w) (sound-forests w S) l k
 

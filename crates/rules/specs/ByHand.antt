@@ -1,6 +1,6 @@
 -- The runs worked by hand: one table, and the claim that the rules give it. Rows (a) to (h) are the scope paper's; the
 -- last two show what its runs do not reach.
-use Prim.Native.Nat.{ℕ, zero, suc}
+use Prim.Native.Nat.{ℕ, suc}
 use mathlib.Core.Path.{_≡_}
 use mathlib.Core.List.{List, [], _∷_, _++_, map}
 use mathlib.Core.Bool.{cond}
@@ -9,7 +9,7 @@ use Rattle.rules.specs.declared.Call.the-variants.{Insert, ExtractMin, D
 use Rattle.rules.specs.declared.Line.{Line}
 use Rattle.rules.specs.declared.Line.the-variants.{Yields}
 use Rattle.rules.specs.declared.Answer.{Answer}
-use Rattle.rules.specs.Forests.{Forests, empty, rowOf, potential}
+use Rattle.rules.specs.Forests.{empty, rowOf, potential}
 use Rattle.rules.specs.Answers.{isEmpty, answers, after}
 use Rattle.rules.specs.Fibonacci.{R}
 use Rattle.rules.specs.Ledger.{moves, allowed}

@@ -1,7 +1,6 @@
 -- The eight heaps over one table of items, as plain lists (scope paper, Queue rules).
 use Prim.Native.Nat.{ℕ, suc, _+_, _-_, _*_}
 use mathlib.Core.List.{List, []}
-use mathlib.Core.Bool.{cond}
 use lib.ListN.{length, getD, set, replicate}
 use lib.Dec.{eqb}
 use Rattle.rules.specs.Lists.{indicator, sumBy, sumTo}

@@ -61,8 +61,8 @@ use Rattle.soundness.specs.Examples.{
 
 pub examplesHold : ExamplesHold
 unfolding ExamplesHold examples byCheck but sample full small ownParent threeTrees soundWords isStore itemsIn
-    storeSize allOk membersAt
-    ranksAt treesAt heapOk heapIs have countAt minimumOk leastOk itemOk freeOk memberOk parentOk childOk rootOk listLength
+    storeSize allOk membersAt ranksAt treesAt
+    heapOk heapIs have countAt minimumOk leastOk itemOk freeOk memberOk parentOk childOk rootOk listLength
     lengthFrom linkOk itemKey markAt heapAt allTo encode wordsOf storeFields storeField word stateMark stateHeap
     stateOf unlessFree siblings prevIn nextIn lastOr headOr minimum leastIn leastOf comesBefore sumTo sumBy count
 examplesHold = refl
