@@ -14,7 +14,8 @@ pub run-returned : (store sheet out : List ℕ) {store′ out′ : List ℕ} {r 
     → n ≡ resultNumber (r .code) (r .bytes) → Returns sheet out n out′
 unfolding queueRun
 run-returned store sheet out L e n is =
-    let same = fresh-shown store (replicate (storeSize 256) 0) sheet out (e ∙ sym (length-replicate {A = ℕ} (storeSize 256) 0)) in
+    let size = length-replicate {A = ℕ} (storeSize 256) 0 in
+    let same = fresh-shown store (replicate (storeSize 256) 0) sheet out (e ∙ sym size) in
     record {
       sameNumber = is ∙ rw (L .sameCode ∙ same .code, L .sameBytes ∙ same .bytes);
       sameOut = L .sameOut ∙ same .out;
