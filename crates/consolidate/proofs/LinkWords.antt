@@ -159,7 +159,7 @@ module _ (n h : ℕ) (v : Values) (t : Forests) (ρ : List ℕ) (S : Formed (set
         getD-set-other (t .children) a i (childrenOf t a ++ (l ∷ [])) [] m,
       ) (beside-rank B i k))
 
-  -- l is a root, which has no mark, and its mark is taken away
+  -- l had no mark as a root, and has none now
   new-state : Agree n v′ (link a l t) State
   unfolding link word
   new-state =

@@ -39,17 +39,18 @@ apart-from (k ∷ gs) f a g i =
     go true d false e a i r = rw (← (eqb-true (fieldNumber k) (fieldNumber g) d)) e
     go false d false e a i r = r a i
 
+-- every kind of hs is one of gs
 abbrev pub includes : List Field → List Field → Bool
 includes gs [] = true
 includes gs (h ∷ hs) = isOneOf gs h && includes gs hs
 
--- apart from many, then from some of them
 pub apart-some : (gs hs : List Field) (f : Field) → includes gs hs ≡ true → Apart gs f → Apart hs f
 apart-some gs [] f i a = refl
 apart-some gs (h ∷ hs) f i a =
     let b = and-split (isOneOf gs h) (includes gs hs) i in
     rw (apart-from gs f a h (b .0)) (apart-some gs hs f (b .1) a)
 
+-- the kinds gs, then os
 abbrev pub also : List Field → List Field → List Field
 also [] os = os
 also (g ∷ gs) os = g ∷ also gs os

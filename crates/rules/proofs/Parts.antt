@@ -114,6 +114,7 @@ same-part p q e =
     ∙ ap (λ k. getD (rows ∷ children ∷ parents ∷ keys ∷ marks ∷ heaps ∷ []) k rows) e
     ∙ number-part q
 
+-- what holds of each of ps holds of one of them, and of several
 one-of : (P : Part → Type 0) (ps : List Part) (q : Part) → Each P ps → isPart ps q ≡ true → P q
 one-of P [] q e i = absurd (true≢false (sym i))
 one-of P (p ∷ ps) q e i = go (eqb (partNumber p) (partNumber q)) refl i (λ j. one-of P ps q (e .1) j)
