@@ -10,9 +10,9 @@ use borrow.Author.Tests.{eqb-true, eqb-false, ltb-true, eq-eqb, ne-eqb}
 use Rattle.rules.specs.declared.Field.the-variants.{Next}
 use Rattle.rules.specs.Forests.{none}
 use Rattle.rules.specs.Words.{look}
+use Rattle.rules.proofs.Occurs.{and-split}
 use Rattle.soundness.specs.declared.Siblings.{Siblings}
 use Rattle.soundness.specs.Check.{linkOk, lengthFrom}
-use Rattle.soundness.proofs.Booleans.{and-split}
 
 module _ (n : ℕ) (w : List ℕ) (l : Siblings) where
   pub link-inside : (prev j x : ℕ) → linkOk n w l prev j x ≡ true → x < n

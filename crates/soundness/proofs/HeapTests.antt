@@ -10,10 +10,10 @@ use Rattle.rules.specs.declared.Field.{Field}
 use Rattle.rules.specs.declared.Field.the-variants.{FirstTree, LastTree, Minimum, Parent}
 use Rattle.rules.specs.Forests.{none}
 use Rattle.rules.specs.Words.{look}
+use Rattle.rules.proofs.Occurs.{and-split}
 use Rattle.store.specs.Heaps.{ofHeap, heapWord}
 use Rattle.store.proofs.Heaps.{heap-looks, heap-is}
 use Rattle.soundness.specs.Check.{heapAt, rowAt, listLength, leastOk, minimumOk, countAt, heapOk}
-use Rattle.soundness.proofs.Booleans.{and-split}
 
 module _ (n : ℕ) (w : List ℕ) where
   -- item `least` is a root of heap h

@@ -20,6 +20,7 @@ use Rattle.rules.specs.declared.Field.the-variants.{
 use Rattle.rules.specs.Forests.{none}
 use Rattle.rules.specs.Order.{comesBefore}
 use Rattle.rules.specs.Words.{look}
+use Rattle.rules.proofs.Occurs.{and-split}
 use Rattle.store.specs.ItemOrder.{itemKey}
 use Rattle.soundness.specs.Check.{
   heapAt,
@@ -33,7 +34,6 @@ use Rattle.soundness.specs.Check.{
   freeOk,
   itemOk,
 }
-use Rattle.soundness.proofs.Booleans.{and-split}
 
 module _ (n : ℕ) (w : List ℕ) where
   -- all words of a free item are 0

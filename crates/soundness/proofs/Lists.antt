@@ -12,11 +12,10 @@ use Rattle.rules.specs.declared.Field.the-variants.{Parent, Next, Prev, Rank}
 use Rattle.rules.specs.Lists.{sumBy, occurs}
 use Rattle.rules.specs.Forests.{none}
 use Rattle.rules.specs.Words.{look, headOr, lastOr, nextIn, prevIn, follow}
-use Rattle.rules.proofs.Occurs.{eqb-self, delta-self}
+use Rattle.rules.proofs.Occurs.{and-split, delta-self, eqb-self}
 use Rattle.rules.proofs.Siblings.{Once, once-tail, head-out, tail-in}
 use Rattle.soundness.specs.declared.Siblings.{Siblings}
 use Rattle.soundness.specs.Check.{heapAt, markAt, linkOk, lengthFrom}
-use Rattle.soundness.proofs.Booleans.{and-split}
 use Rattle.soundness.proofs.Links.{Prevs, Places}
 
 -- what an item shows against its place among children

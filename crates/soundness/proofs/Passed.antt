@@ -8,8 +8,9 @@ use lib.Dec.{eqb, ltb}
 use borrow.Author.Tests.{eqb-true, eqb-false, ltb-true, ltb-false, eq-eqb}
 use Rattle.rules.specs.declared.Field.the-variants.{State}
 use Rattle.rules.specs.Words.{look}
+use Rattle.rules.proofs.Occurs.{and-split}
 use Rattle.soundness.specs.Check.{allTo, heapAt, itemOk, heapOk, treesAt, ranksAt, membersAt, allOk}
-use Rattle.soundness.proofs.Booleans.{and-split, and-join, allTo-at, allTo-all}
+use Rattle.soundness.proofs.Booleans.{and-join, allTo-at, allTo-all}
 use Rattle.soundness.proofs.HeapTests.{HeapRight, is-heap, heap-passes}
 use Rattle.soundness.proofs.ItemTests.{Free, Member, is-free, is-member, free-passes, member-passes}
 use Rattle.soundness.proofs.States.{heap-zero, zero-heap}

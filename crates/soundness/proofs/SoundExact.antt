@@ -4,6 +4,7 @@ use mathlib.Core.Bool.{true, true≢false}
 use Rattle.rules.specs.Forests.{tableSize}
 use Rattle.rules.specs.Words.{itemsIn, isStore, Sound, encode, forestsOf}
 use Rattle.rules.proofs.DecodeEncode.{encode-length}
+use Rattle.rules.proofs.Occurs.{and-split}
 use Rattle.store.specs.Says.{Sized}
 use Rattle.store.proofs.Sizes.{store-sized, sized-store, sized-items}
 use Rattle.soundness.specs.Check.{soundWords}
@@ -11,7 +12,6 @@ use Rattle.soundness.specs.Theorems.{SoundExact, SoundDecoded, RefusedUn
 use Rattle.soundness.proofs.Passed.{passed, passes}
 use Rattle.soundness.proofs.PassedForests.{wellFormed}
 use Rattle.soundness.proofs.PassedWords.{words}
-use Rattle.soundness.proofs.Booleans.{and-split}
 use Rattle.soundness.proofs.EncodedAccepted.{accepted}
 
 pub soundDecoded : SoundDecoded
