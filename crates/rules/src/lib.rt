@@ -50,13 +50,6 @@ pub struct Tally {
 }
 
 impl Tally {
-    // No link and no cut.
-    pub fn new() -> Tally
-        ensures { λ r. ⌜ (r .links ≡ 0) × (r .cuts ≡ 0) ⌝ }
-    {
-        Tally { links: 0, cuts: 0 }
-    }
-
     // One link more.
     pub fn link(self) -> Tally
         requires { ⌜ self .links < 4294967295 ⌝ }
