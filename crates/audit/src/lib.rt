@@ -1,7 +1,7 @@
 //! The check of a kept store: are its words those of well-formed forests? It reads words alone and keeps no list.
 //! Its time grows with the number of items: an item passes in one list only, the one that its own words name.
 ghost use mathlib.Core.Path.{_≡_};
-ghost use Prim.Native.Nat.{suc, _<_, _≤_};
+ghost use Prim.Native.Nat.{suc, _<_};
 ghost use Rattle.rules.specs.Words.{look, stateHeap, stateMark};
 ghost use Rattle.store.specs.Says.{Sized, Within};
 ghost use Rattle.soundness.specs.Check.{linkOk, listLength, parentOk, freeOk, itemOk, minimumOk};

@@ -11,15 +11,11 @@ use borrow.Author.Tests.{eqb-true, eqb-false, ne-eqb}
 use Rattle.rules.specs.declared.Field.{Field}
 use Rattle.rules.specs.declared.Field.the-variants.{
   FirstTree,
-  LastTree,
   Minimum,
-  Key,
-  Parent,
   FirstChild,
   LastChild,
   Next,
   Prev,
-  Rank,
   State,
 }
 use Rattle.rules.specs.Lists.{sumBy, occurs}

@@ -5,7 +5,7 @@ use borrow.Author.Tests.{eq-eqb, ne-eqb, le-leb, lt-leb}
 use native.Mathlib.Numerals.{add-one}
 use native.Mathlib.Omega.{arith}
 use Rattle.rules.specs.Words.{at, look}
-use Rattle.rules.specs.declared.Field.the-variants.{Key, Rank}
+use Rattle.rules.specs.declared.Field.the-variants.{Key}
 use Rattle.soundness.specs.Check.{heapAt, memberOk, itemOk}
 use Rattle.audit.proofs.item_ok.Statement.{statement}
 use Rattle.audit.proofs.item_ok.Tie as tie
