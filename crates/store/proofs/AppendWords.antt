@@ -1,5 +1,5 @@
 -- The words after an append are those of the forests in which x joined the list.
-use Prim.Native.Nat.{ℕ, _+_, _-_, _<_}
+use Prim.Native.Nat.{ℕ, _<_}
 use mathlib.Core.Path.{_≡_, refl, sym, ap, _∙_}
 use mathlib.Core.Logic.{_≢_}
 use mathlib.Core.List.{List, [], _∷_, _++_}
@@ -21,7 +21,7 @@ use Rattle.rules.specs.declared.Field.the-variants.{
   Rank,
 }
 use Rattle.rules.specs.Lists.{occurs}
-use Rattle.rules.specs.Forests.{Forests, none, rowOf, childrenOf, heapOf}
+use Rattle.rules.specs.Forests.{Forests, none, rowOf, childrenOf, heapOf, setParent}
 use Rattle.rules.specs.Words.{room, headOr, lastOr, nextIn, prevIn, siblings, unlessFree, word}
 use Rattle.rules.proofs.ByKind.{apart-from, by-kinds}
 use Rattle.rules.proofs.Parts.{rows, children, keys, marks, heaps}
@@ -40,36 +40,38 @@ use Rattle.store.proofs.Families.{
   inside-word,
   inside-relisted,
   outside-relisted,
-  getD-set,
+  row-relisted,
+  children-relisted,
 }
 use Rattle.store.proofs.KeptWords.{kept-but}
-use Rattle.store.proofs.Listed.{none-out, absent, not-none, set-at}
+use Rattle.store.proofs.Listed.{none-out, absent, not-none}
+use Rattle.store.proofs.SetAt.{getD-set, set-at}
 
 module _ (n : ℕ) (t : Forests) (x : ℕ) (S : Shape n t) (k : x < n) where
+  -- another parent of x changes no list
+  same-lists : (p : ℕ) (q : Owner) → listOf (setParent x p t) q ≡ listOf t q
+  unfolding listOf
+  same-lists p (Row g) = refl
+  same-lists p (Children g) = refl
+
   relisted : (o : Owner) → Present n t o → Relisted t (appendTo o x t) o x (listOf t o ++ (x ∷ []))
   unfolding appendTo listOf ownerOf
   relisted (Row h) p =
+      let r = row-relisted (setParent x none t) x h (rowOf t h ++ (x ∷ [])) (omega (arith, S .rows8)) in
       record {
-        heap = λ j. refl;
-        list = getD-set-same (t .rows) h (rowOf t h ++ (x ∷ [])) [] (omega (arith, S .rows8));
-        lists = λ q m. other q m;
+        heap = r .heap;
+        list = r .list;
+        lists = λ q m. r .lists q m ∙ same-lists none q;
         owners = λ j m. rw (getD-set-other (t .parent) x j none 0 m);
       }
-    where
-      other : (q : Owner) → q ≢ Row h → listOf (appendTo (Row h) x t) q ≡ listOf t q
-      other (Row g) m = getD-set-other (t .rows) h g (rowOf t h ++ (x ∷ [])) [] (λ e. m (ap Row e))
-      other (Children q) m = refl
   relisted (Children p) i =
+      let r = children-relisted (setParent x p t) x p (childrenOf t p ++ (x ∷ [])) (omega (arith, i .0, S .childrenN)) in
       record {
-        heap = λ j. refl;
-        list = getD-set-same (t .children) p (childrenOf t p ++ (x ∷ [])) [] (omega (arith, i .0, S .childrenN));
-        lists = λ q m. other q m;
+        heap = r .heap;
+        list = r .list;
+        lists = λ q m. r .lists q m ∙ same-lists p q;
         owners = λ j m. rw (getD-set-other (t .parent) x j p 0 m);
       }
-    where
-      other : (q : Owner) → q ≢ Children p → listOf (appendTo (Children p) x t) q ≡ listOf t q
-      other (Row g) m = refl
-      other (Children q) m = getD-set-other (t .children) p q (childrenOf t p ++ (x ∷ [])) [] (λ e. m (ap Children e))
 
   new-owner : (o : Owner) → Present n t o → MayJoin t o x → ownerOf (appendTo o x t) x ≡ o
   unfolding appendTo ownerOf

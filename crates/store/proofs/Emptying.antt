@@ -33,6 +33,7 @@ use Rattle.rules.proofs.Words.{words-equal}
 use Rattle.store.specs.Says.{Sized, Values, Says, Changes}
 use Rattle.store.specs.Empty.{emptyHeap}
 use Rattle.store.proofs.Says.{says-as}
+use Rattle.store.proofs.SetAt.{cond-same}
 
 -- the kinds that are not 0 in an empty heap
 abbrev links : List Field
@@ -43,11 +44,7 @@ abbrev pub emptied : ℕ → Values
 emptied k f i = cond (isOneOf links f) (cond (ltb i k) none 0) 0
 
 emptied-none : (f : Field) (i : ℕ) → 0 ≡ emptied 0 f i
-emptied-none f i = rw (le-ltb i 0 (omega arith)) (go (isOneOf links f))
-  where
-    go : (t : Bool) → 0 ≡ cond {A = ℕ} t 0 0
-    go true = refl
-    go false = refl
+emptied-none f i = rw (le-ltb i 0 (omega arith)) (sym (cond-same (isOneOf links f) 0))
 
 -- one heap more
 one-more : (k i : ℕ) → cond (eqb k i) none (cond (ltb i k) none 0) ≡ cond (ltb i (k + 1)) none 0
@@ -64,14 +61,10 @@ emptied-more : (k : ℕ) (f : Field) (i : ℕ) → emptyHeap k (emptied k) f i �
 unfolding emptyHeap
 emptied-more k =
     by-kinds (Count ∷ links) (λ f. (i : ℕ) → emptyHeap k (emptied k) f i ≡ emptied (k + 1) f i)
-    (λ i. go (eqb k i)) (one-more k) (one-more k) (one-more k)
+    (λ i. cond-same (eqb k i) 0) (one-more k) (one-more k) (one-more k)
     (λ f o i.
     let e = apart-from (Count ∷ links) f o in
     rw (e Count refl, e FirstTree refl, e LastTree refl, e Minimum refl))
-  where
-    go : (t : Bool) → cond {A = ℕ} t 0 0 ≡ 0
-    go true = refl
-    go false = refl
 
 count-empty : (n h : ℕ) → count (empty n) h ≡ 0
 unfolding count sumBy

@@ -11,7 +11,7 @@ use Rattle.rules.specs.Forests.{Forests, none, rowOf, childrenOf}
 use Rattle.rules.specs.SetWord.{setWord}
 use Rattle.rules.specs.Words.{room, word}
 use Rattle.rules.proofs.Places.{room-small}
-use Rattle.rules.proofs.Words.{setWord-other, setWord-own}
+use Rattle.rules.proofs.Words.{setWord-other}
 use Rattle.store.specs.declared.Owner.{Owner}
 use Rattle.store.specs.declared.Owner.the-variants.{Row, Children}
 use Rattle.store.specs.Says.{Values, Says, Changes}
@@ -62,11 +62,6 @@ unfolding loose
 loose-none n v a b h f i k =
     let m : none ≡ i → ⊥ = λ e. omega (arith, e, room-small n f h) in
     setWord-other (setWord Prev none b v) Next none a f i (λ _. m) ∙ setWord-other v Prev none b f i (λ _. m)
-
--- the links of an item as they are
-loose-own : (v : Values) (x : ℕ) (f : Field) (i : ℕ) → loose x (v Next x) (v Prev x) v f i ≡ v f i
-unfolding loose
-loose-own v x f i = setWord-own (setWord Prev x (v Prev x) v) Next x f i ∙ setWord-own v Prev x f i
 
 module _ {n : ℕ} {w : List ℕ} {counts minima : ℕ → ℕ} {t : Forests} where
   pub says-holds : Shape n t → Says n w (wordBut counts minima t) → Holds n w counts minima t none

@@ -3,6 +3,7 @@ pub mod Says
 pub mod ItemOrder
 pub mod Owners
 pub mod Moves
+pub mod SetAt
 pub mod Families
 pub mod Listed
 pub mod KeptWords

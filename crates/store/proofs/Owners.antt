@@ -1,4 +1,4 @@
--- The words of an owner are in the store.
+-- The words of an owner are in the store, and what storing a link of its list changes.
 use Prim.Native.Nat.{ℕ, _<_}
 use mathlib.Core.Path.{_≡_, sym, subst}
 use mathlib.Core.Logic.{_≢_}

@@ -3,11 +3,9 @@ use Prim.Native.Nat.{ℕ, _≤_, _<_}
 use mathlib.Core.Path.{_≡_, refl, sym, subst, _∙_}
 use mathlib.Core.Logic.{_≢_}
 use mathlib.Core.List.{List, [], _∷_}
-use mathlib.Core.Bool.{Bool, true, false}
 use native.Mathlib.Omega.{arith}
 use lib.ListN.{length}
-use lib.Dec.{eqb}
-use borrow.Author.Tests.{eqb-true, eqb-false, ne-eqb}
+use borrow.Author.Tests.{ne-eqb}
 use Rattle.rules.specs.declared.Field.the-variants.{Next, Prev, Rank}
 use Rattle.rules.specs.Lists.{occurs, sumBy}
 use Rattle.rules.specs.Forests.{Forests, none, heapOf, rankOf}
@@ -21,6 +19,7 @@ use Rattle.store.specs.declared.Owner.{Owner}
 use Rattle.store.specs.declared.Owner.the-variants.{Row, Children}
 use Rattle.store.specs.Siblings.{Inside, Link, lastOf, OwnerReady, RankRises, RankFalls, AppendReady, RemoveReady}
 use Rattle.store.specs.Families.{listOf, wordBut, loose, Shape, Present, Family, Holds}
+use Rattle.store.proofs.Listed.{link-in, not-in}
 use Rattle.store.proofs.Moves.{last-says}
 use Rattle.store.proofs.RemoveWords.{next-of, prev-of}
 
@@ -40,13 +39,7 @@ module _ (n : ℕ) (t : Forests) (o : Owner) (S : Shape n t) (F : Family n t o) 
   member y k = omega (arith, heap-in t y (F .owned y k .0), S .heapN)
 
   no-member : (y : ℕ) → n ≤ y → occurs y (listOf t o) ≡ 0
-  no-member y h = go (eqb (occurs y (listOf t o)) 0) refl
-    where
-      go : (b : Bool) → eqb (occurs y (listOf t o)) 0 ≡ b → occurs y (listOf t o) ≡ 0
-      go true e = eqb-true (occurs y (listOf t o)) 0 e
-      go false e =
-          let d : occurs y (listOf t o) ≢ 0 = eqb-false (occurs y (listOf t o)) 0 e in
-          absurd (omega (arith, member y (omega arith)))
+  no-member y h = not-in y (listOf t o) (λ i. omega (arith, member y i))
 
   pub list-short : length (listOf t o) ≤ n
   list-short = once-short n (listOf t o) (F .once) no-member
@@ -62,14 +55,8 @@ module _ (n : ℕ) (t : Forests) (o : Owner) (S : Shape n t) (F : Family n t o) 
   prev-link x k = member-link (prevIn none x (listOf t o)) (prev-in none x (listOf t o) k)
 
   pub next-link : (x : ℕ) → Link n (nextIn x (listOf t o))
-  next-link x m = go (eqb (occurs z (listOf t o)) 0) refl
-    where
-      z : ℕ
-      z = nextIn x (listOf t o)
-
-      go : (b : Bool) → eqb (occurs z (listOf t o)) 0 ≡ b → nextIn x (listOf t o) < n
-      go true e = absurd (next-out x z (listOf t o) (eqb-true (occurs z (listOf t o)) 0 e) m refl)
-      go false e = let d : occurs z (listOf t o) ≢ 0 = eqb-false (occurs z (listOf t o)) 0 e in member z (omega arith)
+  next-link x =
+      link-in n (listOf t o) member (nextIn x (listOf t o)) (λ m z. next-out x (nextIn x (listOf t o)) (listOf t o) z m refl)
 
 -- the last word of a list whose words are those of the forests
 last-word : (n : ℕ) (counts minima : ℕ → ℕ) (t : Forests) (o : Owner) → Present n t o → (x a b : ℕ)

@@ -17,9 +17,9 @@ use Rattle.rules.proofs.Parts.{rows, children, parents, keys, marks, heaps}
 use Rattle.store.specs.Says.{Changes, Values}
 use Rattle.store.specs.Families.{wordBut, loose, Shape, Holds}
 use Rattle.store.proofs.Says.{says-as}
-use Rattle.store.proofs.Families.{getD-set}
 use Rattle.store.proofs.Holds.{reshape}
 use Rattle.store.proofs.KeptWords.{kept-but}
+use Rattle.store.proofs.SetAt.{getD-set}
 
 -- a function with one value changed
 abbrev pub instead : (ℕ → ℕ) → ℕ → ℕ → ℕ → ℕ
