@@ -48,12 +48,7 @@ unfolding headOr occurs sumBy
 head-apart y [] n k e = n (sym e)
 head-apart y (z ∷ zs) n k e = omega (arith, delta-self y, ap (delta y) e)
 
--- the last of a list is none where the list is empty
-pub last-none : (l : List ℕ) → occurs none l ≡ 0 → lastOr none l ≡ none → l ≡ []
-unfolding lastOr
-last-none [] n e = refl
-last-none (z ∷ zs) n e = absurd (omega (arith, last-in z zs, ap (λ q. occurs q (z ∷ zs)) e))
-
+-- a list without a first is empty
 pub head-none : (l : List ℕ) → occurs none l ≡ 0 → headOr none l ≡ none → l ≡ []
 unfolding headOr occurs sumBy
 head-none [] n e = refl

@@ -24,7 +24,8 @@ use Rattle.consolidate.specs.Consolidating.{ConsolidateReady, Consolidat
 use Rattle.consolidate.specs.Extract.{ExtractReady, Performs}
 use Rattle.consolidate.specs.Removed.{RemovesRoot, RootOf, RootReady}
 use Rattle.consolidate.specs.Stored.{Rowed}
-use Rattle.consolidate.proofs.Beside.{beside-key, holds-rowed}
+use Rattle.consolidate.proofs.Beside.{beside-key}
+use Rattle.consolidate.proofs.RowedWords.{holds-rowed}
 
 module _ {n h links : ℕ} {w : List ℕ} (P : ExtractReady n w h links) where
   abbrev t : Forests

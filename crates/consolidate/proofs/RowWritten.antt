@@ -20,8 +20,8 @@ use Rattle.rules.proofs.Occurs.{eqb-self}
 use Rattle.store.specs.Says.{Changes}
 use Rattle.consolidate.specs.Consolidating.{Consolidating}
 use Rattle.consolidate.specs.Writing.{Coming, Writing}
-use Rattle.consolidate.proofs.Beside.{rowed-words}
 use Rattle.consolidate.proofs.RowWords.{beside-ends, beside-minimum, beside-row}
+use Rattle.consolidate.proofs.RowedWords.{rowed-words}
 
 occupied-append : (a b : List ℕ) → occupied (a ++ b) ≡ occupied a ++ occupied b
 unfolding occupied

@@ -65,7 +65,8 @@ module _ (n : ℕ) (t : Forests) (x : ℕ) (S : Shape n t) (k : x < n) where
         owners = λ j m. rw (getD-set-other (t .parent) x j none 0 m);
       }
   relisted (Children p) i =
-      let r = children-relisted (setParent x p t) x p (childrenOf t p ++ (x ∷ [])) (omega (arith, i .0, S .childrenN)) in
+      let k : p < length (t .children) = omega (arith, i .0, S .childrenN) in
+      let r = children-relisted (setParent x p t) x p (childrenOf t p ++ (x ∷ [])) k in
       record {
         heap = r .heap;
         list = r .list;

@@ -56,7 +56,8 @@ module _ (n : ℕ) (t : Forests) (o : Owner) (S : Shape n t) (F : Family n t o) 
 
   pub next-link : (x : ℕ) → Link n (nextIn x (listOf t o))
   next-link x =
-      link-in n (listOf t o) member (nextIn x (listOf t o)) (λ m z. next-out x (nextIn x (listOf t o)) (listOf t o) z m refl)
+      link-in n (listOf t o) member (nextIn x (listOf t o))
+      (λ m z. next-out x (nextIn x (listOf t o)) (listOf t o) z m refl)
 
 -- the last word of a list whose words are those of the forests
 last-word : (n : ℕ) (counts minima : ℕ → ℕ) (t : Forests) (o : Owner) → Present n t o → (x a b : ℕ)

@@ -42,7 +42,8 @@ relisted : (n : ℕ) (t : Forests) (x : ℕ) (o : Owner) → Shape n t → Prese
     → Relisted t (removeFrom o x t) o x (without x (listOf t o))
 unfolding removeFrom listOf
 relisted n t x (Row h) S p = row-relisted t x h (without x (rowOf t h)) (omega (arith, S .rows8))
-relisted n t x (Children p) S i = children-relisted t x p (without x (childrenOf t p)) (omega (arith, i .0, S .childrenN))
+relisted n t x (Children p) S i =
+    children-relisted t x p (without x (childrenOf t p)) (omega (arith, i .0, S .childrenN))
 
 module _ (n : ℕ) (t : Forests) (o : Owner) (x : ℕ) (S : Shape n t) (F : Family n t o)
     (k : 1 ≤ occurs x (listOf t o)) where
