@@ -1,4 +1,4 @@
--- One cut on words that hold forests: the steps of `heap::cut`, and what each of them requires.
+-- One cut on words that hold forests: the steps of `cut::cut`, and what each of them requires.
 use Prim.Native.Nat.{ℕ, _+_, _*_, _<_, _≤_}
 use mathlib.Core.Path.{_≡_, sym, subst, _∙_}
 use mathlib.Core.Logic.{_≢_}

@@ -1,5 +1,5 @@
 -- D on the words of a sound store: what its steps need, and what the words are at the end.
-use Prim.Native.Nat.{ℕ, zero, suc, _+_, _-_, _*_, _/_, _≤_, _<_}
+use Prim.Native.Nat.{ℕ, suc, _+_, _≤_, _<_}
 use mathlib.Core.Path.{_≡_, refl, sym, ap, _∙_}
 use mathlib.Core.Logic.{_≢_}
 use mathlib.Core.List.{List}
@@ -10,18 +10,18 @@ use lib.Dec.{eqb}
 use borrow.Author.Tests.{eqb-true, eqb-false}
 use Rattle.rules.specs.declared.Call.the-variants.{DecreaseKey}
 use Rattle.rules.specs.declared.Line.the-variants.{Yields}
-use Rattle.rules.specs.declared.Field.the-variants.{Key, Minimum, State}
+use Rattle.rules.specs.declared.Field.the-variants.{Key, Minimum}
 use Rattle.rules.specs.declared.Tally.{Tally}
 use Rattle.rules.specs.Answers.{answer, unlessRefused}
 use Rattle.rules.specs.Calls.{decreaseKey, hasParent, perform}
 use Rattle.rules.specs.Cut.{cutIf}
-use Rattle.rules.specs.Forests.{Forests, count, heapNumber, heapOf, keyOf, markOf, none, parentOf, setKey}
+use Rattle.rules.specs.Forests.{Forests, count, heapNumber, heapOf, keyOf, none, parentOf, setKey}
 use Rattle.rules.specs.Lists.{sumBy}
 use Rattle.rules.specs.Order.{lesser, minimum, precedes}
 use Rattle.rules.specs.SetWord.{setWord}
 use Rattle.rules.specs.Theorems.{InRange, IsMinimum}
 use Rattle.rules.specs.WellFormed.{WellFormed}
-use Rattle.rules.specs.Words.{at, encode, forestsOf, look, stateOf, word}
+use Rattle.rules.specs.Words.{encode, forestsOf, look}
 use Rattle.rules.proofs.Excused.{Formed, FormedBut, exact, to-formed}
 use Rattle.rules.proofs.KeepsWellFormed.{keepsWellFormed}
 use Rattle.rules.proofs.KeyKeeps.{key-formed}
@@ -42,37 +42,8 @@ use Rattle.store.proofs.Scalars.{instead, key-holds, minimum-holds}
 use Rattle.cut.specs.Ready.{CascadeReady, Cascaded, Member}
 use Rattle.heap.specs.Allowed.{MayMove, Moves, Store}
 use Rattle.heap.specs.Moving.{CutsIf, InHeap}
-use Rattle.heap.proofs.SoundStore.{formed, items-size, sound-holds, sound-says}
-
--- the heap of an item, from its state word
-state-heap : (v m : ℕ) → v ≢ 0 → m ≤ 1 → (stateOf v m - 1) / 2 ≡ v - 1
-unfolding stateOf
-state-heap zero m n k = absurd (n refl)
-state-heap (suc h) m n k = let e : 1 + 2 * h + m - 1 ≡ 2 * h + m = omega arith in rw e (omega arith)
-
-module _ {w : List ℕ} {n i : ℕ} (P : InHeap w n i) where
-  pub item-inside : i < n
-  item-inside = let k = heap-in (forestsOf w) i (P .live) in omega (arith, items-size (P .store))
-
-  state : {v : ℕ} → v ≡ look n w State i → v ≡ stateOf (heapOf (forestsOf w) i) (markOf (forestsOf w) i)
-  unfolding word
-  state e = e ∙ sound-says (P .store) .says State i item-inside
-
-  pub state-some : {v : ℕ} → v ≡ look n w State i → 1 ≤ v
-  unfolding stateOf
-  state-some {v} e = go (heapOf (forestsOf w) i) (P .live) (state e)
-    where
-      go : (g : ℕ) → g ≢ 0 → v ≡ stateOf g (markOf (forestsOf w) i) → 1 ≤ v
-      go zero n q = absurd (n refl)
-      go (suc g) n q = omega arith
-
-  pub heap-number : {v : ℕ} → v ≡ look n w State i → (v - 1) / 2 ≡ heapNumber (forestsOf w) i
-  heap-number e =
-      ap (λ u. (u - 1) / 2) (state e)
-      ∙ state-heap (heapOf (forestsOf w) i) (markOf (forestsOf w) i) (P .live) (formed (P .store) .disjoint .bit i)
-
-  pub heap-inside : heapNumber (forestsOf w) i < 8
-  heap-inside = omega (arith, formed (P .store) .disjoint .heaps i, P .live)
+use Rattle.heap.proofs.ItemHeap.{heap-inside, item-inside}
+use Rattle.heap.proofs.SoundStore.{formed, items-size, sound-holds}
 
 module _ {w : List ℕ} {n i k : ℕ} {tally : Tally} (P : MayMove w n (DecreaseKey i k) tally) where
   abbrev t : Forests

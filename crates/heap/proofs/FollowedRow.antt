@@ -31,7 +31,7 @@ use Rattle.store.proofs.ConcatWords.{
   concat-prev,
   linkKinds,
 }
-use Rattle.heap.proofs.SoundStore.{row-none}
+use Rattle.consolidate.proofs.Standing.{none-row}
 
 -- a value at a place taken from there
 at-self : (f : ℕ → ℕ) (a g : ℕ) → cond (eqb a g) (f a) (f g) ≡ f g
@@ -75,7 +75,7 @@ module _ (t : Forests) (D : Disjoint t) (a : ℕ) where
   first-after (z ∷ zs) n g =
       concat-first z (lastOr none (z ∷ zs)) (word t) (head-item z zs n) (Row a) (Row g)
       ∙ ap (λ x. cond (eqb a g) x (headOr none (rowOf t g)))
-      (sym (head-concat (rowOf t a) (z ∷ zs) (row-none t D a)))
+      (sym (head-concat (rowOf t a) (z ∷ zs) (none-row t D a)))
 
   pub last-after : (l : List ℕ) → occurs none l ≡ 0 → (g : ℕ)
       → after t a l LastTree g ≡ cond (eqb a g) (lastOr none (rowOf t a ++ l)) (lastOr none (rowOf t g))

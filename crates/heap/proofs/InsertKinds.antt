@@ -50,11 +50,11 @@ use Rattle.rules.proofs.SiblingLists.{once-row}
 use Rattle.store.specs.Families.{Family, listOf, loose, ownerOf, wordBut}
 use Rattle.store.specs.ItemOrder.{itemKey}
 use Rattle.store.specs.Says.{Values}
-use Rattle.store.proofs.Families.{getD-set}
+use Rattle.store.proofs.SetAt.{getD-set}
 use Rattle.store.proofs.ItemOrder.{key-is}
 use Rattle.store.proofs.KeptWords.{kept-but}
+use Rattle.consolidate.proofs.Standing.{none-row}
 use Rattle.heap.specs.Entered.{enrolled, entered}
-use Rattle.heap.proofs.SoundStore.{row-none}
 
 module _ (t : Forests) (D : Disjoint t) (h i k : ℕ) (hh : h < 8) (ii : i < tableSize t) (fr : heapOf t i ≡ 0) where
   -- i has entered heap h, and is in no list yet
@@ -159,7 +159,7 @@ module _ (t : Forests) (D : Disjoint t) (h i k : ℕ) (hh : h < 8) (ii : i < tab
           ≡ leastIn key′ (cond b (rowOf t h ++ (i ∷ [])) (rowOf t g))
       go true e =
           ap (λ m. lesser (keyIn key′) m i) (sym (least-other (t .key) i k (rowOf t h) (out h)))
-          ∙ sym (least-append key′ (rowOf t h) (i ∷ []) (row-none t D h)
+          ∙ sym (least-append key′ (rowOf t h) (i ∷ []) (none-row t D h)
           (occurs-one none i ∙ delta-other none i (λ e. omega (arith, e, D .small))))
       go false e = sym (least-other (t .key) i k (rowOf t g) (out g))
 

@@ -24,7 +24,8 @@ use Rattle.store.proofs.Says.{says-as}
 use Rattle.heap.specs.Allowed.{Allowed}
 use Rattle.heap.specs.Entered.{EnrollReady, EnterReady, enrolled, entered}
 use Rattle.heap.proofs.InsertKinds.{enrolled-word, entered-word, family, out}
-use Rattle.heap.proofs.SoundStore.{formed, items-size, minimum-link, says-encode, sound-holds, sound-says}
+use Rattle.heap.proofs.RowLinks.{minimum-link}
+use Rattle.heap.proofs.SoundStore.{formed, items-size, says-encode, sound-holds, sound-says}
 
 module _ {w : List ℕ} {n h i k : ℕ} (A : Allowed w n (Insert h i k)) where
   abbrev t : Forests

@@ -1,4 +1,4 @@
--- `heap::cascading_cut` meets its contract. Invariant: what remains from here on gives the whole.
+-- `cut::cascading_cut` meets its contract. Invariant: what remains from here on gives the whole.
 use borrow.Author.Needs.{needs}
 use Prim.Native.Nat.{ℕ, suc, _+_}
 use mathlib.Core.Path.{_≡_, refl, sym, _∙_}
