@@ -104,7 +104,7 @@ module _ {n h base : ℕ} {rest : List ℕ} {goal : Linking} {w ps : List ℕ} {
             getD-set-same (t .parent) second first 0
             (omega (arith, H .formed .disjoint .parentN, G .state .beside .size, second-inside G e z))
 
-    pub linked : Consolidating n h w′ (set ps r none) (first ∷ rest) rest t′
+    linked : Consolidating n h w′ (set ps r none) (first ∷ rest) rest t′
     unfolding KeysFit link
     linked =
         record {

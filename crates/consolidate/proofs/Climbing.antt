@@ -16,7 +16,7 @@ use Rattle.consolidate.specs.Consolidating.{Consolidating, Settled, sett
 use Rattle.consolidate.proofs.Beside.{beside-rank}
 
 -- a read within the list needs no default
-pub getD-any : (l : List ℕ) (i a b : ℕ) → i < length l → getD l i a ≡ getD l i b
+getD-any : (l : List ℕ) (i a b : ℕ) → i < length l → getD l i a ≡ getD l i b
 getD-any [] i a b k = absurd (omega arith)
 getD-any (x ∷ l) zero a b k = refl
 getD-any (x ∷ l) (suc i) a b k = getD-any l i a b (omega arith)

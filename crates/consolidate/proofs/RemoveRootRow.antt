@@ -111,7 +111,7 @@ module _ {n h m : ℕ} {w : List ℕ} {t : Forests} (R : Rowed n h m w t) {x : �
   D′ : Disjoint after
   D′ = remove-disjoint t D h x (O .member) (O .root)
 
-  pub row-after : rowOf after h ≡ without x row ++ cs
+  row-after : rowOf after h ≡ without x row ++ cs
   unfolding removeRoot setFree release
   row-after = row-h t D h x (O .member) (O .root) (without x row ++ cs)
 

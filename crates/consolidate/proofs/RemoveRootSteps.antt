@@ -92,7 +92,7 @@ module _ {n h m : ℕ} {w : List ℕ} {t : Forests} (R : Rowed n h m w t) {x : �
 
   module _ {w₁ : List ℕ} (c₁ : Changes n w (removed (Row h) x) w₁) {a k : ℕ} (ea : a ≡ look n w FirstChild x)
       (ek : k ≡ look n w Rank x) where
-    pub released-list : Listed n w₁ a k (childrenOf t x)
+    released-list : Listed n w₁ a k (childrenOf t x)
     released-list =
         let D = O .disjoint in
         let F = family R O in

@@ -94,7 +94,7 @@ module _ (n h : ℕ) (v : Values) (t : Forests) (D : Disjoint t) (hh : h < 8) (B
   x-root : (heapOf t x ≡ suc h) × (parentOf t x ≡ none)
   x-root = row-root t D h x (omega (arith, in-row x, delta-self x))
 
-  pub x-in : x < tableSize t
+  x-in : x < tableSize t
   x-in = root-in t (x-root .0)
 
   none-out : occurs none m ≡ 0

@@ -135,7 +135,7 @@ module _ (t : Forests) (D : Disjoint t) where
         (λ f a i k. B .words f a i k
         ∙ sym (but-minima n (count t) minima t (λ _ _. refl) f (apart-some linked (Minimum ∷ []) f refl a) i k))
 
-    pub rowed-holds : Holds n w (count t) (λ g. cond (eqb g h) m (minimum t g)) t none
+    rowed-holds : Holds n w (count t) (λ g. cond (eqb g h) m (minimum t g)) t none
     rowed-holds =
         says-holds (rw (B .size) at (disjoint-shape t D)) (says-as n w v (wordBut (count t) minima t) (R .says) same)
 

@@ -26,7 +26,7 @@ use Rattle.consolidate.proofs.Chains.{last-apart}
 use Rattle.consolidate.proofs.RowWords.{longer, longer-beside}
 
 -- the least item of a list stands in it
-least-in : (key : List ℕ) (l : List ℕ) → leastIn key l ≢ none → 1 ≤ occurs (leastIn key l) l
+pub least-in : (key : List ℕ) (l : List ℕ) → leastIn key l ≢ none → 1 ≤ occurs (leastIn key l) l
 unfolding leastIn
 least-in key [] m = absurd (m refl)
 least-in key (z ∷ l) m = leastOf-in key z l

@@ -11,7 +11,7 @@ use Rattle.store.specs.Families.{Holds}
 use Rattle.cut.specs.Ready.{Cascaded, Child, Member}
 
 -- no more cuts follow than the bound allows
-pub cascade-few : (d : ℕ) (st : Standing) (h p : ℕ) (s : Forests) → (cascadingCut d st h p s) .cuts ≤ d
+cascade-few : (d : ℕ) (st : Standing) (h p : ℕ) (s : Forests) → (cascadingCut d st h p s) .cuts ≤ d
 unfolding cascadingCut
 cascade-few zero st h p s = le-refl 0
 cascade-few (suc d) root h p s = zero-le

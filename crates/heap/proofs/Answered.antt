@@ -62,7 +62,7 @@ refused-performed {w} {code} {c} {t} {r} Y p m A = go code (sym p) m A
         (omega (arith, A .cuts)) (sound-words w (Y .sound))
 
 -- a call that is done
-pub done-performed : {w w′ : List ℕ} {n item key : ℕ} {c : Call} {t u : Tally} {r : Reply} (o : Outcome)
+done-performed : {w w′ : List ℕ} {n item key : ℕ} {c : Call} {t u : Tally} {r : Reply} (o : Outcome)
     → MayMove w n c t → perform (forestsOf w) c ≡ o → o .reply .code ≡ 0 → item ≡ o .reply .item → key ≡ o .reply .key
     → Moves o t u w′ → Answers 0 item key u r → Performed w c t r w′
 unfolding answer unlessRefused
@@ -92,7 +92,7 @@ pub as-find : {w : List ℕ} {n h : ℕ} → Allowed w n (ExtractMin h) → Allo
 unfolding refusal
 as-find A = record { store = A .store; done = A .done }
 
-pub minimum-key : {w : List ℕ} {n h i k : ℕ} → Allowed w n (FindMin h) → i ≡ minimum (forestsOf w) h
+minimum-key : {w : List ℕ} {n h i k : ℕ} → Allowed w n (FindMin h) → i ≡ minimum (forestsOf w) h
     → k ≡ look n w Key i → k ≡ keyOf (forestsOf w) (minimum (forestsOf w) h)
 minimum-key {w} {n} {h} {i} A p q =
     q ∙ ap (look n w Key) p ∙ key-at (A .store) (minimum-item A)

@@ -38,6 +38,7 @@ use Rattle.store.specs.Says.{Changes, Sized}
 use Rattle.store.proofs.Encoded.{holds-encode}
 use Rattle.store.proofs.Holds.{holds-says}
 use Rattle.store.proofs.ItemOrder.{key-held}
+use Rattle.store.proofs.Listed.{not-none}
 use Rattle.store.proofs.Scalars.{instead, key-holds, minimum-holds}
 use Rattle.cut.specs.Ready.{CascadeReady, Cascaded, Member}
 use Rattle.heap.specs.Allowed.{MayMove, Moves, Store}
@@ -107,7 +108,7 @@ module _ {w : List ℕ} {n i k : ℕ} {tally : Tally} (P : MayMove w n (Decrease
       pub sized₂ : Sized n w₂
       sized₂ = holds .says .sized
 
-      pub least-word : {m : ℕ} → m ≡ look n w₂ Minimum h → m ≡ minimum t h
+      least-word : {m : ℕ} → m ≡ look n w₂ Minimum h → m ≡ minimum t h
       unfolding wordBut
       least-word e = e ∙ holds-says holds .says Minimum h (heap-inside in-heap)
 
@@ -119,9 +120,6 @@ module _ {w : List ℕ} {n i k : ℕ} {tally : Tally} (P : MayMove w n (Decrease
       old-inside =
           let q = heap-in t (minimum t h) (λ z. omega (arith, z, old .inside)) in
           omega (arith, items-size S)
-
-      some : (x : ℕ) → x < n → x ≢ none
-      some x q z = omega (arith, sized₂ .small)
 
       pub two-ready : {m : ℕ} → m ≡ look n w₂ Minimum h → TwoItems n w₂ m i
       two-ready e =
@@ -138,7 +136,8 @@ module _ {w : List ℕ} {n i k : ℕ} {tally : Tally} (P : MayMove w n (Decrease
             el ∙ ap (λ x. lesser (itemKey (look n w₂)) x i) (least-word em)
             ∙ lesser-keys (itemKey (look n w₂)) (keyOf after) (minimum t h) i
             (λ _. key-held holds (minimum t h) old-inside) (λ _. key-held holds i (item-inside in-heap))
-            ∙ lesser-two (keyOf after) (minimum t h) i (some (minimum t h) old-inside) (some i (item-inside in-heap))
+            ∙ lesser-two (keyOf after) (minimum t h) i
+            (not-none (holds .shape) (minimum t h) old-inside) (not-none (holds .shape) i (item-inside in-heap))
 
         minima : (g : ℕ) → g < 8 → instead (minimum t) h l g ≡ minimum after g
         minima g _ = go (eqb h g) refl

@@ -20,7 +20,7 @@ pub data Same (o q : Owner) : Type 0 where
   same : q ≡ o → Same o q
   other : q ≢ o → Same o q
 
-pub same-owner : (o q : Owner) → Same o q
+same-owner : (o q : Owner) → Same o q
 same-owner (Row h) (Row g) = go (eqb g h) refl
   where
     go : (t : Bool) → eqb g h ≡ t → Same (Row h) (Row g)
@@ -34,7 +34,7 @@ same-owner (Children p) (Children q) = go (eqb q p) refl
     go true e = same (ap Children (eqb-true q p e))
     go false e = other (λ d. eqb-false q p e (cc))
 
-pub siblings-owner : (t : Forests) (i : ℕ) → siblings t i ≡ listOf t (ownerOf t i)
+siblings-owner : (t : Forests) (i : ℕ) → siblings t i ≡ listOf t (ownerOf t i)
 unfolding siblings listOf ownerOf
 siblings-owner t i = go (eqb (parentOf t i) none)
   where

@@ -41,20 +41,20 @@ module _ (n : ℕ) (t : Forests) (o : Owner) (S : Shape n t) (F : Family n t o) 
   no-member : (y : ℕ) → n ≤ y → occurs y (listOf t o) ≡ 0
   no-member y h = not-in y (listOf t o) (λ i. omega (arith, member y i))
 
-  pub list-short : length (listOf t o) ≤ n
+  list-short : length (listOf t o) ≤ n
   list-short = once-short n (listOf t o) (F .once) no-member
 
   member-link : (z : ℕ) → 1 ≤ occurs z (none ∷ listOf t o) → Link n z
   unfolding occurs sumBy
   member-link z k m = member z (omega (arith, delta-other z none (λ e. m (sym e))))
 
-  pub last-link : Link n (lastOr none (listOf t o))
+  last-link : Link n (lastOr none (listOf t o))
   last-link = member-link (lastOr none (listOf t o)) (last-in none (listOf t o))
 
-  pub prev-link : (x : ℕ) → 1 ≤ occurs x (listOf t o) → Link n (prevIn none x (listOf t o))
+  prev-link : (x : ℕ) → 1 ≤ occurs x (listOf t o) → Link n (prevIn none x (listOf t o))
   prev-link x k = member-link (prevIn none x (listOf t o)) (prev-in none x (listOf t o) k)
 
-  pub next-link : (x : ℕ) → Link n (nextIn x (listOf t o))
+  next-link : (x : ℕ) → Link n (nextIn x (listOf t o))
   next-link x =
       link-in n (listOf t o) member (nextIn x (listOf t o))
       (λ m z. next-out x (nextIn x (listOf t o)) (listOf t o) z m refl)
@@ -83,10 +83,10 @@ module _ {n : ℕ} {w : List ℕ} {counts minima : ℕ → ℕ} {t : Forests} {x
   rank-falls (Children p) F y k =
       omega (arith, rank-word p (F .present .0), member-long y (listOf t (Children p)) k)
 
-  pub owner-ready : (o : Owner) → Family n t o → OwnerReady n w o
+  owner-ready : (o : Owner) → Family n t o → OwnerReady n w o
   owner-ready o F = record { sized = H .says .sized; inside = present-inside n t o (F .present) }
 
-  pub last-ready : (o : Owner) → Family n t o → Link n (lastOf o (look n w))
+  last-ready : (o : Owner) → Family n t o → Link n (lastOf o (look n w))
   last-ready o F =
       subst (Link n)
       (sym (last-says o (present-inside n t o (F .present)) (H .says)
@@ -98,11 +98,11 @@ module _ {n : ℕ} {w : List ℕ} {counts minima : ℕ → ℕ} {t : Forests} {x
       record { owner = owner-ready o F; last = last-ready o F; item = k; rank = rank-rises o F }
 
   -- the links of an item other than x
-  pub next-word : (y : ℕ) → y < n → y ≢ x → look n w Next y ≡ word t Next y
+  next-word : (y : ℕ) → y < n → y ≢ x → look n w Next y ≡ word t Next y
   unfolding loose wordBut
   next-word y k m = H .says .says Next y k ∙ rw (ne-eqb x y (λ e. m (sym e)))
 
-  pub prev-word : (y : ℕ) → y < n → y ≢ x → look n w Prev y ≡ word t Prev y
+  prev-word : (y : ℕ) → y < n → y ≢ x → look n w Prev y ≡ word t Prev y
   unfolding loose wordBut
   prev-word y k m = H .says .says Prev y k ∙ rw (ne-eqb x y (λ e. m (sym e)))
 
