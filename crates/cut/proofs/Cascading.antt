@@ -12,12 +12,11 @@ use Rattle.rules.specs.Forests.{Forests, none, parentOf, markOf, heapOf, setMar
 use Rattle.rules.specs.Cut.{cut, root, unmarked, marked, standing, Cuts, cascadingCut}
 use Rattle.rules.specs.SetWord.{setWord}
 use Rattle.rules.specs.Words.{stateOf}
-use Rattle.rules.proofs.CutKeeps.{cut-disjoint}
 use Rattle.store.specs.Says.{Changes}
 use Rattle.store.specs.Families.{Holds}
 use Rattle.store.proofs.Scalars.{mark-holds}
 use Rattle.cut.specs.Ready.{Member, Cascaded}
-use Rattle.cut.proofs.Cutting.{member-item}
+use Rattle.cut.proofs.Cutting.{after-cut, member-item}
 
 -- After some cuts the forests are `here` and p lost a child; `left` bounds the cuts that may follow.
 pub record Going (n : ℕ) (w : List ℕ) (c m : ℕ → ℕ) (k : Cuts) (h p cuts left : ℕ) : Type 0 where
@@ -57,15 +56,6 @@ state-mark h mark k e = omega arith
 state-marked : (h mark : ℕ) → mark ≤ 1 → stateOf (suc h) mark % 2 ≢ 1 → mark ≢ 0
 unfolding stateOf
 state-marked h mark k e z = e (omega arith)
-
--- the parent is in the same heap
-after-cut : (t : Forests) (h p : ℕ) → Member t h p → parentOf t p ≢ none → Member (cut h p t) h (parentOf t p)
-unfolding cut
-after-cut t h p M ne =
-    record {
-      disjoint = cut-disjoint t (M .disjoint) h p (M .heap) ne;
-      heap = M .disjoint .up p (λ e. omega (arith, e, M .heap)) ne .1 ∙ M .heap;
-    }
 
 module _ {n : ℕ} {w : List ℕ} {c m : ℕ → ℕ} {k : Cuts} {h p cuts : ℕ} where
   -- no cut may follow

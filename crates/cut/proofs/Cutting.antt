@@ -12,6 +12,7 @@ use Rattle.rules.specs.Cut.{cut}
 use Rattle.rules.specs.WellFormed.{Disjoint}
 use Rattle.rules.specs.SetWord.{setWord}
 use Rattle.rules.specs.Words.{look, stateOf, word}
+use Rattle.rules.proofs.CutKeeps.{cut-disjoint}
 use Rattle.rules.proofs.Members.{heap-in, parent-child}
 use Rattle.rules.proofs.Occurs.{and-false}
 use Rattle.store.specs.declared.Owner.the-variants.{Row, Children}
@@ -48,6 +49,15 @@ state-word {x = x} H k = H .says .says State x k
 pub state-small : {t : Forests} {h x : ℕ} → Member t h x → stateOf (heapOf t x) (markOf t x) ≤ 16
 unfolding stateOf
 state-small {t} {h} {x} M = rw (M .heap) (omega (arith, M .disjoint .bit x, member-heap M))
+
+-- the parent of an item that is cut is in the same heap, still
+pub after-cut : (t : Forests) (h p : ℕ) → Member t h p → parentOf t p ≢ none → Member (cut h p t) h (parentOf t p)
+unfolding cut
+after-cut t h p M ne =
+    record {
+      disjoint = cut-disjoint t (M .disjoint) h p (M .heap) ne;
+      heap = M .disjoint .up p (λ e. omega (arith, e, M .heap)) ne .1 ∙ M .heap;
+    }
 
 module _ {n : ℕ} {w : List ℕ} {c m : ℕ → ℕ} {t : Forests} {h x p : ℕ} (H : Holds n w c m t none) (C : Child t h x)
     (e : p ≡ parentOf t x) where
