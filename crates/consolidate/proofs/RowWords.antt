@@ -82,8 +82,9 @@ module _ {n h : ℕ} {v : Values} {t : Forests} (B : Beside n h v t) where
 
 -- ---- a tree at the end of the row, of which m is written and k is to come
 
-module _ (n h : ℕ) (v : Values) (t : Forests) (D : Disjoint t) (hh : h < 8) (B : Beside n h v t) (m k : List ℕ)
-    (C : Chain (v FirstTree h) (v LastTree h) (v Next) (v Prev) m) (x : ℕ) (e : rowOf t h ≡ m ++ (x ∷ k)) where
+module _ {n h : ℕ} {v : Values} {t : Forests} (D : Disjoint t) (B : Beside n h v t) {m : List ℕ}
+    (C : Chain (v FirstTree h) (v LastTree h) (v Next) (v Prev) m) (x : ℕ) (k : List ℕ)
+    (e : rowOf t h ≡ m ++ (x ∷ k)) where
   abbrev v′ : Values
   v′ = appended (Row h) x v
 

@@ -91,9 +91,8 @@ module _ {n h m x : ℕ} {w written rest : List ℕ} {t : Forests} (C : Coming h
           rw (ne-eqb x none s) (record {
             values = appended (Row h) x (W .values);
             says = c .says (W .values) (W .says);
-            beside = longer-beside n h (W .values) t (C .disjoint) (C .heap) (W .beside) written rest
-                (W .row) x split;
-            row = longer n h (W .values) t (C .disjoint) (C .heap) (W .beside) written rest (W .row) x split;
+            beside = longer-beside (C .disjoint) (W .beside) (W .row) x rest split;
+            row = longer (C .disjoint) (W .beside) (W .row) x rest split;
             least = e;
           })
 
@@ -109,6 +108,4 @@ module _ {n h m x : ℕ} {w written rest : List ℕ} {t : Forests} (C : Coming h
         where
           key-at : (i : ℕ) → i < n → itemKey (look n w′) i ≡ keyOf t i
           key-at =
-              key-beside
-              (longer-beside n h (W .values) t (C .disjoint) (C .heap) (W .beside) written rest (W .row) x split)
-              (c .says (W .values) (W .says))
+              key-beside (longer-beside (C .disjoint) (W .beside) (W .row) x rest split) (c .says (W .values) (W .says))
