@@ -79,6 +79,7 @@ module _ {f l a b : ℕ} {nx pv : ℕ → ℕ} (m k : List ℕ) (c : Chain f l n
     left : 1 ≤ occurs y m → occurs y k ≡ 0 → Side y
     right : occurs y m ≡ 0 → 1 ≤ occurs y k → Side y
 
+  -- a member of both lists together is in one of them
   side : (y : ℕ) → 1 ≤ occurs y (m ++ k) → Side y
   side y i = go (eqb (occurs y m) 0) refl
     where
@@ -124,6 +125,7 @@ module _ {f l a b : ℕ} {nx pv : ℕ → ℕ} (m k : List ℕ) (c : Chain f l n
 
 -- ---- an item at the end
 
+-- a list of one item
 alone : (x : ℕ) (nx pv : ℕ → ℕ) → nx x ≡ none → pv x ≡ none → Chain x x nx pv (x ∷ [])
 unfolding headOr lastOr nextIn prevIn occurs sumBy
 alone x nx pv e q =

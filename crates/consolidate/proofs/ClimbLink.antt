@@ -63,6 +63,7 @@ module _ {n h base : ℕ} {rest : List ℕ} {goal : Linking} {w ps : List ℕ} {
   abbrev second : ℕ
   second = loser (t .key) (getD ps r none) x
 
+  -- one place fewer is taken, so the tally has room for the link
   fewer : length (occupied (set ps r none)) + 1 ≡ length (occupied ps)
   unfolding busy
   fewer =
@@ -104,6 +105,7 @@ module _ {n h base : ℕ} {rest : List ℕ} {goal : Linking} {w ps : List ℕ} {
             getD-set-same (t .parent) second first 0
             (omega (arith, H .formed .disjoint .parentN, G .state .beside .size, second-inside G e z))
 
+    -- the invariant after the link
     linked : Consolidating n h w′ (set ps r none) (first ∷ rest) rest t′
     unfolding KeysFit link
     linked =
@@ -119,6 +121,7 @@ module _ {n h base : ℕ} {rest : List ℕ} {goal : Linking} {w ps : List ℕ} {
           ahead = λ y i. coming y i ∙ G .state .ahead y i;
         }
 
+    -- the rules make the same link
     next-step : (d : ℕ) → 18 ≤ d + r
         → climb d (isFree ps r) r x (record { places = ps; links = G .made; forests = t }) ≡ goal
         → Climbing n h base rest goal w′ (set ps r none) first (suc r) (links + 1)

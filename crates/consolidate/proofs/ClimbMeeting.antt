@@ -81,6 +81,7 @@ module _ {n h base : ℕ} {rest : List ℕ} {goal : Linking} {w ps : List ℕ} {
   pub is-second : {b : ℕ} → b ≡ cond (comesBefore (itemKey (look n w)) a x) x a → b ≡ second
   is-second q = q ∙ rw (same-order, place-at G e)
 
+  -- the two are roots, whichever comes first
   pub both : TwoRoots h (occupied ps ++ (x ∷ rest)) (G .here) first second
   both = go order
     where
@@ -115,6 +116,7 @@ module _ {n h base : ℕ} {rest : List ℕ} {goal : Linking} {w ps : List ℕ} {
           let i = heap-in t (lastOr c cs) (k .0) in
           omega (arith, G .state .beside .size)
 
+  -- both have the rank of the place
   first-rank : rankOf t first ≡ r
   first-rank = go order
     where
@@ -122,6 +124,7 @@ module _ {n h base : ℕ} {rest : List ℕ} {goal : Linking} {w ps : List ℕ} {
       go true = G .state .placed r taken
       go false = G .rank
 
+  -- so the link may be made
   pub link-ready : {b c : ℕ} → b ≡ cond (comesBefore (itemKey (look n w)) a x) a x
       → c ≡ cond (comesBefore (itemKey (look n w)) a x) x a → AppendReady n w (Children b) c
   unfolding lastOf RankRises

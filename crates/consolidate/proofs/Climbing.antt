@@ -42,6 +42,7 @@ pub record Climbing (n h base : ℕ) (rest : List ℕ) (goal : Linking) (w ps : 
   pub enough : 18 ≤ fuel + r
   pub whole : climb fuel (isFree ps r) r x (record { places = ps; links = made; forests = here }) ≡ goal
 
+-- a tree comes to the places
 pub climb-starts : (n h base k : ℕ) (rest w ps : List ℕ) (t : Forests) (x links r : ℕ)
     → Consolidating n h w ps (x ∷ rest) rest t → links ≡ base + k → links + length (occupied ps) ≤ 4294967295
     → r ≡ look n w Rank x → Climbing n h base rest (settle ps k t x) w ps x r links
@@ -83,6 +84,7 @@ module _ {n h base : ℕ} {rest : List ℕ} {goal : Linking} {w ps : List ℕ} {
 
   -- ---- the place is free
 
+  -- it rests there
   pub climb-ends : {a : ℕ} → a ≡ getD ps r 0 → a ≡ none → Settled n h base rest w (set ps r x) links goal
   unfolding climb isFree KeysFit
   climb-ends e z =

@@ -45,6 +45,7 @@ module _ {n h links : ℕ} {w : List ℕ} (P : ExtractReady n w h links) where
   size : tableSize t ≡ n
   size = sym (items-encode t) ∙ sym (ap itemsIn words) ∙ items
 
+  -- the minimum is a root of h
   stands : 1 ≤ occurs (minimum t h) (rowOf t h)
   stands = extract-ok t h (P .accepted)
 
@@ -56,6 +57,7 @@ module _ {n h links : ℕ} {w : List ℕ} (P : ExtractReady n w h links) where
         formed .disjoint .heaps (minimum t h),
       )
 
+  -- a sound store holds its forests
   pub sound-rowed : Rowed n h (minimum t h) w t
   sound-rowed =
       holds-rowed t (formed .disjoint) h (rw size at (encode-holds t (formed .disjoint) w words))
@@ -79,6 +81,7 @@ module _ {n h links : ℕ} {w : List ℕ} (P : ExtractReady n w h links) where
     remove-ready =
         record { least = minimum t h; forests = t; rowed = sound-rowed; rooted = rooted }
 
+    -- the forests without the minimum are well-formed
     keys-fit : KeysFit (removeRoot h x t)
     unfolding KeysFit removeRoot setFree release
     keys-fit = byItem x

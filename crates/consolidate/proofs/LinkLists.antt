@@ -66,6 +66,7 @@ module _ {n h : ℕ} {v : Values} {t : Forests} (B : Beside n h v t) {ρ : List 
         child-prev a l v y ∙ rw (ne-eqb l y (λ e. m (sym e))),
       )
 
+  -- the children of a, with l at the end
   own-chain : Chain (v′ FirstChild a) (v′ LastChild a) (v′ Next) (v′ Prev) (childrenOf t a ++ (l ∷ []))
   own-chain =
       rw (child-last a l v a, eqb-self a)
@@ -84,6 +85,7 @@ module _ {n h : ℕ} {v : Values} {t : Forests} (B : Beside n h v t) {ρ : List 
       chain-frame (v′ Next) (v′ Prev) c
       (λ y i. let o = k y i in keeps y (some-item old D y (o .0)) (o .1) (o .2))
 
+  -- the other rows, all families, and the links of free items
   pub linked-rows : (g : ℕ) → g < 8 → g ≢ h
       → Chain (v′ FirstTree g) (v′ LastTree g) (v′ Next) (v′ Prev) (rowOf (link a l t) g)
   unfolding link

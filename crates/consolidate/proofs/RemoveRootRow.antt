@@ -64,6 +64,7 @@ module _ {n h m : ℕ} {w : List ℕ} {t : Forests} (R : Rowed n h m w t) {x : �
   abbrev v₃ : Values
   v₃ = rowJoined h x cs v
 
+  -- the row without x
   out-chain : Chain (v₁ FirstTree h) (v₁ LastTree h) (v₁ Next) (v₁ Prev) (without x row)
   out-chain =
       chain-remove row (R .row) x (once-row t D h) (none-row t D h) (omega (arith, x-row)) _ _ _ _
@@ -89,11 +90,13 @@ module _ {n h m : ℕ} {w : List ℕ} {t : Forests} (R : Rowed n h m w t) {x : �
       let e = out-links y s k in
       (released-other h cs v₁ Next y refl ∙ e .0, released-other h cs v₁ Prev y refl ∙ e .1)
 
+  -- a child of x is in no row
   pub child-out : (y : ℕ) → 1 ≤ occurs y cs → (y ≢ none) × (occurs y row ≡ 0)
   child-out y i =
       let r = child-parent t D x y x-in i in
       (some-item t D y (heap-in t y (r .0)), not-row t D h y (λ e. some-item t D x x-in (sym (r .1) ∙ e)))
 
+  -- releasing the children changes no link
   pub row₂ : Chain (v₂ FirstTree h) (v₂ LastTree h) (v₂ Next) (v₂ Prev) (without x row)
   row₂ =
       rw (released-other h cs v₁ FirstTree h refl, released-other h cs v₁ LastTree h refl)
@@ -121,6 +124,7 @@ module _ {n h m : ℕ} {w : List ℕ} {t : Forests} (R : Rowed n h m w t) {x : �
   none-after : occurs none (without x row ++ cs) ≡ 0
   none-after = rw row-after at (none-row after D′ h)
 
+  -- the children follow the row, if there are any
   row₃ : Chain (v₃ FirstTree h) (v₃ LastTree h) (v₃ Next) (v₃ Prev) (without x row ++ cs)
   unfolding firstOf lastOf
   row₃ = go (eqb (v FirstChild x) none) refl
@@ -148,6 +152,7 @@ module _ {n h m : ℕ} {w : List ℕ} {t : Forests} (R : Rowed n h m w t) {x : �
     abbrev v₅ : Values
     v₅ = rootRemoved h x cs c v
 
+    -- x is not in that row, so its own words do not matter
     pub row₅ : Chain (v₅ FirstTree h) (v₅ LastTree h) (v₅ Next) (v₅ Prev) (rowOf after h)
     unfolding rootRemoved freeItem
     row₅ =

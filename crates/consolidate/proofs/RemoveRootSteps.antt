@@ -75,6 +75,7 @@ module _ {n h m : ℕ} {w : List ℕ} {t : Forests} (R : Rowed n h m w t) {x : �
         rank = tt;
       }
 
+  -- the heap has x at least
   pub some-left : {c : ℕ} → c ≡ look n w Count h → 1 ≤ c
   unfolding removeRoot setFree release
   some-left ec =
@@ -92,6 +93,7 @@ module _ {n h m : ℕ} {w : List ℕ} {t : Forests} (R : Rowed n h m w t) {x : �
 
   module _ {w₁ : List ℕ} (c₁ : Changes n w (removed (Row h) x) w₁) {a k : ℕ} (ea : a ≡ look n w FirstChild x)
       (ek : k ≡ look n w Rank x) where
+    -- the children, as the words list them once x has left
     released-list : Listed n w₁ a k (childrenOf t x)
     released-list =
         let D = O .disjoint in

@@ -88,6 +88,7 @@ module _ {n h : ℕ} {v : Values} {t : Forests} (D : Disjoint t) (B : Beside n h
   abbrev v′ : Values
   v′ = appended (Row h) x v
 
+  -- who is in the row: written, x, or to come
   in-row : (y : ℕ) → occurs y (rowOf t h) ≡ occurs y m + delta y x + occurs y k
   unfolding occurs sumBy
   in-row y = rw e (omega (arith, occurs-append y m (x ∷ k)))
@@ -104,6 +105,7 @@ module _ {n h : ℕ} {v : Values} {t : Forests} (D : Disjoint t) (B : Beside n h
   x-out : occurs x m ≡ 0
   x-out = omega (arith, in-row x, delta-self x, once-row t D h x)
 
+  -- the row with x at its end
   pub longer : Chain (v′ FirstTree h) (v′ LastTree h) (v′ Next) (v′ Prev) (m ++ (x ∷ []))
   longer =
       rw (row-last h x v h, eqb-self h)

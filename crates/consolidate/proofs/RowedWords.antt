@@ -26,6 +26,7 @@ use Rattle.consolidate.specs.Chain.{Chain}
 use Rattle.consolidate.specs.Stored.{linked, Beside, Rowed}
 
 module _ (t : Forests) (D : Disjoint t) where
+  -- the words of a row, and of the children of an item
   row-chain : (g : ℕ) → Chain (word t FirstTree g) (word t LastTree g) (word t Next) (word t Prev) (rowOf t g)
   unfolding word unlessFree
   row-chain g =
@@ -80,6 +81,7 @@ module _ (t : Forests) (D : Disjoint t) where
     abbrev minima : ℕ → ℕ
     minima g = cond (eqb g h) m (minimum t g)
 
+    -- each row, that of h and the others
     row-of : (g : ℕ) → g < 8 → Chain (v FirstTree g) (v LastTree g) (v Next) (v Prev) (rowOf t g)
     row-of g k = go (eqb g h) refl
       where

@@ -25,6 +25,7 @@ module _ {n h : ℕ} {w ps rest ahead : List ℕ} {t : Forests} (C : Consolidati
   abbrev ρ : List ℕ
   ρ = occupied ps ++ rest
 
+  -- each is a root of h
   comes-root : (y : ℕ) → 1 ≤ occurs y rest → (heapOf t y ≡ suc h) × (parentOf t y ≡ none)
   comes-root y i = in-row t h ρ (held C .formed) (C .heap) y (omega (arith, occurs-append y (occupied ps) rest))
 
@@ -43,6 +44,7 @@ module _ {n h : ℕ} {w ps rest ahead : List ℕ} {t : Forests} (C : Consolidati
           let a = occurs-append y (occupied ps) rest in
           omega (arith, a, once t h ρ (held C .formed) (C .heap) y (omega (arith, a)))
 
+  -- none is outside the table
   outside : (y : ℕ) → n ≤ y → occurs y rest ≡ 0
   outside y k =
       list-inside (setRow h ρ t) (C .formed .disjoint) rest (λ z i e. omega (arith, e, comes-root z i .0)) y

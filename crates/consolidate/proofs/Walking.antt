@@ -33,6 +33,7 @@ pub record Walking (n h base : ℕ) (goal : Linking) (w ps : List ℕ) (x links 
   pub fits : links + length (occupied ps) + length rest ≤ 4294967295
   pub whole : linkTrees 18 rest (record { places = ps; links = made; forests = here }) ≡ goal
 
+-- all trees of the row are to come, and all places are free
 pub walk-starts : {n h m : ℕ} {w : List ℕ} {t : Forests} (x links : ℕ) → Rowed n h m w t → WellFormed t → h < 8
     → x ≡ look n w FirstTree h → links + 4096 ≤ 4294967295
     → Walking n h links (linkRow h t) w (replicate 17 none) x links
@@ -62,6 +63,7 @@ walk-starts {n} {h} {m} {w} {t} x links R W k e f =
     }
 
 module _ {n h base : ℕ} {goal : Linking} {w ps : List ℕ} {x links : ℕ} (G : Walking n h base goal w ps x links) where
+  -- as many are to come as the next words lead to
   pub walk-left : length (follow n (look n w Next) x) ≡ length (G .rest)
   walk-left = rw (G .head) (ap length (follows (G .state)))
 
@@ -99,6 +101,7 @@ module _ {n h base : ℕ} {goal : Linking} {w ps : List ℕ} {x links : ℕ} (G 
         go [] e q = absurd (m e)
         go (y ∷ l) e q = record { tail = l; is = q ∙ ap (λ z. z ∷ l) (sym e) }
 
+    -- the same with x in front
     whole-state : Consolidating n h w ps (x ∷ first .tail) (x ∷ first .tail) (G .here)
     whole-state = rw (first .is) at (G .state)
 

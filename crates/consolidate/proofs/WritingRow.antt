@@ -35,6 +35,7 @@ least-in key (z ∷ l) m = leastOf-in key z l
 
 module _ {n h m x : ℕ} {w written rest : List ℕ} {t : Forests} (C : Coming h written x rest t)
     (W : Writing n h w written m t) where
+  -- who is written is in the table
   member : (y : ℕ) → 1 ≤ occurs y written → y < n
   member y i =
       let r = row-root t (C .disjoint) h y
@@ -52,6 +53,7 @@ module _ {n h m x : ℕ} {w written rest : List ℕ} {t : Forests} (C : Coming h
   none-written-tree e = rw (e, append-nil written) W
 
   module _ (s : x ≢ none) where
+    -- x is a tree, and in the row
     split : rowOf t h ≡ written ++ (x ∷ rest)
     unfolding occupied
     split = rw (ne-eqb x none s) at (C .row)

@@ -26,6 +26,7 @@ pub record Going (n : ℕ) (w : List ℕ) (c m : ℕ → ℕ) (k : Cuts) (h p cu
   pub goal-cuts : k .cuts ≡ cuts + (cascadingCut left (standing here p) h p here) .cuts
   pub goal-forests : k .forests ≡ (cascadingCut left (standing here p) h p here) .forests
 
+-- before the first cut
 pub going-start : {n : ℕ} {w : List ℕ} {c m : ℕ → ℕ} {t : Forests} {h x : ℕ} → Holds n w c m t none → Member t h x
     → Going n w c m (cascadingCut (suc n) (standing t x) h x t) h x 0 (n + 1)
 going-start {n} {t = t} {h} {x} H M =
@@ -40,6 +41,7 @@ going-start {n} {t = t} {h} {x} H M =
 
 -- ---- how a parent stands
 
+-- a root, and a child by its mark
 root-standing : (t : Forests) (p : ℕ) → parentOf t p ≡ none → standing t p ≡ root
 unfolding standing
 root-standing t p e = rw e

@@ -27,6 +27,7 @@ module _ {n : ℕ} {w : List ℕ} {c m : ℕ → ℕ} {t : Forests} {h x p : ℕ
 
   module _ {w₁ w₂ : List ℕ} {r : ℕ} (a : Holds n w₁ c m (cut h x t) none)
       (b : Cascaded n w₂ c m (cascadingCut (suc n) (standing (cut h x t) p) h p (cut h x t)) r) where
+    -- the number of cuts, this one and those that follow, is that of the rules
     pub few : r ≤ 4097
     few =
         omega (

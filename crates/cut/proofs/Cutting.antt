@@ -67,6 +67,7 @@ module _ {n : ℕ} {w : List ℕ} {c m : ℕ → ℕ} {t : Forests} {h x p : ℕ
   live : heapOf t x ≢ 0
   live z = omega (arith, z, C .member .heap)
 
+  -- x is one of the children of p
   family : Family n t (Children p)
   family =
       let u = D .up x live (C .child) in
@@ -84,6 +85,7 @@ module _ {n : ℕ} {w : List ℕ} {c m : ℕ → ℕ} {t : Forests} {h x p : ℕ
 
   module _ {w₁ w₂ : List ℕ} (a : Changes n w (removed (Children p) x) w₁)
       (b : Changes n w₁ (setWord State x (1 + 2 * h)) w₂) where
+    -- after the removal, and after the mark is taken away
     H₁ : Holds n w₁ c m (removeFrom (Children p) x t) x
     H₁ = remove-holds (Children p) x H family among a
 
@@ -101,10 +103,12 @@ module _ {n : ℕ} {w : List ℕ} {c m : ℕ → ℕ} {t : Forests} {h x p : ℕ
     pub cut-append-ready : AppendReady n w₂ (Row h) x
     cut-append-ready = append-ready H₂ (Row h) row (member-item H (C .member))
 
+    -- x is not in the row yet
     absent : occurs x (listOf (setMark x 0 (removeFrom (Children p) x t)) (Row h)) ≡ 0
     unfolding removeFrom listOf
     absent = D .inRow h x ∙ rw (ne-eqb (parentOf t x) none (C .child), and-false)
 
+    -- the three steps are the cut of the rules
     same : appendTo (Row h) x (setMark x 0 (removeFrom (Children p) x t)) ≡ cut h x t
     unfolding cut appendTo removeFrom
     same = rw e

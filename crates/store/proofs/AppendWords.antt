@@ -54,6 +54,7 @@ module _ (n : ℕ) (t : Forests) (x : ℕ) (S : Shape n t) (k : x < n) where
   same-lists p (Row g) = refl
   same-lists p (Children g) = refl
 
+  -- only the list of o and the owner of x change
   relisted : (o : Owner) → Present n t o → Relisted t (appendTo o x t) o x (listOf t o ++ (x ∷ []))
   unfolding appendTo listOf ownerOf
   relisted (Row h) p =
@@ -84,6 +85,7 @@ module _ (n : ℕ) (t : Forests) (x : ℕ) (S : Shape n t) (k : x < n) where
         ne-eqb p none (λ e. omega (arith, e, i .0, S .small)),
       )
 
+  -- x is in a heap
   new-live : (o : Owner) → MayJoin t o x → heapOf (appendTo o x t) x ≢ 0
   unfolding appendTo
   new-live (Row h) j e = omega (arith, j, e)
@@ -94,9 +96,11 @@ module _ (n : ℕ) (t : Forests) (o : Owner) (x : ℕ) (S : Shape n t) (F : Fami
   R : Relisted t (appendTo o x t) o x (listOf t o ++ (x ∷ []))
   R = relisted n t x S k o (F .present)
 
+  -- who is not in the list is not its last
   last-apart : (j : ℕ) → j < n → occurs j (listOf t o) ≡ 0 → lastOr none (listOf t o) ≢ j
   last-apart j h a = at-end (lastOr none (listOf t o)) j (listOf t o) (last-in none (listOf t o)) (not-none S j h) a
 
+  -- the next word of any item j; l is the last of the list before, and the links of x were loose
   next-law : (l a j : ℕ) → l ≡ lastOr none (listOf t o) → j < n
       → cond (eqb l j) x (cond (eqb x j) none (cond (eqb x j) a (word t Next j))) ≡ word (appendTo o x t) Next j
   unfolding word
@@ -119,6 +123,7 @@ module _ (n : ℕ) (t : Forests) (o : Owner) (x : ℕ) (S : Shape n t) (F : Fami
           rw (ne-eqb (lastOr none (listOf t o)) j (last-apart j h (absent n t o F j m)))
           (sym (outside-relisted R j (nextIn j) (λ z. eqb-false x j e (sym z)) m))
 
+  -- and the previous word
   prev-law : (l b j : ℕ) → l ≡ lastOr none (listOf t o) → j < n
       → cond (eqb x j) l (cond (eqb x j) b (word t Prev j)) ≡ word (appendTo o x t) Prev j
   unfolding word
@@ -138,6 +143,7 @@ module _ (n : ℕ) (t : Forests) (o : Owner) (x : ℕ) (S : Shape n t) (F : Fami
       go false e (outside m) = sym (outside-relisted R j (prevIn none j) (λ z. eqb-false x j e (sym z)) m)
 
 module _ (n : ℕ) (counts minima : ℕ → ℕ) (t : Forests) (x a b : ℕ) (S : Shape n t) (k : x < n) where
+  -- the words of kind f after the append are those of the forests after it
   abbrev pub Appends : Owner → Field → Type 0
   Appends o f =
       (j : ℕ) → j < room n f

@@ -43,6 +43,7 @@ links = FirstTree ∷ LastTree ∷ Minimum ∷ []
 abbrev pub emptied : ℕ → Values
 emptied k f i = cond (isOneOf links f) (cond (ltb i k) none 0) 0
 
+-- all words 0: no heap is empty yet
 emptied-none : (f : Field) (i : ℕ) → 0 ≡ emptied 0 f i
 emptied-none f i = rw (le-ltb i 0 (omega arith)) (sym (cond-same (isOneOf links f) 0))
 
@@ -57,6 +58,7 @@ one-more k i = go (eqb k i) (ltb i k) refl refl
         let m : k ≡ i → ⊥ = eqb-false k i d in
         rw (le-ltb i (k + 1) (omega (arith, ltb-false i k e)))
 
+-- one heap more, word by word
 emptied-more : (k : ℕ) (f : Field) (i : ℕ) → emptyHeap k (emptied k) f i ≡ emptied (k + 1) f i
 unfolding emptyHeap
 emptied-more k =
@@ -71,6 +73,7 @@ unfolding count sumBy
 count-empty zero h = refl
 count-empty (suc n) h = rw (eqb·zero-suc h) (omega (arith, count-empty n h))
 
+-- eight empty heaps over free items: the words of the empty forests
 emptied-all : (n : ℕ) (f : Field) (i : ℕ) → i < room n f → emptied 8 f i ≡ word (empty n) f i
 unfolding word headOr lastOr minimum leastIn unlessFree stateOf
 emptied-all n FirstTree i k = rw (lt-ltb i 8 k, getD-all 8 i)

@@ -34,6 +34,7 @@ same-owner (Children p) (Children q) = go (eqb q p) refl
     go true e = same (ap Children (eqb-true q p e))
     go false e = other (λ d. eqb-false q p e (cc))
 
+-- the siblings of an item are the list of its owner
 siblings-owner : (t : Forests) (i : ℕ) → siblings t i ≡ listOf t (ownerOf t i)
 unfolding siblings listOf ownerOf
 siblings-owner t i = go (eqb (parentOf t i) none)
@@ -72,6 +73,7 @@ unfolding unlessFree
 inside-word t o j F m e = rw (ne-eqb (heapOf t j) 0 m, siblings-owner t j, e)
 
 module _ {t t′ : Forests} {o : Owner} {x : ℕ} {l : List ℕ} (R : Relisted t t′ o x l) where
+  -- a link of an item in the list, after the change, and of one in another list
   pub inside-relisted : (j : ℕ) (F : List ℕ → ℕ) → j ≢ x → heapOf t j ≢ 0 → ownerOf t j ≡ o
       → unlessFree t′ j (F (siblings t′ j)) ≡ F l
   inside-relisted j F n m e =
@@ -90,6 +92,7 @@ module _ {t t′ : Forests} {o : Owner} {x : ℕ} {l : List ℕ} (R : Relisted t
 
 -- ---- the list of one owner set
 
+-- a row set, or the children of an item
 pub row-relisted : (t : Forests) (x h : ℕ) (l : List ℕ) → h < length (t .rows)
     → Relisted t (setRow h l t) (Row h) x l
 unfolding listOf ownerOf

@@ -37,6 +37,7 @@ reshape t′ S r c p k m h =
       heapN = h ∙ S .heapN;
     }
 
+-- no table changes its length
 append-shape : (n : ℕ) (t : Forests) (o : Owner) (x : ℕ) → Shape n t → Shape n (appendTo o x t)
 unfolding appendTo
 append-shape n t (Row h) x S =
@@ -64,6 +65,7 @@ loose-none n v a b h f i k =
     setWord-other (setWord Prev none b v) Next none a f i (λ _. m) ∙ setWord-other v Prev none b f i (λ _. m)
 
 module _ {n : ℕ} {w : List ℕ} {counts minima : ℕ → ℕ} {t : Forests} where
+  -- where no item is between two lists the words say all
   pub says-holds : Shape n t → Says n w (wordBut counts minima t) → Holds n w counts minima t none
   says-holds S s =
       record {
@@ -79,6 +81,7 @@ module _ {n : ℕ} {w : List ℕ} {counts minima : ℕ → ℕ} {t : Forests} wh
       loose-none n (wordBut counts minima t) (H .next) (H .prev) (H .shape .small) f i k)
 
 module _ {n : ℕ} {w w′ : List ℕ} {counts minima : ℕ → ℕ} {t : Forests} where
+  -- the moves
   pub append-holds : (o : Owner) (x : ℕ) → Holds n w counts minima t x → Family n t o → x < n
       → occurs x (listOf t o) ≡ 0 → MayJoin t o x → Changes n w (appended o x) w′
       → Holds n w′ counts minima (appendTo o x t) none

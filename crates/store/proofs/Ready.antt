@@ -41,9 +41,11 @@ module _ (n : ℕ) (t : Forests) (o : Owner) (S : Shape n t) (F : Family n t o) 
   no-member : (y : ℕ) → n ≤ y → occurs y (listOf t o) ≡ 0
   no-member y h = not-in y (listOf t o) (λ i. omega (arith, member y i))
 
+  -- a list has at most as many members as there are items
   list-short : length (listOf t o) ≤ n
   list-short = once-short n (listOf t o) (F .once) no-member
 
+  -- the ends of a list and the links of its members are in the table, or none
   member-link : (z : ℕ) → 1 ≤ occurs z (none ∷ listOf t o) → Link n z
   unfolding occurs sumBy
   member-link z k m = member z (omega (arith, delta-other z none (λ e. m (sym e))))
@@ -67,6 +69,7 @@ last-word n counts minima t (Row h) p x a b = refl
 last-word n counts minima t (Children q) p x a b = rw (ne-eqb (heapOf t q) 0 (p .1))
 
 module _ {n : ℕ} {w : List ℕ} {counts minima : ℕ → ℕ} {t : Forests} {x : ℕ} (H : Holds n w counts minima t x) where
+  -- the rank of an owner can rise, since its list is short, and fall, where it has a member
   rank-word : (p : ℕ) → p < n → look n w Rank p ≡ rankOf t p
   unfolding loose wordBut word
   rank-word p k = H .says .says Rank p k

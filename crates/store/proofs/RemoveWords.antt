@@ -38,6 +38,7 @@ use Rattle.store.proofs.KeptWords.{kept-but}
 use Rattle.store.proofs.Listed.{none-out, absent, not-none}
 use Rattle.store.proofs.SetAt.{cond-same, set-at}
 
+-- only the list of o changes
 relisted : (n : ℕ) (t : Forests) (x : ℕ) (o : Owner) → Shape n t → Present n t o
     → Relisted t (removeFrom o x t) o x (without x (listOf t o))
 unfolding removeFrom listOf
@@ -94,6 +95,7 @@ module _ (n : ℕ) (t : Forests) (o : Owner) (x : ℕ) (S : Shape n t) (F : Fami
       go true d = rw (← (eqb-true x j d)) (cond-same (eqb (word t g x) x) (word t f x))
       go false d = e (λ z. eqb-false x j d (sym z))
 
+  -- the next word of any item, and the previous one
   next-law : (j : ℕ) → j < n
       → cond (eqb (word t Prev x) j) (word t Next x) (word t Next j)
       ≡ cond (eqb x j) (word t Next x) (word (removeFrom o x t) Next j)
@@ -114,6 +116,7 @@ module _ (n : ℕ) (t : Forests) (o : Owner) (x : ℕ) (S : Shape n t) (F : Fami
   last-law = rw (prev-of, next-of) (sym (last-without none x (listOf t o) (none-out n t o S F) k))
 
 module _ (n : ℕ) (counts minima : ℕ → ℕ) (t : Forests) (x : ℕ) (S : Shape n t) where
+  -- the words of kind f after the removal are those of the forests after it, but for the links of x
   abbrev pub Removes : Owner → Field → Type 0
   Removes o f =
       (j : ℕ) → j < room n f
