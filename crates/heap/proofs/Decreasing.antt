@@ -68,6 +68,7 @@ module _ {w : List ℕ} {n i k : ℕ} {tally : Tally} (P : MayMove w n (Decrease
   F : Formed (forestsOf w)
   F = to-formed (forestsOf w) W
 
+  -- with its new key i may come before its parent: the forests are well-formed but for that
   lowered : FormedBut i exact (setKey i k (forestsOf w))
   lowered = key-formed (forestsOf w) (W .disjoint) i k (ok .0) (ok .1) (F .ordered) (F .ranked)
 

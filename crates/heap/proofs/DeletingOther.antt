@@ -51,6 +51,7 @@ module _ {w : List ℕ} {n h i : ℕ} {tally : Tally} (P : DeleteOther w n h i t
   no : minimum (forestsOf w) (heapNumber (forestsOf w) i) ≢ i
   no z = P .other (rw (P .heap) z)
 
+  -- i is an item of heap h
   owned : Member t h i
   owned = record { disjoint = W .disjoint; heap = omega (arith, live, P .heap) }
 
@@ -87,6 +88,7 @@ module _ {w : List ℕ} {n h i : ℕ} {tally : Tally} (P : DeleteOther w n h i t
         (λ x q. (sym (ap (λ l. getD l x 0) heaps) ∙ q, ap (λ l. getD l x 0) keys))
         (λ x q _. ap (λ l. getD l x 0) heaps ∙ q))
 
+    -- after the cut i is a root of h
     rowed : Rowed n h (minimum t h) w₁ (c .forests)
     unfolding count
     rowed =
@@ -116,6 +118,7 @@ module _ {w : List ℕ} {n h i : ℕ} {tally : Tally} (P : DeleteOther w n h i t
     unfolding delete deleteAs
     done-as = rw (ne-eqb (minimum t (heapNumber t i)) i no, ← (P .heap))
 
+    -- the forests of the rules after the call
     last-formed : WellFormed last
     unfolding answer unlessRefused perform InRange
     last-formed = rw (← done-as) (rw (P .may .allowed .done) at (keepsWellFormed t W (Yields (Delete i)) tt))

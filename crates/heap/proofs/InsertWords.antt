@@ -23,7 +23,8 @@ use Rattle.store.proofs.Ready.{append-ready}
 use Rattle.store.proofs.Says.{says-as}
 use Rattle.heap.specs.Allowed.{Allowed}
 use Rattle.heap.specs.Entered.{EnrollReady, EnterReady, enrolled, entered}
-use Rattle.heap.proofs.InsertKinds.{MayEnter, enrolled-word, entered-word, family, out}
+use Rattle.heap.proofs.EnrolledKinds.{enrolled-word}
+use Rattle.heap.proofs.EnteredKinds.{MayEnter, entered-word, family, out}
 use Rattle.heap.proofs.RowLinks.{minimum-link}
 use Rattle.heap.proofs.SoundStore.{formed, items-size, says-encode, sound-holds, sound-says}
 

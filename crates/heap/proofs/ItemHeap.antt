@@ -11,6 +11,7 @@ use Rattle.rules.proofs.Members.{heap-in}
 use Rattle.heap.specs.Moving.{InHeap}
 use Rattle.heap.proofs.SoundStore.{formed, items-size, state-at}
 
+-- a state word of an item in a heap is 1 + 2 * heap, plus its mark
 state-heap : (v m : ℕ) → v ≢ 0 → m ≤ 1 → (stateOf v m - 1) / 2 ≡ v - 1
 unfolding stateOf
 state-heap zero m n k = absurd (n refl)

@@ -80,6 +80,7 @@ join-heaps-changes {n} {w} {w₁} {w₂} {w₃} {a} {b} {c} {d} {p} {q} {l} r ec
 
 -- ---- the pass over the state words
 
+-- no item yet, one more, and all
 pub rehome-none : (n : ℕ) (w : List ℕ) (a b : ℕ) → Sized n w → Changes n w (rehomedTo 0 a b) w
 unfolding rehomedTo
 rehome-none n w a b s =

@@ -3,7 +3,8 @@ pub mod RowLinks
 pub mod ItemHeap
 pub mod RefusalWords
 pub mod Entering
-pub mod InsertKinds
+pub mod EnteredKinds
+pub mod EnrolledKinds
 pub mod InsertWords
 pub mod JoiningHeaps
 pub mod MovedHeaps

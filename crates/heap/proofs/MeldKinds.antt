@@ -75,11 +75,13 @@ module _ {t : Forests} {a b : ℕ} (H : TwoHeaps t a b) where
   row-word F g = rw (row-at H g) (go (eqb b g) (eqb a g))
     where
       go : (u v : Bool)
-          → cond u (F []) (cond v (F (rowOf t a ++ rowOf t b)) (F (rowOf t g))) ≡ F (cond u [] (cond v (rowOf t a ++ rowOf t b) (rowOf t g)))
+          → cond u (F []) (cond v (F (rowOf t a ++ rowOf t b)) (F (rowOf t g)))
+          ≡ F (cond u [] (cond v (rowOf t a ++ rowOf t b) (rowOf t g)))
       go true v = refl
       go false true = refl
       go false false = refl
 
+  -- a root of one of the two heaps is not in the row of the other
   out-one : (j : ℕ) → heapOf t j ≡ suc b → occurs j (rowOf t a) ≡ 0
   out-one j e = D .inRow a j ∙ rw (e, ne-eqb (suc b) (suc a) (λ q. H .two (omega arith)))
 
@@ -92,6 +94,7 @@ module _ {t : Forests} {a b : ℕ} (H : TwoHeaps t a b) where
   stay-a : moveHeap a b (suc a) ≡ suc a
   stay-a = heap-stays a b (suc a) (λ e. H .two (omega arith))
 
+  -- the links
   next-word : (j : ℕ) → j ≢ none → after t a (rowOf t b) Next j ≡ word new Next j
   unfolding word
   next-word j m = go (where-is H j)
@@ -122,6 +125,7 @@ module _ {t : Forests} {a b : ℕ} (H : TwoHeaps t a b) where
           ∙ sym (joined-list H j b h (heap-moves a b) p (prevIn none j))
       go (stays x y e) = prev-kept t D a (rowOf t b) n₂ j y ∙ sym (e (prevIn none j))
 
+  -- the minima: a has the lesser of the two
   least-word : (g : ℕ)
       → cond (eqb a g) (lesser (keyOf t) (minimum t a) (minimum t b)) (cond (eqb b g) none (minimum t g))
       ≡ minimum new g

@@ -55,6 +55,7 @@ module _ {t : Forests} {a b : ℕ} (H : TwoHeaps t a b) where
     stays : occurs j (rowOf t a) ≡ 0 → occurs j (rowOf t b) ≡ 0
         → ((F : List ℕ → ℕ) → unlessFree new j (F (siblings new j)) ≡ unlessFree t j (F (siblings t j))) → Where j
 
+  -- the siblings of a child stay; a root is in the row of its heap
   child-list : (j : ℕ) → parentOf t j ≢ none → siblings new j ≡ siblings t j
   unfolding siblings meld
   child-list j m = rw (ne-eqb (parentOf t j) none m)

@@ -42,6 +42,7 @@ module _ {w : List ℕ} {n a b : ℕ} (A : Allowed w n (Meld a b)) where
   S : Says n w (word t)
   S = sound-says (A .store)
 
+  -- a link read is one of the forests
   link-n : (x y : ℕ) → x ≡ y → Link (tableSize t) y → Link n x
   link-n x y p k m = omega (arith, k (λ q. m (p ∙ q)), p, e)
 

@@ -16,6 +16,7 @@ use Rattle.store.specs.Says.{Says}
 use Rattle.store.proofs.Encoded.{encode-holds}
 use Rattle.heap.specs.Allowed.{Store}
 
+-- words that say forests are theirs
 pub says-encode : {n : ℕ} {w : List ℕ} (t : Forests) → tableSize t ≡ n → Says n w (word t) → w ≡ encode t
 unfolding encode
 says-encode {n} {w} t e s =

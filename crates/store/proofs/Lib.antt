@@ -7,6 +7,7 @@ pub mod SetAt
 pub mod Families
 pub mod Listed
 pub mod KeptWords
+pub mod AppendLinks
 pub mod AppendWords
 pub mod RemoveWords
 pub mod Ready

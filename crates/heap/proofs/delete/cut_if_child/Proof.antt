@@ -11,7 +11,9 @@ get-requires c κs =
     record { sized = p .holds .says .sized; inside = member-item (p .holds) (p .member) }
 
 returns : tie.Need-returns
-returns c = record { gives = λ counts minima t H M. kept H M (c .before .get .ensures) (no-parent H M (c .before .get .ensures) (c .if1 .taken)) }
+returns c =
+    let e = c .before .get .ensures in
+    record { gives = λ counts minima t H M. kept H M e (no-parent H M e (c .if1 .taken)) }
 
 cut-out-requires : tie.Need-cut-out-requires
 cut-out-requires c κs =

@@ -1,33 +1,28 @@
--- The words of forests into which an item was inserted, kind by kind.
+-- The words of an item that has entered a heap and is in no list yet, kind by kind.
 use Prim.Native.Nat.{ℕ, suc, _+_, _-_, _*_, _<_}
 use mathlib.Core.Path.{_≡_, refl, sym, ap, _∙_}
 use mathlib.Core.Logic.{_≢_}
-use mathlib.Core.List.{List, [], _∷_, _++_}
+use mathlib.Core.List.{List, [], _∷_}
 use mathlib.Core.Bool.{Bool, true, false, cond}
 use native.Mathlib.Omega.{arith}
-use lib.ListN.{set}
 use lib.Seq.{getD-set-other}
 use lib.Dec.{eqb, eqb·zero-suc}
 use borrow.Author.Tests.{eqb-true, ne-eqb}
 use Rattle.rules.specs.declared.Field.{Field}
 use Rattle.rules.specs.declared.Field.the-variants.{
-  Count,
   FirstChild,
   Key,
   LastChild,
-  Minimum,
   Next,
   Prev,
   State,
 }
 use Rattle.store.specs.declared.Owner.the-variants.{Row}
-use Rattle.rules.specs.Calls.{insert}
 use Rattle.rules.specs.Forests.{
   Forests,
   childrenOf,
   count,
   heapOf,
-  keyOf,
   markOf,
   none,
   parentOf,
@@ -36,25 +31,19 @@ use Rattle.rules.specs.Forests.{
   setKey,
   tableSize,
 }
-use Rattle.rules.specs.Lists.{delta, occurs}
-use Rattle.rules.specs.Order.{keyIn, leastIn, leastOf, lesser, minimum}
+use Rattle.rules.specs.Lists.{occurs}
+use Rattle.rules.specs.Order.{minimum}
 use Rattle.rules.specs.WellFormed.{Disjoint}
 use Rattle.rules.specs.Words.{headOr, lastOr, nextIn, prevIn, room, siblings, stateOf, unlessFree, word}
 use Rattle.rules.proofs.ByKind.{apart-from, by-kinds}
-use Rattle.rules.proofs.Counts.{count-entered}
-use Rattle.rules.proofs.LeastOfTwo.{least-append, least-other, lesser-keys}
 use Rattle.rules.proofs.Members.{free-children, row-root}
-use Rattle.rules.proofs.Occurs.{delta-other, occurs-one}
 use Rattle.rules.proofs.Parts.{children, marks, parents, rows}
 use Rattle.rules.proofs.SiblingLists.{once-row}
 use Rattle.store.specs.Families.{Family, listOf, loose, ownerOf, wordBut}
-use Rattle.store.specs.ItemOrder.{itemKey}
 use Rattle.store.specs.Says.{Values}
 use Rattle.store.proofs.SetAt.{getD-set}
-use Rattle.store.proofs.ItemOrder.{key-is}
 use Rattle.store.proofs.KeptWords.{kept-but}
-use Rattle.consolidate.proofs.Standing.{none-row}
-use Rattle.heap.specs.Entered.{enrolled, entered}
+use Rattle.heap.specs.Entered.{entered}
 
 -- i is free, and may enter heap h
 pub record MayEnter (t : Forests) (h i : ℕ) : Type 0 where
@@ -143,50 +132,6 @@ module _ {t : Forests} {h i : ℕ} (E : MayEnter t h i) (k : ℕ) where
   -- no row has a free item
   pub out : (g : ℕ) → occurs i (rowOf t g) ≡ 0
   out g = D .inRow g i ∙ rw (E .free, eqb·zero-suc g)
-
-  abbrev new : Forests
-  new = insert h i k t
-
-  -- heap h has one item more
-  count-word : (g : ℕ) → cond (eqb h g) (count t h + 1) (count t g) ≡ count new g
-  unfolding insert delta
-  count-word g = go (eqb h g) refl (count-entered t new h i g (E .inside) (E .free) refl)
-    where
-      go : (b : Bool) → eqb h g ≡ b → count new g ≡ count t g + cond b 1 0
-          → cond b (count t h + 1) (count t g) ≡ count new g
-      go true e q = omega (arith, ap (count t) (eqb-true h g e))
-      go false e q = omega arith
-
-  -- and its minimum is the lesser of the one before and i
-  least-word : (g : ℕ) → cond (eqb h g) (lesser (keyOf new) (minimum t h) i) (minimum t g) ≡ minimum new g
-  unfolding minimum insert leastIn leastOf
-  least-word g =
-      rw (getD-set (t .rows) h g (rowOf t h ++ (i ∷ [])) [] (omega (arith, D .rows8, E .heap))) (go (eqb h g) refl)
-    where
-      key′ : List ℕ
-      key′ = set (t .key) i k
-
-      go : (b : Bool) → eqb h g ≡ b
-          → cond b (lesser (keyIn key′) (leastIn (t .key) (rowOf t h)) i) (leastIn (t .key) (rowOf t g))
-          ≡ leastIn key′ (cond b (rowOf t h ++ (i ∷ [])) (rowOf t g))
-      go true e =
-          ap (λ m. lesser (keyIn key′) m i) (sym (least-other (t .key) i k (rowOf t h) (out h)))
-          ∙ sym (least-append key′ (rowOf t h) (i ∷ []) (none-row t D h)
-          (occurs-one none i ∙ delta-other none i (λ e. omega (arith, e, D .small, E .inside))))
-      go false e = sym (least-other (t .key) i k (rowOf t g) (out g))
-
-  pub enrolled-word : (n : ℕ) (f : Field) (j : ℕ) → j < room n f
-      → enrolled h i (wordBut (count t) (minimum t) new) f j ≡ word new f j
-  unfolding enrolled wordBut word
-  enrolled-word n =
-      by-kinds (Minimum ∷ Count ∷ [])
-      (λ f. (j : ℕ) → j < room n f → enrolled h i (wordBut (count t) (minimum t) new) f j ≡ word new f j)
-      (λ j l. ap (λ m. cond (eqb h j) m (minimum t j))
-      (lesser-keys (itemKey (wordBut (count t) (minimum t) new)) (keyOf new) (minimum t h) i
-      (λ _. key-is _ new (minimum t h) refl) (λ _. key-is _ new i refl))
-      ∙ least-word j)
-      (λ j l. count-word j)
-      (λ f o j l. let e = apart-from (Minimum ∷ Count ∷ []) f o in rw (e Minimum refl, e Count refl))
 
   -- what the row requires of i, before it joins
   pub family : (n : ℕ) → Family n between (Row h)
