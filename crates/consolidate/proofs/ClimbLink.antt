@@ -27,6 +27,7 @@ use Rattle.store.specs.declared.Owner.the-variants.{Children}
 use Rattle.store.specs.ItemOrder.{itemKey}
 use Rattle.store.specs.Says.{Changes}
 use Rattle.store.specs.Siblings.{appended}
+use Rattle.store.proofs.Standing.{root-in, some-item}
 use Rattle.consolidate.specs.Consolidating.{Consolidating}
 use Rattle.consolidate.proofs.Climbing.{Climbing, held, keys-fit, rank-inside}
 use Rattle.consolidate.proofs.ClimbMeeting.{
@@ -41,7 +42,6 @@ use Rattle.consolidate.proofs.ClimbMeeting.{
 }
 use Rattle.consolidate.proofs.LinkLists.{keeps}
 use Rattle.consolidate.proofs.LinkWords.{link-beside}
-use Rattle.consolidate.proofs.Standing.{root-in, some-item}
 
 module _ {n h base : ℕ} {rest : List ℕ} {goal : Linking} {w ps : List ℕ} {x r links : ℕ}
     (G : Climbing n h base rest goal w ps x r links) {a : ℕ} (e : a ≡ getD ps r 0) (z : a ≢ none) where

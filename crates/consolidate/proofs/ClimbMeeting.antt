@@ -1,9 +1,9 @@
 -- A tree on its way through the places meets the holder of one: which of the two comes first, and that they may be
 -- linked.
 use Prim.Native.Nat.{ℕ, _≤_, _<_}
-use mathlib.Core.Path.{_≡_, refl, ap, _∙_}
+use mathlib.Core.Path.{_≡_, sym, ap, _∙_}
 use mathlib.Core.Logic.{_≢_}
-use mathlib.Core.List.{List, [], _∷_, _++_}
+use mathlib.Core.List.{List, _∷_, _++_}
 use mathlib.Core.Bool.{Bool, true, false, cond}
 use native.Mathlib.Omega.{arith}
 use lib.ListN.{getD}
@@ -16,14 +16,15 @@ use Rattle.rules.specs.Words.{lastOr, look}
 use Rattle.rules.proofs.ConsolidateKeeps.{Held, x-in, y-in}
 use Rattle.rules.proofs.LinkKeeps.{in-row}
 use Rattle.rules.proofs.Members.{child-parent, heap-in}
-use Rattle.rules.proofs.Siblings.{last-in}
 use Rattle.store.specs.declared.Owner.the-variants.{Children}
 use Rattle.store.specs.ItemOrder.{itemKey}
-use Rattle.store.specs.Siblings.{AppendReady, RankRises, lastOf}
+use Rattle.store.specs.Siblings.{AppendReady, Link, RankRises, lastOf}
+use Rattle.store.proofs.Listed.{link-in}
+use Rattle.store.proofs.Standing.{root-in}
 use Rattle.consolidate.proofs.Beside.{beside-rank, before-says}
+use Rattle.consolidate.proofs.Chains.{last-apart}
 use Rattle.consolidate.proofs.Climbing.{Climbing, held, place-at, rank-inside, tree-inside}
 use Rattle.consolidate.proofs.LinkLists.{TwoRoots, a-in, a-root, l-in}
-use Rattle.consolidate.proofs.Standing.{root-in}
 
 -- of the holder y and the tree x, by a table of keys: the one that comes first, and the other
 abbrev pub winner : List ℕ → ℕ → ℕ → ℕ
@@ -99,22 +100,19 @@ module _ {n h base : ℕ} {rest : List ℕ} {goal : Linking} {w ps : List ℕ} {
   second-inside = omega (arith, G .state .beside .size, l-in (G .state .beside) both)
 
   -- the last child of the winner is in the table, or none
-  last-inside : look n w LastChild first ≢ none → look n w LastChild first < n
-  unfolding lastOr
-  last-inside m =
+  last-inside : Link n (look n w LastChild first)
+  last-inside =
       let c = G .state .beside .families first first-inside (λ q. omega (arith, a-root (G .state .beside) both .0)) in
       let q : look n w LastChild first ≡ lastOr none (childrenOf t first) =
       G .state .says .says LastChild first first-inside ∙ c .back in
-      go (childrenOf t first) refl q
+      link-in n (childrenOf t first) inside (look n w LastChild first)
+      (λ m z. last-apart (look n w LastChild first) (childrenOf t first) m z (sym q))
     where
-      go : (l : List ℕ) → childrenOf t first ≡ l → look n w LastChild first ≡ lastOr none l
-          → look n w LastChild first < n
-      go [] q u = absurd (m u)
-      go (c ∷ cs) q u =
-          let k = child-parent (setRow h ρ t) (H .formed .disjoint) first (lastOr c cs)
-          (omega (arith, G .state .beside .size, first-inside)) (rw q (last-in c cs)) in
-          let i = heap-in t (lastOr c cs) (k .0) in
-          omega (arith, G .state .beside .size)
+      inside : (y : ℕ) → 1 ≤ occurs y (childrenOf t first) → y < n
+      inside y i =
+          let k = child-parent (setRow h ρ t) (H .formed .disjoint) first y
+          (omega (arith, G .state .beside .size, first-inside)) i in
+          omega (arith, G .state .beside .size, heap-in t y (k .0))
 
   -- both have the rank of the place
   first-rank : rankOf t first ≡ r

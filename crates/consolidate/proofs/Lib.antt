@@ -1,6 +1,5 @@
 pub mod Chains
 pub mod MoveWords
-pub mod Standing
 pub mod Beside
 pub mod RowedWords
 pub mod LinkLists

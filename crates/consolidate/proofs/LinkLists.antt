@@ -19,11 +19,11 @@ use Rattle.rules.proofs.SiblingLists.{once-children}
 use Rattle.store.specs.declared.Owner.the-variants.{Children}
 use Rattle.store.specs.Says.{Values}
 use Rattle.store.specs.Siblings.{appended}
+use Rattle.store.proofs.Standing.{free-child, none-child, not-child, root-in, some-item}
 use Rattle.consolidate.specs.Chain.{Chain}
 use Rattle.consolidate.specs.Stored.{Beside}
 use Rattle.consolidate.proofs.Chains.{chain-append, chain-frame, last-apart}
 use Rattle.consolidate.proofs.MoveWords.{child-first, child-last, child-next, child-other, child-prev}
-use Rattle.consolidate.proofs.Standing.{free-child, none-child, not-child, root-in, some-item}
 
 -- a and l are roots of heap h, whose row is ρ
 pub record TwoRoots (h : ℕ) (ρ : List ℕ) (t : Forests) (a l : ℕ) : Type 0 where

@@ -34,6 +34,7 @@ use Rattle.store.proofs.ConcatWords.{
   concat-none,
   concat-prev,
 }
+use Rattle.store.proofs.Standing.{free-child, not-child, not-row, other-row, some-item}
 use Rattle.consolidate.specs.Chain.{Chain}
 use Rattle.consolidate.specs.Released.{released}
 use Rattle.consolidate.specs.Removed.{RootOf}
@@ -42,7 +43,6 @@ use Rattle.consolidate.proofs.Chains.{chain-frame, head-apart, last-apa
 use Rattle.consolidate.proofs.MoveWords.{out-first, out-last, released-other}
 use Rattle.consolidate.proofs.RemoveRootRow.{family, out-keeps, row₂, x-in, x-row}
 use Rattle.consolidate.proofs.RootRemoved.{plain, rootRemoved, rowJoined}
-use Rattle.consolidate.proofs.Standing.{free-child, not-child, not-row, other-row, some-item}
 
 module _ {n h m : ℕ} {w : List ℕ} {t : Forests} (R : Rowed n h m w t) {x : ℕ} (O : RootOf t h x) where
   abbrev v : Values

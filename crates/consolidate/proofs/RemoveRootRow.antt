@@ -23,6 +23,7 @@ use Rattle.store.specs.Empty.{freeItem}
 use Rattle.store.specs.Says.{Values}
 use Rattle.store.specs.Siblings.{firstOf, lastOf, removed}
 use Rattle.store.proofs.ConcatWords.{concat-first, concat-last, concat-next, concat-none, concat-prev}
+use Rattle.store.proofs.Standing.{none-row, not-row, root-in, some-item}
 use Rattle.consolidate.specs.Chain.{Chain}
 use Rattle.consolidate.specs.Released.{released}
 use Rattle.consolidate.specs.Removed.{RootOf}
@@ -30,7 +31,6 @@ use Rattle.consolidate.specs.Stored.{Rowed}
 use Rattle.consolidate.proofs.Chains.{chain-concat, chain-frame, chain-remove, head-none}
 use Rattle.consolidate.proofs.MoveWords.{out-first, out-last, out-next, out-prev, released-other}
 use Rattle.consolidate.proofs.RootRemoved.{rootRemoved, rowJoined}
-use Rattle.consolidate.proofs.Standing.{none-row, not-row, root-in, some-item}
 
 module _ {n h m : ℕ} {w : List ℕ} {t : Forests} (R : Rowed n h m w t) {x : ℕ} (O : RootOf t h x) where
   abbrev v : Values

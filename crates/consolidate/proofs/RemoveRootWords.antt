@@ -51,6 +51,7 @@ use Rattle.store.specs.Empty.{freeItem}
 use Rattle.store.specs.Says.{Values}
 use Rattle.store.specs.Siblings.{removed}
 use Rattle.store.proofs.ConcatWords.{concat-other}
+use Rattle.store.proofs.Standing.{other-row}
 use Rattle.consolidate.specs.Released.{released}
 use Rattle.consolidate.specs.Removed.{RootOf}
 use Rattle.consolidate.specs.Stored.{linked, Agree, Beside, Rowed}
@@ -58,7 +59,6 @@ use Rattle.consolidate.proofs.Beside.{beside-count, beside-key, beside-
 use Rattle.consolidate.proofs.MoveWords.{released-in}
 use Rattle.consolidate.proofs.RemoveRootLists.{free-links, other-families, other-rows}
 use Rattle.consolidate.proofs.RootRemoved.{moved, not-released, plain, rootRemoved}
-use Rattle.consolidate.proofs.Standing.{other-row}
 
 module _ {n h m : ℕ} {w : List ℕ} {t : Forests} (R : Rowed n h m w t) {x : ℕ} (O : RootOf t h x) (c : ℕ)
     (ec : c + 1 ≡ R .values Count h) where

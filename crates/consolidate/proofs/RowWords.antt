@@ -31,12 +31,12 @@ use Rattle.store.specs.declared.Owner.the-variants.{Row}
 use Rattle.store.specs.Says.{Values}
 use Rattle.store.specs.Siblings.{appended}
 use Rattle.store.proofs.ConcatWords.{linkKinds}
+use Rattle.store.proofs.Standing.{none-row, not-row, other-row, root-in, some-item}
 use Rattle.consolidate.specs.Chain.{Chain}
 use Rattle.consolidate.specs.Stored.{linked, Agree, Beside}
 use Rattle.consolidate.proofs.Beside.{beside-parent}
 use Rattle.consolidate.proofs.Chains.{chain-append, chain-frame, last-apart}
 use Rattle.consolidate.proofs.MoveWords.{row-first, row-last, row-next, row-other, row-parent, row-prev}
-use Rattle.consolidate.proofs.Standing.{none-row, not-row, other-row, root-in, some-item}
 
 module _ {n h : ℕ} {v : Values} {t : Forests} (B : Beside n h v t) where
   -- the row itself is not looked at

@@ -17,9 +17,9 @@ use Rattle.rules.proofs.LinkKeeps.{in-row, once}
 use Rattle.rules.proofs.Occurs.{occurs-append}
 use Rattle.rules.proofs.SiblingLists.{list-inside}
 use Rattle.rules.proofs.Siblings.{Once}
+use Rattle.store.proofs.Standing.{root-in}
 use Rattle.consolidate.specs.Consolidating.{Consolidating}
 use Rattle.consolidate.proofs.Climbing.{held}
-use Rattle.consolidate.proofs.Standing.{root-in}
 
 module _ {n h : ℕ} {w ps rest ahead : List ℕ} {t : Forests} (C : Consolidating n h w ps rest ahead t) where
   abbrev ρ : List ℕ

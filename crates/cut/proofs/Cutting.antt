@@ -4,7 +4,6 @@ use mathlib.Core.Path.{_≡_, sym, subst, _∙_}
 use mathlib.Core.Logic.{_≢_}
 use mathlib.Core.List.{List}
 use native.Mathlib.Omega.{arith}
-use borrow.Author.Tests.{ne-eqb}
 use Rattle.rules.specs.declared.Field.the-variants.{Parent, State}
 use Rattle.rules.specs.Lists.{occurs}
 use Rattle.rules.specs.Forests.{Forests, none, parentOf, markOf, heapOf, tableSize, setMark}
@@ -13,8 +12,7 @@ use Rattle.rules.specs.WellFormed.{Disjoint}
 use Rattle.rules.specs.SetWord.{setWord}
 use Rattle.rules.specs.Words.{look, stateOf, word}
 use Rattle.rules.proofs.CutKeeps.{cut-disjoint}
-use Rattle.rules.proofs.Members.{heap-in, parent-child}
-use Rattle.rules.proofs.Occurs.{and-false}
+use Rattle.rules.proofs.Members.{parent-child}
 use Rattle.store.specs.declared.Owner.the-variants.{Row, Children}
 use Rattle.store.specs.Says.{Changes}
 use Rattle.store.specs.Siblings.{appended, removed, AppendReady, RemoveReady}
@@ -23,6 +21,7 @@ use Rattle.store.proofs.Ready.{append-ready, remove-ready}
 use Rattle.store.proofs.Holds.{append-holds, remove-holds}
 use Rattle.store.proofs.Encoded.{row-family, children-family}
 use Rattle.store.proofs.Scalars.{mark-holds}
+use Rattle.store.proofs.Standing.{not-row, root-in}
 use Rattle.cut.specs.Ready.{Member, Child}
 
 -- a heap's number, and an item, are in the table
@@ -32,7 +31,7 @@ member-heap {t} {h} {x} M = omega (arith, M .disjoint .heaps x, M .heap)
 pub member-item : {n : ℕ} {w : List ℕ} {c m : ℕ → ℕ} {t : Forests} {h x y : ℕ} → Holds n w c m t y → Member t h x
     → x < n
 member-item {t = t} {x = x} H M =
-    omega (arith, heap-in t x (λ e. omega (arith, e, M .heap)), H .shape .heapN)
+    omega (arith, root-in t (M .heap), H .shape .heapN)
 
 -- the parent word of an item
 pub parent-word : {n : ℕ} {w : List ℕ} {c m : ℕ → ℕ} {t : Forests} {x : ℕ} → Holds n w c m t none → x < n
@@ -106,7 +105,7 @@ module _ {n : ℕ} {w : List ℕ} {c m : ℕ → ℕ} {t : Forests} {h x p : ℕ
     -- x is not in the row yet
     absent : occurs x (listOf (setMark x 0 (removeFrom (Children p) x t)) (Row h)) ≡ 0
     unfolding removeFrom listOf
-    absent = D .inRow h x ∙ rw (ne-eqb (parentOf t x) none (C .child), and-false)
+    absent = not-row t D h x (C .child)
 
     -- the three steps are the cut of the rules
     same : appendTo (Row h) x (setMark x 0 (removeFrom (Children p) x t)) ≡ cut h x t

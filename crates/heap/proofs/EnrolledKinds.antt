@@ -23,7 +23,7 @@ use Rattle.store.specs.Families.{wordBut}
 use Rattle.store.specs.ItemOrder.{itemKey}
 use Rattle.store.proofs.ItemOrder.{key-is}
 use Rattle.store.proofs.SetAt.{getD-set}
-use Rattle.consolidate.proofs.Standing.{none-row}
+use Rattle.store.proofs.Standing.{none-row}
 use Rattle.heap.specs.Entered.{enrolled}
 use Rattle.heap.proofs.EnteredKinds.{MayEnter, out}
 

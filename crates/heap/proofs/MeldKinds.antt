@@ -6,7 +6,7 @@ use mathlib.Core.List.{List, [], _∷_, _++_}
 use mathlib.Core.Bool.{Bool, true, false, cond}
 use native.Mathlib.Omega.{arith}
 use lib.Dec.{eqb}
-use borrow.Author.Tests.{eqb-true, eqb-false, ne-eqb}
+use borrow.Author.Tests.{eqb-true, eqb-false}
 use Rattle.rules.specs.declared.Field.{Field}
 use Rattle.rules.specs.declared.Field.the-variants.{
   Count,
@@ -35,7 +35,7 @@ use Rattle.store.specs.Empty.{emptyHeap}
 use Rattle.store.specs.ItemOrder.{itemKey}
 use Rattle.store.proofs.ConcatWords.{linkKinds}
 use Rattle.store.proofs.ItemOrder.{key-is}
-use Rattle.consolidate.proofs.Standing.{none-row}
+use Rattle.store.proofs.Standing.{none-row, other-row}
 use Rattle.heap.specs.HeapsJoined.{heapsJoined, movedState, poured, rehomed}
 use Rattle.heap.proofs.FollowedRow.{
   after,
@@ -83,10 +83,10 @@ module _ {t : Forests} {a b : ℕ} (H : TwoHeaps t a b) where
 
   -- a root of one of the two heaps is not in the row of the other
   out-one : (j : ℕ) → heapOf t j ≡ suc b → occurs j (rowOf t a) ≡ 0
-  out-one j e = D .inRow a j ∙ rw (e, ne-eqb (suc b) (suc a) (λ q. H .two (omega arith)))
+  out-one j e = other-row t D a j (λ z. H .two (omega (arith, e, z)))
 
   out-two : (j : ℕ) → heapOf t j ≡ suc a → occurs j (rowOf t b) ≡ 0
-  out-two j e = D .inRow b j ∙ rw (e, ne-eqb (suc a) (suc b) (λ q. H .two (omega arith)))
+  out-two j e = other-row t D b j (λ z. H .two (omega (arith, e, z)))
 
   n₂ : occurs none (rowOf t b) ≡ 0
   n₂ = none-row t D b
