@@ -48,12 +48,7 @@ unfolding headOr occurs sumBy
 head-apart y [] n k e = n (sym e)
 head-apart y (z ∷ zs) n k e = omega (arith, delta-self y, ap (delta y) e)
 
--- the last of a list is none where the list is empty
-pub last-none : (l : List ℕ) → occurs none l ≡ 0 → lastOr none l ≡ none → l ≡ []
-unfolding lastOr
-last-none [] n e = refl
-last-none (z ∷ zs) n e = absurd (omega (arith, last-in z zs, ap (λ q. occurs q (z ∷ zs)) e))
-
+-- a list without a first is empty
 pub head-none : (l : List ℕ) → occurs none l ≡ 0 → headOr none l ≡ none → l ≡ []
 unfolding headOr occurs sumBy
 head-none [] n e = refl
@@ -84,6 +79,7 @@ module _ {f l a b : ℕ} {nx pv : ℕ → ℕ} (m k : List ℕ) (c : Chain f l n
     left : 1 ≤ occurs y m → occurs y k ≡ 0 → Side y
     right : occurs y m ≡ 0 → 1 ≤ occurs y k → Side y
 
+  -- a member of both lists together is in one of them
   side : (y : ℕ) → 1 ≤ occurs y (m ++ k) → Side y
   side y i = go (eqb (occurs y m) 0) refl
     where
@@ -129,6 +125,7 @@ module _ {f l a b : ℕ} {nx pv : ℕ → ℕ} (m k : List ℕ) (c : Chain f l n
 
 -- ---- an item at the end
 
+-- a list of one item
 alone : (x : ℕ) (nx pv : ℕ → ℕ) → nx x ≡ none → pv x ≡ none → Chain x x nx pv (x ∷ [])
 unfolding headOr lastOr nextIn prevIn occurs sumBy
 alone x nx pv e q =

@@ -7,35 +7,19 @@ use lib.ListN.{length, getD, set}
 use borrow.Author.Tests.{eq-eqb}
 use Rattle.rules.specs.declared.Field.the-variants.{Rank}
 use Rattle.rules.specs.Consolidate.{Linking, climb, isFree, occupied}
-use Rattle.rules.specs.Forests.{Forests, keyOf, none, rankOf, setRow}
-use Rattle.rules.specs.Order.{comesBefore, precedes}
+use Rattle.rules.specs.Forests.{Forests, none, rankOf, setRow}
 use Rattle.rules.specs.WellFormed.{KeysFit}
 use Rattle.rules.specs.Words.{look}
 use Rattle.rules.proofs.ConsolidateKeeps.{Held, low, put, x-heap}
 use Rattle.rules.proofs.Excused.{to-formed, well-formed}
-use Rattle.rules.proofs.Order.{before-keys}
-use Rattle.store.specs.ItemOrder.{itemKey}
-use Rattle.store.specs.Says.{Says, Values}
-use Rattle.store.proofs.ItemOrder.{key-is, key-says}
 use Rattle.consolidate.specs.Consolidating.{Consolidating, Settled, settle}
-use Rattle.consolidate.specs.Stored.{Beside}
-use Rattle.consolidate.proofs.Beside.{beside-key, beside-rank}
+use Rattle.consolidate.proofs.Beside.{beside-rank}
 
--- a read past no default
-pub getD-any : (l : List ℕ) (i a b : ℕ) → i < length l → getD l i a ≡ getD l i b
+-- a read within the list needs no default
+getD-any : (l : List ℕ) (i a b : ℕ) → i < length l → getD l i a ≡ getD l i b
 getD-any [] i a b k = absurd (omega arith)
 getD-any (x ∷ l) zero a b k = refl
 getD-any (x ∷ l) (suc i) a b k = getD-any l i a b (omega arith)
-
--- the keys by the words are those of the forests, and so is the order
-pub key-beside : {n h : ℕ} {w : List ℕ} {v : Values} {t : Forests} → Says n w v → Beside n h v t → (i : ℕ) → i < n
-    → itemKey (look n w) i ≡ keyOf t i
-key-beside {v = v} {t = t} s B i k = key-says s i k ∙ key-is v t i (beside-key B i k)
-
-pub before-says : {n h : ℕ} {w : List ℕ} {v : Values} {t : Forests} → Says n w v → Beside n h v t → (a b : ℕ) → a < n
-    → b < n → comesBefore (itemKey (look n w)) a b ≡ precedes (t .key) a b
-before-says {n} {h} {w} {v} {t} s B a b i j =
-    before-keys (itemKey (look n w)) (keyOf t) a b (key-beside s B a i) (key-beside s B b j)
 
 module _ {n h : ℕ} {w ps trees rest : List ℕ} {t : Forests} (C : Consolidating n h w ps trees rest t) where
   pub held : Held h ps trees t
@@ -46,6 +30,7 @@ module _ {n h : ℕ} {w ps trees rest : List ℕ} {t : Forests} (C : Consolidati
   unfolding KeysFit
   keys-fit = C .formed .keys
 
+-- The tree x, of rank r, is on its way: what is left to do from here gives the goal. `fuel` bounds the links to come.
 pub record Climbing (n h base : ℕ) (rest : List ℕ) (goal : Linking) (w ps : List ℕ) (x r links : ℕ) : Type 0 where
   pub here : Forests
   pub made : ℕ
@@ -57,6 +42,7 @@ pub record Climbing (n h base : ℕ) (rest : List ℕ) (goal : Linking) (w ps : 
   pub enough : 18 ≤ fuel + r
   pub whole : climb fuel (isFree ps r) r x (record { places = ps; links = made; forests = here }) ≡ goal
 
+-- a tree comes to the places
 pub climb-starts : (n h base k : ℕ) (rest w ps : List ℕ) (t : Forests) (x links r : ℕ)
     → Consolidating n h w ps (x ∷ rest) rest t → links ≡ base + k → links + length (occupied ps) ≤ 4294967295
     → r ≡ look n w Rank x → Climbing n h base rest (settle ps k t x) w ps x r links
@@ -81,12 +67,6 @@ module _ {n h base : ℕ} {rest : List ℕ} {goal : Linking} {w ps : List ℕ} {
   abbrev t : Forests
   t = G .here
 
-  abbrev ρ : List ℕ
-  ρ = occupied ps ++ (x ∷ rest)
-
-  abbrev y : ℕ
-  y = getD ps r none
-
   H : Held h ps (x ∷ rest) t
   H = held (G .state)
 
@@ -104,6 +84,7 @@ module _ {n h base : ℕ} {rest : List ℕ} {goal : Linking} {w ps : List ℕ} {
 
   -- ---- the place is free
 
+  -- it rests there
   pub climb-ends : {a : ℕ} → a ≡ getD ps r 0 → a ≡ none → Settled n h base rest w (set ps r x) links goal
   unfolding climb isFree KeysFit
   climb-ends e z =

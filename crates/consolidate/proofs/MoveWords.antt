@@ -41,11 +41,8 @@ use Rattle.store.specs.Siblings.{
   removed,
 }
 use Rattle.store.proofs.ConcatWords.{linkKinds}
+use Rattle.store.proofs.SetAt.{cond-same}
 use Rattle.consolidate.specs.Released.{released}
-
-pub cond-same : (t : Bool) (x : ℕ) → cond t x x ≡ x
-cond-same true x = refl
-cond-same false x = refl
 
 -- ---- an item at the end of the children of a
 

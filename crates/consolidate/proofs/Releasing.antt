@@ -15,6 +15,7 @@ use Rattle.store.specs.Says.{Changes, Says, Values}
 use Rattle.store.proofs.Says.{changes-none, changes-then, says-look}
 use Rattle.consolidate.specs.Released.{Listed, released}
 
+-- The items of rest are still to be released, from c on: `done` is what was stored so far.
 pub record Releasing (n h : ℕ) (start cs w : List ℕ) (c k : ℕ) : Type 0 where
   pub rest : List ℕ
   pub done : Values → Values
@@ -35,6 +36,7 @@ module _ {n h : ℕ} {start cs w : List ℕ} {c k : ℕ} (G : Releasing n h star
   pub child-inside : 0 < k → c < n
   child-inside m = G .listed .inside c (some (G .rest) m (G .listed))
 
+  -- none is left
   pub release-ends : k ≡ 0 → Changes n start (released h cs) w
   unfolding released
   release-ends e = go (G .rest) (G .listed) (G .whole)
@@ -52,6 +54,7 @@ module _ {n h : ℕ} {start cs w : List ℕ} {c k : ℕ} (G : Releasing n h star
     same-next : (y : ℕ) → y < n → look n w₂ Next y ≡ look n w Next y
     same-next y i = b .says _ (a .says _ (says-look n w (G .listed .sized))) .says Next y i
 
+    -- one fewer is listed
     next-list : (y : ℕ) (l : List ℕ) → Listed n w c k (y ∷ l) → c ≡ y → Listed n w₂ c′ k′ l
     unfolding occurs sumBy nextIn
     next-list y l L z =

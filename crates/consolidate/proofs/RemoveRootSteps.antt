@@ -1,15 +1,11 @@
 -- A root leaves its heap: what each store of the code needs, and what the words are at the end.
 use Prim.Native.Nat.{ℕ, _-_, _≤_, _<_}
 use mathlib.Core.Path.{_≡_, refl, sym, ap, _∙_}
-use mathlib.Core.Logic.{_≢_}
 use mathlib.Core.List.{List, _∷_}
-use mathlib.Core.Bool.{Bool, true, false}
 use native.Mathlib.Omega.{arith}
-use lib.Dec.{eqb}
-use borrow.Author.Tests.{eqb-true, eqb-false}
 use Rattle.rules.specs.declared.Field.the-variants.{Count, FirstChild, LastChild, LastTree, Minimum, Next, Prev, Rank}
 use Rattle.rules.specs.Calls.{removeRoot, setFree, release}
-use Rattle.rules.specs.Forests.{Forests, none, childrenOf, rowOf, tableSize}
+use Rattle.rules.specs.Forests.{Forests, none, childrenOf, rowOf}
 use Rattle.rules.specs.Lists.{occurs, sumBy, without}
 use Rattle.rules.specs.SetWord.{setWord}
 use Rattle.rules.specs.Words.{lastOr, look, nextIn, prevIn}
@@ -21,40 +17,28 @@ use Rattle.rules.proofs.SiblingLists.{once-children}
 use Rattle.store.specs.declared.Owner.the-variants.{Row}
 use Rattle.store.specs.Empty.{freeItem}
 use Rattle.store.specs.Says.{Changes, Says}
-use Rattle.store.specs.Siblings.{ConcatReady, Link, RankFalls, RemoveReady, lastOf, concatenated, removed}
+use Rattle.store.specs.Siblings.{ConcatReady, RankFalls, RemoveReady, lastOf, concatenated, removed}
+use Rattle.store.proofs.Listed.{link-in}
 use Rattle.consolidate.specs.Released.{Listed, ReleaseReady, Releases, released}
 use Rattle.consolidate.specs.Removed.{RootOf}
 use Rattle.consolidate.specs.Stored.{Rowed}
 use Rattle.consolidate.proofs.Beside.{beside-count, beside-rank}
 use Rattle.consolidate.proofs.Chains.{head-apart, last-apart}
-use Rattle.consolidate.proofs.RemoveRootLinks.{
+use Rattle.consolidate.proofs.RemoveRootRow.{
   child-out,
   family,
-  out-keeps,
-  plain,
-  rootRemoved,
+  out-links,
   row₂,
   row₅,
   x-in,
   x-row,
 }
 use Rattle.consolidate.proofs.RemoveRootWords.{remove-beside}
+use Rattle.consolidate.proofs.RootRemoved.{plain, rootRemoved}
 
--- whoever is a member unless it is none is in the table, or none
-link-in : (n : ℕ) (l : List ℕ) → ((y : ℕ) → 1 ≤ occurs y l → y < n) → (a : ℕ) → (a ≢ none → occurs a l ≡ 0 → ⊥)
-    → Link n a
-link-in n l f a g m = go (eqb (occurs a l) 0) refl
-  where
-    go : (b : Bool) → eqb (occurs a l) 0 ≡ b → a < n
-    go true e = absurd (g m (eqb-true (occurs a l) 0 e))
-    go false e = let d : occurs a l ≢ 0 = eqb-false (occurs a l) 0 e in f a (omega arith)
-
-module _ (n h m : ℕ) (w : List ℕ) (t : Forests) (R : Rowed n h m w t) (x : ℕ) (O : RootOf t h x) where
-  inside : x < tableSize t
-  inside = x-in n h (R .values) t (O .disjoint) (R .beside) (R .row) x (O .member) (O .root)
-
+module _ {n h m : ℕ} {w : List ℕ} {t : Forests} (R : Rowed n h m w t) {x : ℕ} (O : RootOf t h x) where
   pub root-inside : x < n
-  root-inside = omega (arith, R .beside .size, inside)
+  root-inside = omega (arith, R .beside .size, x-in R O)
 
   pub heap-inside : h < 8
   heap-inside = omega (arith, O .disjoint .heaps x, O .member)
@@ -66,14 +50,14 @@ module _ (n h m : ℕ) (w : List ℕ) (t : Forests) (R : Rowed n h m w t) (x : �
 
   child-inside : (y : ℕ) → 1 ≤ occurs y (childrenOf t x) → y < n
   child-inside y i =
-      let k = heap-in t y (child-parent t (O .disjoint) x y inside i .0) in
+      let k = heap-in t y (child-parent t (O .disjoint) x y (x-in R O) i .0) in
       omega (arith, R .beside .size)
 
   pub remove-ready : RemoveReady n w (Row h) x
   unfolding RankFalls occurs sumBy
   remove-ready =
       let i : 1 ≤ occurs x (rowOf t h) =
-      omega (arith, x-row n h (R .values) t (O .disjoint) (R .beside) (R .row) x (O .member) (O .root)) in
+      omega (arith, x-row R O) in
       let e : look n w Next x ≡ nextIn x (rowOf t h) = R .says .says Next x root-inside ∙ R .row .nexts x i in
       let f : look n w Prev x ≡ prevIn none x (rowOf t h) = R .says .says Prev x root-inside ∙ R .row .prevs x i in
       record {
@@ -91,6 +75,7 @@ module _ (n h m : ℕ) (w : List ℕ) (t : Forests) (R : Rowed n h m w t) (x : �
         rank = tt;
       }
 
+  -- the heap has x at least
   pub some-left : {c : ℕ} → c ≡ look n w Count h → 1 ≤ c
   unfolding removeRoot setFree release
   some-left ec =
@@ -108,27 +93,28 @@ module _ (n h m : ℕ) (w : List ℕ) (t : Forests) (R : Rowed n h m w t) (x : �
 
   module _ {w₁ : List ℕ} (c₁ : Changes n w (removed (Row h) x) w₁) {a k : ℕ} (ea : a ≡ look n w FirstChild x)
       (ek : k ≡ look n w Rank x) where
-    pub released-list : Listed n w₁ a k (childrenOf t x)
+    -- the children, as the words list them once x has left
+    released-list : Listed n w₁ a k (childrenOf t x)
     released-list =
         let D = O .disjoint in
-        let F = family n h (R .values) t D (R .beside) (R .row) x (O .member) (O .root) in
+        let F = family R O in
         record {
           sized = c₁ .sized;
           first = first-is ea ∙ F .front;
           long = sym (ek ∙ R .says .says Rank x root-inside ∙ beside-rank (R .beside) x root-inside);
           inside = child-inside;
-          once = once-children t D x inside;
+          once = once-children t (O .disjoint) x (x-in R O);
           nexts = λ y i.
-              let o = child-out n h (R .values) t D (R .beside) (R .row) x (O .member) (O .root) y i in
+              let o = child-out R O y i in
               c₁ .says (R .values) (R .says) .says Next y (child-inside y i)
-              ∙ out-keeps n h (R .values) t D (R .beside) (R .row) x (O .member) (O .root) y (o .0) (o .1) .0
+              ∙ out-links R O y (o .0) (o .1) .0
               ∙ F .nexts y i;
         }
 
     pub release-ready : ReleaseReady n w₁ h a k
     release-ready = record { heap = heap-inside; list = childrenOf t x; listed = released-list }
 
-    module _ (w₂ : List ℕ) (c₂ : Releases n w₁ h a k w₂) where
+    module _ {w₂ : List ℕ} (c₂ : Releases n w₁ h a k w₂) where
       changed : Changes n w₁ (released h (childrenOf t x)) w₂
       unfolding Releases
       changed = c₂ (childrenOf t x) released-list
@@ -137,12 +123,12 @@ module _ (n h m : ℕ) (w : List ℕ) (t : Forests) (R : Rowed n h m w t) (x : �
       unfolding lastOf
       concat-ready =
           let D = O .disjoint in
-          let F = family n h (R .values) t D (R .beside) (R .row) x (O .member) (O .root) in
-          let C = row₂ n h (R .values) t D (R .beside) (R .row) x (O .member) (O .root) in
+          let F = family R O in
+          let C = row₂ R O in
           let l : look n w₂ LastTree h ≡ lastOr none (without x (rowOf t h)) =
           changed .says _ (c₁ .says (R .values) (R .says)) .says LastTree h heap-inside ∙ C .back in
           let i : 1 ≤ occurs x (rowOf t h) =
-          omega (arith, x-row n h (R .values) t (O .disjoint) (R .beside) (R .row) x (O .member) (O .root)) in
+          omega (arith, x-row R O) in
           record {
             owner = record { sized = changed .sized; inside = heap-inside };
             last = link-in n (without x (rowOf t h))
@@ -163,14 +149,14 @@ module _ (n h m : ℕ) (w : List ℕ) (t : Forests) (R : Rowed n h m w t) (x : �
             let e = first-is ea in
             let f : b ≡ v LastChild x = eb ∙ R .says .says LastChild x root-inside in
             let g : c ≡ v Count h = ec ∙ R .says .says Count h heap-inside in
-            let s : Says n w₅ (rootRemoved h x (childrenOf t x) (v FirstChild x) (v LastChild x) (c - 1) v) =
+            let s : Says n w₅ (rootRemoved h x (childrenOf t x) (c - 1) v) =
             rw (e, f) at (c₅ .says _ (c₄ .says _ (c₃ .says _ (changed .says _ (c₁ .says v (R .says)))))) in
             record {
-              values = rootRemoved h x (childrenOf t x) (v FirstChild x) (v LastChild x) (c - 1) v;
+              values = rootRemoved h x (childrenOf t x) (c - 1) v;
               says = s;
-              beside = remove-beside n h v t D (R .beside) (R .row) x (O .member) (O .root) (c - 1)
+              beside = remove-beside R O (c - 1)
                   (omega (arith, g, some-left ec));
-              row = row₅ n h v t D (R .beside) (R .row) x (O .member) (O .root) (c - 1);
-              least = plain n h v t D (R .beside) (R .row) x (O .member) (O .root) Minimum h refl
+              row = row₅ R O (c - 1);
+              least = plain h x (childrenOf t x) v Minimum h refl
                   ∙ R .least;
             }

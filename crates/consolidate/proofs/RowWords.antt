@@ -23,7 +23,7 @@ use Rattle.rules.specs.SetWord.{setWord}
 use Rattle.rules.specs.WellFormed.{Disjoint}
 use Rattle.rules.specs.Words.{word}
 use Rattle.rules.proofs.ByKind.{apart-from, apart-some, by-others}
-use Rattle.rules.proofs.Members.{heap-in, out-heap, not-none, row-root, child-parent}
+use Rattle.rules.proofs.Members.{heap-in, row-root, child-parent}
 use Rattle.rules.proofs.Occurs.{byItem, eqb-self, delta-self, occurs-append}
 use Rattle.rules.proofs.Parts.{children, parents, keys, marks, heaps, kept-words}
 use Rattle.rules.proofs.SiblingLists.{once-row}
@@ -31,9 +31,10 @@ use Rattle.store.specs.declared.Owner.the-variants.{Row}
 use Rattle.store.specs.Says.{Values}
 use Rattle.store.specs.Siblings.{appended}
 use Rattle.store.proofs.ConcatWords.{linkKinds}
+use Rattle.store.proofs.Standing.{none-row, not-row, other-row, root-in, some-item}
 use Rattle.consolidate.specs.Chain.{Chain}
 use Rattle.consolidate.specs.Stored.{linked, Agree, Beside}
-use Rattle.consolidate.proofs.Beside.{beside-parent, not-row, other-row}
+use Rattle.consolidate.proofs.Beside.{beside-parent}
 use Rattle.consolidate.proofs.Chains.{chain-append, chain-frame, last-apart}
 use Rattle.consolidate.proofs.MoveWords.{row-first, row-last, row-next, row-other, row-parent, row-prev}
 
@@ -81,11 +82,13 @@ module _ {n h : ℕ} {v : Values} {t : Forests} (B : Beside n h v t) where
 
 -- ---- a tree at the end of the row, of which m is written and k is to come
 
-module _ (n h : ℕ) (v : Values) (t : Forests) (D : Disjoint t) (hh : h < 8) (B : Beside n h v t) (m k : List ℕ)
-    (C : Chain (v FirstTree h) (v LastTree h) (v Next) (v Prev) m) (x : ℕ) (e : rowOf t h ≡ m ++ (x ∷ k)) where
+module _ {n h : ℕ} {v : Values} {t : Forests} (D : Disjoint t) (B : Beside n h v t) {m : List ℕ}
+    (C : Chain (v FirstTree h) (v LastTree h) (v Next) (v Prev) m) (x : ℕ) (k : List ℕ)
+    (e : rowOf t h ≡ m ++ (x ∷ k)) where
   abbrev v′ : Values
   v′ = appended (Row h) x v
 
+  -- who is in the row: written, x, or to come
   in-row : (y : ℕ) → occurs y (rowOf t h) ≡ occurs y m + delta y x + occurs y k
   unfolding occurs sumBy
   in-row y = rw e (omega (arith, occurs-append y m (x ∷ k)))
@@ -93,27 +96,20 @@ module _ (n h : ℕ) (v : Values) (t : Forests) (D : Disjoint t) (hh : h < 8) (B
   x-root : (heapOf t x ≡ suc h) × (parentOf t x ≡ none)
   x-root = row-root t D h x (omega (arith, in-row x, delta-self x))
 
-  pub x-in : x < tableSize t
-  x-in = heap-in t x (λ z. omega (arith, x-root .0))
+  x-in : x < tableSize t
+  x-in = root-in t (x-root .0)
 
-  some : (y : ℕ) → y < tableSize t → y ≢ none
-  some y i z = not-none t D y i (sym z)
-
-  none-row : occurs none m ≡ 0
-  none-row =
-      omega (
-        arith,
-        in-row none,
-        other-row t D h none (λ z. omega (arith, z, out-heap t none (omega (arith, D .small)))),
-      )
+  none-out : occurs none m ≡ 0
+  none-out = omega (arith, in-row none, none-row t D h)
 
   x-out : occurs x m ≡ 0
   x-out = omega (arith, in-row x, delta-self x, once-row t D h x)
 
+  -- the row with x at its end
   pub longer : Chain (v′ FirstTree h) (v′ LastTree h) (v′ Next) (v′ Prev) (m ++ (x ∷ []))
   longer =
       rw (row-last h x v h, eqb-self h)
-      (chain-append m C x (λ y. omega (arith, in-row y, once-row t D h y)) none-row x-out (some x x-in)
+      (chain-append m C x (λ y. omega (arith, in-row y, once-row t D h y)) none-out x-out (some-item t D x x-in)
       (v′ FirstTree h) (v′ Next) (v′ Prev)
       (row-first h x v h ∙ rw (eqb-self h)) (row-next h x v) (row-prev h x v))
 
@@ -121,7 +117,8 @@ module _ (n h : ℕ) (v : Values) (t : Forests) (D : Disjoint t) (hh : h < 8) (B
   keeps : (y : ℕ) → y < tableSize t → occurs y (rowOf t h) ≡ 0 → (v′ Next y ≡ v Next y) × (v′ Prev y ≡ v Prev y)
   keeps y i z =
       let a : x ≢ y = λ q. omega (arith, in-row y, ap (delta y) q, delta-self y) in
-      let l : v LastTree h ≢ y = λ q. last-apart y m (some y i) (omega (arith, in-row y)) (sym (C .back) ∙ q) in (
+      let l : v LastTree h ≢ y =
+      λ q. last-apart y m (some-item t D y i) (omega (arith, in-row y)) (sym (C .back) ∙ q) in (
         row-next h x v y ∙ rw (ne-eqb (v LastTree h) y l, ne-eqb x y a),
         row-prev h x v y ∙ rw (ne-eqb x y a),
       )
@@ -139,7 +136,7 @@ module _ (n h : ℕ) (v : Values) (t : Forests) (D : Disjoint t) (hh : h < 8) (B
       → (y < tableSize t) × (occurs y (rowOf t h) ≡ 0)
   child-member p y j i =
       let r = child-parent t D p y j i in
-      (heap-in t y (r .0), not-row t D h y (λ z. some p j (sym (r .1) ∙ z)))
+      (heap-in t y (r .0), not-row t D h y (λ z. some-item t D p j (sym (r .1) ∙ z)))
 
   -- x is a root, and all others keep their parents
   at-x : x < n → v′ Parent x ≡ word t Parent x

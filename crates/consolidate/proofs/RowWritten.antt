@@ -20,9 +20,10 @@ use Rattle.rules.proofs.Occurs.{eqb-self}
 use Rattle.store.specs.Says.{Changes}
 use Rattle.consolidate.specs.Consolidating.{Consolidating}
 use Rattle.consolidate.specs.Writing.{Coming, Writing}
-use Rattle.consolidate.proofs.Beside.{rowed-words}
 use Rattle.consolidate.proofs.RowWords.{beside-ends, beside-minimum, beside-row}
+use Rattle.consolidate.proofs.RowedWords.{rowed-words}
 
+-- the trees at the places a and then at b
 occupied-append : (a b : List ℕ) → occupied (a ++ b) ≡ occupied a ++ occupied b
 unfolding occupied
 occupied-append [] b = refl
@@ -65,6 +66,7 @@ module _ {n h : ℕ} {w ps : List ℕ} {t : Forests} (C : Consolidating n h w ps
 
 module _ (h : ℕ) (ps : List ℕ) (r : ℕ) (t : Forests) (D : Disjoint t) (hh : h < 8) (e : rowOf t h ≡ occupied ps)
     (long : length ps ≡ 17) where
+  -- the trees up to place r, and the one there
   next-place : (x : ℕ) → r < 17 → x ≡ getD ps r 0
       → occupied (take (r + 1) ps) ≡ occupied (take r ps) ++ occupied (x ∷ [])
   next-place x k q = rw (add-one r, take-suc ps r 0 (omega arith), ← q) (occupied-append (take r ps) (x ∷ []))

@@ -2,73 +2,27 @@
 use Prim.Native.Nat.{ℕ, suc, _+_, _≤_, _<_}
 use mathlib.Core.Path.{_≡_, refl, sym, ap, subst, _∙_}
 use mathlib.Core.Logic.{_≢_}
-use mathlib.Core.List.{List, [], _∷_, _++_}
-use mathlib.Core.Bool.{Bool, true, false}
+use mathlib.Core.List.{List, [], _∷_}
 use native.Mathlib.Omega.{arith}
-use lib.Dec.{leb}
 use lib.ListN.{length, replicate}
-use borrow.Author.Tests.{leb-true, leb-false, ne-eqb}
+use borrow.Author.Tests.{ne-eqb}
 use Rattle.rules.specs.declared.Field.the-variants.{FirstTree, Next}
 use Rattle.rules.specs.Consolidate.{Linking, isFree, linkTrees, occupied}
-use Rattle.rules.specs.Forests.{Forests, none, heapOf, parentOf, rankOf, rowOf, setRow}
+use Rattle.rules.specs.Forests.{Forests, none, rankOf, rowOf, setRow}
 use Rattle.rules.specs.Lists.{occurs, sumBy}
 use Rattle.rules.specs.WellFormed.{KeysFit, WellFormed}
 use Rattle.rules.specs.Words.{follow, headOr, look, nextIn}
 use Rattle.rules.proofs.ConsolidateKeeps.{start}
 use Rattle.rules.proofs.Excused.{to-formed, well-formed}
-use Rattle.rules.proofs.Follow.{follow-list, once-short}
-use Rattle.rules.proofs.LinkKeeps.{in-row, once}
-use Rattle.rules.proofs.Members.{heap-in}
-use Rattle.rules.proofs.Occurs.{delta-self, eqb-self, occurs-append}
+use Rattle.rules.proofs.Occurs.{delta-self, eqb-self}
 use Rattle.rules.proofs.Potential.{climb-count, length-occupied}
-use Rattle.rules.proofs.SiblingLists.{list-inside}
-use Rattle.rules.proofs.Siblings.{Once, head-out}
+use Rattle.rules.proofs.Siblings.{head-out}
 use Rattle.consolidate.specs.Consolidating.{ClimbReady, Consolidating, Settled, Settles, linkRow, settle}
 use Rattle.consolidate.specs.Stored.{Rowed}
 use Rattle.consolidate.proofs.Chains.{head-none}
-use Rattle.consolidate.proofs.Climbing.{held}
+use Rattle.consolidate.proofs.TreesToCome.{comes-inside, comes-once, follows, none-comes, rest-short}
 
--- the trees to come are roots of heap h, each once
-module _ {n h : ℕ} {w ps rest ahead : List ℕ} {t : Forests} (C : Consolidating n h w ps rest ahead t) where
-  abbrev ρ : List ℕ
-  ρ = occupied ps ++ rest
-
-  comes-root : (y : ℕ) → 1 ≤ occurs y rest → (heapOf t y ≡ suc h) × (parentOf t y ≡ none)
-  comes-root y i = in-row t h ρ (held C .formed) (C .heap) y (omega (arith, occurs-append y (occupied ps) rest))
-
-  pub comes-inside : (y : ℕ) → 1 ≤ occurs y rest → y < n
-  comes-inside y i =
-      let k = heap-in t y (λ e. omega (arith, comes-root y i .0)) in
-      omega (arith, C .beside .size)
-
-  comes-once : Once rest
-  comes-once y = go (leb (occurs y rest) 1) refl
-    where
-      go : (b : Bool) → leb (occurs y rest) 1 ≡ b → occurs y rest ≤ 1
-      go true e = leb-true (occurs y rest) 1 e
-      go false e =
-          let k : 1 < occurs y rest = leb-false (occurs y rest) 1 e in
-          let a = occurs-append y (occupied ps) rest in
-          omega (arith, a, once t h ρ (held C .formed) (C .heap) y (omega (arith, a)))
-
-  outside : (y : ℕ) → n ≤ y → occurs y rest ≡ 0
-  outside y k =
-      list-inside (setRow h ρ t) (C .formed .disjoint) rest (λ z i e. omega (arith, e, comes-root z i .0)) y
-      (omega (arith, C .beside .size))
-
-  pub none-comes : occurs none rest ≡ 0
-  none-comes = outside none (omega (arith, C .says .sized .small))
-
-  pub rest-short : length rest ≤ n
-  rest-short = once-short n rest comes-once outside
-
--- the trees to come, by the next words
-pub follows : {n h : ℕ} {w ps rest : List ℕ} {t : Forests} → Consolidating n h w ps rest rest t
-    → follow n (look n w Next) (headOr none rest) ≡ rest
-follows {n} {h} {w} {ps} {rest} C =
-    follow-list n (look n w Next) rest (rest-short C) (comes-once C) (none-comes C)
-    (λ y i. C .says .says Next y (comes-inside C y i) ∙ C .ahead y i)
-
+-- The trees of rest are to come, x first: what is left to do from here gives the goal.
 pub record Walking (n h base : ℕ) (goal : Linking) (w ps : List ℕ) (x links : ℕ) : Type 0 where
   pub here : Forests
   pub made : ℕ
@@ -79,6 +33,7 @@ pub record Walking (n h base : ℕ) (goal : Linking) (w ps : List ℕ) (x links 
   pub fits : links + length (occupied ps) + length rest ≤ 4294967295
   pub whole : linkTrees 18 rest (record { places = ps; links = made; forests = here }) ≡ goal
 
+-- all trees of the row are to come, and all places are free
 pub walk-starts : {n h m : ℕ} {w : List ℕ} {t : Forests} (x links : ℕ) → Rowed n h m w t → WellFormed t → h < 8
     → x ≡ look n w FirstTree h → links + 4096 ≤ 4294967295
     → Walking n h links (linkRow h t) w (replicate 17 none) x links
@@ -108,6 +63,7 @@ walk-starts {n} {h} {m} {w} {t} x links R W k e f =
     }
 
 module _ {n h base : ℕ} {goal : Linking} {w ps : List ℕ} {x links : ℕ} (G : Walking n h base goal w ps x links) where
+  -- as many are to come as the next words lead to
   pub walk-left : length (follow n (look n w Next) x) ≡ length (G .rest)
   walk-left = rw (G .head) (ap length (follows (G .state)))
 
@@ -145,9 +101,7 @@ module _ {n h base : ℕ} {goal : Linking} {w ps : List ℕ} {x links : ℕ} (G 
         go [] e q = absurd (m e)
         go (y ∷ l) e q = record { tail = l; is = q ∙ ap (λ z. z ∷ l) (sym e) }
 
-    tail : List ℕ
-    tail = first .tail
-
+    -- the same with x in front
     whole-state : Consolidating n h w ps (x ∷ first .tail) (x ∷ first .tail) (G .here)
     whole-state = rw (first .is) at (G .state)
 
@@ -186,6 +140,7 @@ module _ {n h base : ℕ} {goal : Linking} {w ps : List ℕ} {x links : ℕ} (G 
           fits = omega (arith, room);
         }
 
+    -- one tree fewer is to come
     pub record Step (w′ ps′ : List ℕ) (x′ links′ : ℕ) : Type 0 where
       pub next : Walking n h base goal w′ ps′ x′ links′
       pub less : length (next .rest) < length (G .rest)

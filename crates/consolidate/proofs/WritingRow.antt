@@ -1,12 +1,10 @@
--- The row of heap h written anew: one tree, and the end.
+-- The row of heap h written anew: one place, which has a tree or none.
 use Prim.Native.Nat.{ℕ, suc, _≤_, _<_}
 use mathlib.Core.Path.{_≡_, refl, sym, ap, _∙_}
 use mathlib.Core.Logic.{_≢_}
 use mathlib.Core.List.{List, [], _∷_, _++_, append-nil}
-use mathlib.Core.Bool.{Bool, true, false}
 use native.Mathlib.Omega.{arith}
-use lib.Dec.{eqb}
-use borrow.Author.Tests.{eqb-true, eqb-false, ne-eqb}
+use borrow.Author.Tests.{ne-eqb}
 use Rattle.rules.specs.declared.Field.the-variants.{LastTree}
 use Rattle.rules.specs.Consolidate.{occupied}
 use Rattle.rules.specs.Forests.{Forests, none, heapOf, keyOf, parentOf, rowOf}
@@ -21,13 +19,14 @@ use Rattle.store.specs.declared.Owner.the-variants.{Row}
 use Rattle.store.specs.ItemOrder.{itemKey}
 use Rattle.store.specs.Says.{Changes}
 use Rattle.store.specs.Siblings.{AppendReady, RankRises, appended, lastOf}
+use Rattle.store.proofs.Listed.{link-in, not-in}
 use Rattle.consolidate.specs.Writing.{Coming, Writing}
+use Rattle.consolidate.proofs.Beside.{key-beside}
 use Rattle.consolidate.proofs.Chains.{last-apart}
-use Rattle.consolidate.proofs.Climbing.{key-beside}
 use Rattle.consolidate.proofs.RowWords.{longer, longer-beside}
 
 -- the least item of a list stands in it
-least-in : (key : List ℕ) (l : List ℕ) → leastIn key l ≢ none → 1 ≤ occurs (leastIn key l) l
+pub least-in : (key : List ℕ) (l : List ℕ) → leastIn key l ≢ none → 1 ≤ occurs (leastIn key l) l
 unfolding leastIn
 least-in key [] m = absurd (m refl)
 least-in key (z ∷ l) m = leastOf-in key z l
@@ -36,6 +35,7 @@ least-in key (z ∷ l) m = leastOf-in key z l
 
 module _ {n h m x : ℕ} {w written rest : List ℕ} {t : Forests} (C : Coming h written x rest t)
     (W : Writing n h w written m t) where
+  -- who is written is in the table
   member : (y : ℕ) → 1 ≤ occurs y written → y < n
   member y i =
       let r = row-root t (C .disjoint) h y
@@ -44,13 +44,8 @@ module _ {n h m x : ℕ} {w written rest : List ℕ} {t : Forests} (C : Coming h
       omega (arith, W .beside .size)
 
   none-written : occurs none written ≡ 0
-  none-written = go (eqb (occurs none written) 0) refl
-    where
-      go : (b : Bool) → eqb (occurs none written) 0 ≡ b → occurs none written ≡ 0
-      go true e = eqb-true (occurs none written) 0 e
-      go false e =
-          let d : occurs none written ≢ 0 = eqb-false (occurs none written) 0 e in
-          absurd (omega (arith, member none (omega arith), W .says .sized .small))
+  none-written =
+      not-in none written (λ i. omega (arith, member none i, W .says .sized .small))
 
   -- no tree
   pub none-written-tree : x ≡ none → Writing n h w (written ++ occupied (x ∷ [])) m t
@@ -58,6 +53,7 @@ module _ {n h m x : ℕ} {w written rest : List ℕ} {t : Forests} (C : Coming h
   none-written-tree e = rw (e, append-nil written) W
 
   module _ (s : x ≢ none) where
+    -- x is a tree, and in the row
     split : rowOf t h ≡ written ++ (x ∷ rest)
     unfolding occupied
     split = rw (ne-eqb x none s) at (C .row)
@@ -77,20 +73,12 @@ module _ {n h m x : ℕ} {w written rest : List ℕ} {t : Forests} (C : Coming h
     tree-ready =
         record {
           owner = record { sized = W .says .sized; inside = C .heap };
-          last = λ d. last-inside d (eqb (occurs (look n w LastTree h) written) 0) refl;
+          last = link-in n written member (look n w LastTree h)
+              (λ d z. last-apart (look n w LastTree h) written d z
+              (sym (W .says .says LastTree h (C .heap) ∙ W .row .back)));
           item = tree-inside;
           rank = tt;
         }
-      where
-        last-inside : look n w LastTree h ≢ none → (b : Bool) → eqb (occurs (look n w LastTree h) written) 0 ≡ b
-            → look n w LastTree h < n
-        last-inside d true e =
-            absurd
-            (last-apart (look n w LastTree h) written d (eqb-true (occurs (look n w LastTree h) written) 0 e)
-            (sym (W .says .says LastTree h (C .heap) ∙ W .row .back)))
-        last-inside d false e =
-            let z : occurs (look n w LastTree h) written ≢ 0 = eqb-false (occurs (look n w LastTree h) written) 0 e in
-            member (look n w LastTree h) (omega arith)
 
     pub least-inside : m ≢ none → m < n
     least-inside d =
@@ -105,9 +93,8 @@ module _ {n h m x : ℕ} {w written rest : List ℕ} {t : Forests} (C : Coming h
           rw (ne-eqb x none s) (record {
             values = appended (Row h) x (W .values);
             says = c .says (W .values) (W .says);
-            beside = longer-beside n h (W .values) t (C .disjoint) (C .heap) (W .beside) written rest
-                (W .row) x split;
-            row = longer n h (W .values) t (C .disjoint) (C .heap) (W .beside) written rest (W .row) x split;
+            beside = longer-beside (C .disjoint) (W .beside) (W .row) x rest split;
+            row = longer (C .disjoint) (W .beside) (W .row) x rest split;
             least = e;
           })
 
@@ -123,5 +110,4 @@ module _ {n h m x : ℕ} {w written rest : List ℕ} {t : Forests} (C : Coming h
         where
           key-at : (i : ℕ) → i < n → itemKey (look n w′) i ≡ keyOf t i
           key-at =
-              key-beside (c .says (W .values) (W .says))
-              (longer-beside n h (W .values) t (C .disjoint) (C .heap) (W .beside) written rest (W .row) x split)
+              key-beside (longer-beside (C .disjoint) (W .beside) (W .row) x rest split) (c .says (W .values) (W .says))

@@ -1,4 +1,4 @@
-// The calls on the heaps whose words a store holds.
+// Linking, and taking a heap's minimum, on a store for n items.
 ghost use mathlib.Core.Path.{_≡_};
 ghost use mathlib.Core.Bool.{cond};
 ghost use Prim.Native.Nat.{ℕ, _+_, _<_};

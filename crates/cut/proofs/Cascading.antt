@@ -12,12 +12,11 @@ use Rattle.rules.specs.Forests.{Forests, none, parentOf, markOf, heapOf, setMar
 use Rattle.rules.specs.Cut.{cut, root, unmarked, marked, standing, Cuts, cascadingCut}
 use Rattle.rules.specs.SetWord.{setWord}
 use Rattle.rules.specs.Words.{stateOf}
-use Rattle.rules.proofs.CutKeeps.{cut-disjoint}
 use Rattle.store.specs.Says.{Changes}
 use Rattle.store.specs.Families.{Holds}
 use Rattle.store.proofs.Scalars.{mark-holds}
 use Rattle.cut.specs.Ready.{Member, Cascaded}
-use Rattle.cut.proofs.Cutting.{member-item}
+use Rattle.cut.proofs.Cutting.{after-cut, member-item}
 
 -- After some cuts the forests are `here` and p lost a child; `left` bounds the cuts that may follow.
 pub record Going (n : ℕ) (w : List ℕ) (c m : ℕ → ℕ) (k : Cuts) (h p cuts left : ℕ) : Type 0 where
@@ -27,6 +26,7 @@ pub record Going (n : ℕ) (w : List ℕ) (c m : ℕ → ℕ) (k : Cuts) (h p cu
   pub goal-cuts : k .cuts ≡ cuts + (cascadingCut left (standing here p) h p here) .cuts
   pub goal-forests : k .forests ≡ (cascadingCut left (standing here p) h p here) .forests
 
+-- before the first cut
 pub going-start : {n : ℕ} {w : List ℕ} {c m : ℕ → ℕ} {t : Forests} {h x : ℕ} → Holds n w c m t none → Member t h x
     → Going n w c m (cascadingCut (suc n) (standing t x) h x t) h x 0 (n + 1)
 going-start {n} {t = t} {h} {x} H M =
@@ -41,6 +41,7 @@ going-start {n} {t = t} {h} {x} H M =
 
 -- ---- how a parent stands
 
+-- a root, and a child by its mark
 root-standing : (t : Forests) (p : ℕ) → parentOf t p ≡ none → standing t p ≡ root
 unfolding standing
 root-standing t p e = rw e
@@ -57,15 +58,6 @@ state-mark h mark k e = omega arith
 state-marked : (h mark : ℕ) → mark ≤ 1 → stateOf (suc h) mark % 2 ≢ 1 → mark ≢ 0
 unfolding stateOf
 state-marked h mark k e z = e (omega arith)
-
--- the parent is in the same heap
-after-cut : (t : Forests) (h p : ℕ) → Member t h p → parentOf t p ≢ none → Member (cut h p t) h (parentOf t p)
-unfolding cut
-after-cut t h p M ne =
-    record {
-      disjoint = cut-disjoint t (M .disjoint) h p (M .heap) ne;
-      heap = M .disjoint .up p (λ e. omega (arith, e, M .heap)) ne .1 ∙ M .heap;
-    }
 
 module _ {n : ℕ} {w : List ℕ} {c m : ℕ → ℕ} {k : Cuts} {h p cuts : ℕ} where
   -- no cut may follow

@@ -1,17 +1,17 @@
 -- A cut and the cascade after it, on words that hold forests.
 use Prim.Native.Nat.{ℕ, zero, suc, _+_, _≤_, zero-le}
-use mathlib.Core.Path.{_≡_, _∙_}
+use mathlib.Core.Path.{_≡_}
 use mathlib.Core.List.{List}
 use native.Mathlib.Nat.{le-refl}
 use native.Mathlib.Omega.{arith}
 use Rattle.rules.specs.Cut.{Standing, cascadingCut, cut, cutOut, cutWithin, marked, root, standing, unmarked}
 use Rattle.rules.specs.Forests.{Forests, none, parentOf, tableSize}
-use Rattle.rules.proofs.CutKeeps.{cut-disjoint}
 use Rattle.store.specs.Families.{Holds}
 use Rattle.cut.specs.Ready.{Cascaded, Child, Member}
+use Rattle.cut.proofs.Cutting.{after-cut}
 
 -- no more cuts follow than the bound allows
-pub cascade-few : (d : ℕ) (st : Standing) (h p : ℕ) (s : Forests) → (cascadingCut d st h p s) .cuts ≤ d
+cascade-few : (d : ℕ) (st : Standing) (h p : ℕ) (s : Forests) → (cascadingCut d st h p s) .cuts ≤ d
 unfolding cascadingCut
 cascade-few zero st h p s = le-refl 0
 cascade-few (suc d) root h p s = zero-le
@@ -23,16 +23,11 @@ module _ {n : ℕ} {w : List ℕ} {c m : ℕ → ℕ} {t : Forests} {h x p : ℕ
     (e : p ≡ parentOf t x) where
   -- the parent is an item of the same heap after the cut
   pub parent-member : Member (cut h x t) h p
-  unfolding cut
-  parent-member =
-      let M = C .member in
-      record {
-        disjoint = cut-disjoint t (M .disjoint) h x (M .heap) (C .child);
-        heap = rw e (M .disjoint .up x (λ z. omega (arith, z, M .heap)) (C .child) .1 ∙ M .heap);
-      }
+  parent-member = rw e (after-cut t h x (C .member) (C .child))
 
   module _ {w₁ w₂ : List ℕ} {r : ℕ} (a : Holds n w₁ c m (cut h x t) none)
       (b : Cascaded n w₂ c m (cascadingCut (suc n) (standing (cut h x t) p) h p (cut h x t)) r) where
+    -- the number of cuts, this one and those that follow, is that of the rules
     pub few : r ≤ 4097
     few =
         omega (

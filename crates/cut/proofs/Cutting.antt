@@ -1,10 +1,9 @@
--- One cut on words that hold forests: the steps of `heap::cut`, and what each of them requires.
+-- One cut on words that hold forests: the steps of `cut::cut`, and what each of them requires.
 use Prim.Native.Nat.{ℕ, _+_, _*_, _<_, _≤_}
 use mathlib.Core.Path.{_≡_, sym, subst, _∙_}
 use mathlib.Core.Logic.{_≢_}
 use mathlib.Core.List.{List}
 use native.Mathlib.Omega.{arith}
-use borrow.Author.Tests.{ne-eqb}
 use Rattle.rules.specs.declared.Field.the-variants.{Parent, State}
 use Rattle.rules.specs.Lists.{occurs}
 use Rattle.rules.specs.Forests.{Forests, none, parentOf, markOf, heapOf, tableSize, setMark}
@@ -12,8 +11,8 @@ use Rattle.rules.specs.Cut.{cut}
 use Rattle.rules.specs.WellFormed.{Disjoint}
 use Rattle.rules.specs.SetWord.{setWord}
 use Rattle.rules.specs.Words.{look, stateOf, word}
-use Rattle.rules.proofs.Members.{heap-in, parent-child}
-use Rattle.rules.proofs.Occurs.{and-false}
+use Rattle.rules.proofs.CutKeeps.{cut-disjoint}
+use Rattle.rules.proofs.Members.{parent-child}
 use Rattle.store.specs.declared.Owner.the-variants.{Row, Children}
 use Rattle.store.specs.Says.{Changes}
 use Rattle.store.specs.Siblings.{appended, removed, AppendReady, RemoveReady}
@@ -22,6 +21,7 @@ use Rattle.store.proofs.Ready.{append-ready, remove-ready}
 use Rattle.store.proofs.Holds.{append-holds, remove-holds}
 use Rattle.store.proofs.Encoded.{row-family, children-family}
 use Rattle.store.proofs.Scalars.{mark-holds}
+use Rattle.store.proofs.Standing.{not-row, root-in}
 use Rattle.cut.specs.Ready.{Member, Child}
 
 -- a heap's number, and an item, are in the table
@@ -31,7 +31,7 @@ member-heap {t} {h} {x} M = omega (arith, M .disjoint .heaps x, M .heap)
 pub member-item : {n : ℕ} {w : List ℕ} {c m : ℕ → ℕ} {t : Forests} {h x y : ℕ} → Holds n w c m t y → Member t h x
     → x < n
 member-item {t = t} {x = x} H M =
-    omega (arith, heap-in t x (λ e. omega (arith, e, M .heap)), H .shape .heapN)
+    omega (arith, root-in t (M .heap), H .shape .heapN)
 
 -- the parent word of an item
 pub parent-word : {n : ℕ} {w : List ℕ} {c m : ℕ → ℕ} {t : Forests} {x : ℕ} → Holds n w c m t none → x < n
@@ -49,6 +49,15 @@ pub state-small : {t : Forests} {h x : ℕ} → Member t h x → stateOf (heapOf
 unfolding stateOf
 state-small {t} {h} {x} M = rw (M .heap) (omega (arith, M .disjoint .bit x, member-heap M))
 
+-- the parent of an item that is cut is in the same heap, still
+pub after-cut : (t : Forests) (h p : ℕ) → Member t h p → parentOf t p ≢ none → Member (cut h p t) h (parentOf t p)
+unfolding cut
+after-cut t h p M ne =
+    record {
+      disjoint = cut-disjoint t (M .disjoint) h p (M .heap) ne;
+      heap = M .disjoint .up p (λ e. omega (arith, e, M .heap)) ne .1 ∙ M .heap;
+    }
+
 module _ {n : ℕ} {w : List ℕ} {c m : ℕ → ℕ} {t : Forests} {h x p : ℕ} (H : Holds n w c m t none) (C : Child t h x)
     (e : p ≡ parentOf t x) where
   D : Disjoint t
@@ -57,6 +66,7 @@ module _ {n : ℕ} {w : List ℕ} {c m : ℕ → ℕ} {t : Forests} {h x p : ℕ
   live : heapOf t x ≢ 0
   live z = omega (arith, z, C .member .heap)
 
+  -- x is one of the children of p
   family : Family n t (Children p)
   family =
       let u = D .up x live (C .child) in
@@ -74,6 +84,7 @@ module _ {n : ℕ} {w : List ℕ} {c m : ℕ → ℕ} {t : Forests} {h x p : ℕ
 
   module _ {w₁ w₂ : List ℕ} (a : Changes n w (removed (Children p) x) w₁)
       (b : Changes n w₁ (setWord State x (1 + 2 * h)) w₂) where
+    -- after the removal, and after the mark is taken away
     H₁ : Holds n w₁ c m (removeFrom (Children p) x t) x
     H₁ = remove-holds (Children p) x H family among a
 
@@ -91,10 +102,12 @@ module _ {n : ℕ} {w : List ℕ} {c m : ℕ → ℕ} {t : Forests} {h x p : ℕ
     pub cut-append-ready : AppendReady n w₂ (Row h) x
     cut-append-ready = append-ready H₂ (Row h) row (member-item H (C .member))
 
+    -- x is not in the row yet
     absent : occurs x (listOf (setMark x 0 (removeFrom (Children p) x t)) (Row h)) ≡ 0
     unfolding removeFrom listOf
-    absent = D .inRow h x ∙ rw (ne-eqb (parentOf t x) none (C .child), and-false)
+    absent = not-row t D h x (C .child)
 
+    -- the three steps are the cut of the rules
     same : appendTo (Row h) x (setMark x 0 (removeFrom (Children p) x t)) ≡ cut h x t
     unfolding cut appendTo removeFrom
     same = rw e

@@ -15,15 +15,16 @@ use Rattle.rules.specs.Forests.{heapNumber, keyOf}
 use Rattle.rules.specs.Order.{minimum}
 use Rattle.rules.specs.Words.{encode, forestsOf, look}
 use Rattle.rules.proofs.Members.{heap-in, row-root}
-use Rattle.rules.proofs.Refusals.{delete-ok, find-ok, meld-ok}
+use Rattle.rules.proofs.Refusals.{find-ok, meld-ok}
 use Rattle.rules.proofs.ReplyBounds.{delete-says}
 use Rattle.rules.proofs.SoundWords.{sound-words}
 use Rattle.rules.specs.declared.Tally.{Tally}
 use Rattle.heap.specs.declared.Reply.{Reply}
 use Rattle.heap.specs.Allowed.{Allowed, MayMove, Moves, Store}
 use Rattle.heap.specs.Performed.{Answers, Performed, Ready}
-use Rattle.heap.proofs.RefusalWords.{count-at, key-at}
-use Rattle.heap.proofs.SoundStore.{formed, items-size}
+use Rattle.heap.proofs.Deleting.{deleted-in-heap}
+use Rattle.heap.proofs.ItemHeap.{item-inside}
+use Rattle.heap.proofs.SoundStore.{count-at, formed, items-size, key-at}
 
 pub may-move : {w : List ℕ} {n code : ℕ} {c : Call} {t : Tally} → Ready w t → Store w n
     → code ≡ refusal (forestsOf w) c → code ≡ 0 → MayMove w n c t
@@ -31,6 +32,21 @@ may-move Y S p e =
     record {
       allowed = record { store = S; done = sym p ∙ e };
       room = record { links = Y .links; cuts = Y .cuts };
+    }
+
+-- the contract, where the answer is the outcome o
+answered : {w w′ : List ℕ} {c : Call} {t : Tally} {r : Reply} (o : Outcome) → answer (forestsOf w) (Yields c) ≡ o
+    → r .code ≡ o .reply .code → r .item ≡ o .reply .item → r .key ≡ o .reply .key
+    → r .tally .links ≡ t .links + o .reply .links → r .tally .cuts ≡ t .cuts + o .reply .cuts → w′ ≡ encode (o .next)
+    → Performed w c t r w′
+answered o f code item key links cuts words =
+    record {
+      code = rw f code;
+      item = rw f item;
+      key = rw f key;
+      links = rw f links;
+      cuts = rw f cuts;
+      words = rw f words;
     }
 
 -- a refused call: its code, and nothing is changed
@@ -42,31 +58,17 @@ refused-performed {w} {code} {c} {t} {r} Y p m A = go code (sym p) m A
     go : (k : ℕ) → refusal (forestsOf w) c ≡ k → k ≢ 0 → Answers k 0 0 t r → Performed w c t r w
     go zero p m A = absurd (m refl)
     go (suc k) p m A =
-        let f : answer (forestsOf w) (Yields c) ≡ refused (suc k) (forestsOf w) = rw p in
-        record {
-          code = A .isCode ∙ ap (λ q. q .reply .code) (sym f);
-          item = A .isItem ∙ ap (λ q. q .reply .item) (sym f);
-          key = A .isKey ∙ ap (λ q. q .reply .key) (sym f);
-          links = omega (arith, A .links, ap (λ q. q .reply .links) f);
-          cuts = omega (arith, A .cuts, ap (λ q. q .reply .cuts) f);
-          words = sound-words w (Y .sound) ∙ ap (λ q. encode (q .next)) (sym f);
-        }
+        answered (refused (suc k) (forestsOf w)) (rw p) (A .isCode) (A .isItem) (A .isKey) (omega (arith, A .links))
+        (omega (arith, A .cuts)) (sound-words w (Y .sound))
 
 -- a call that is done
-pub done-performed : {w w′ : List ℕ} {n item key : ℕ} {c : Call} {t u : Tally} {r : Reply} (o : Outcome)
+done-performed : {w w′ : List ℕ} {n item key : ℕ} {c : Call} {t u : Tally} {r : Reply} (o : Outcome)
     → MayMove w n c t → perform (forestsOf w) c ≡ o → o .reply .code ≡ 0 → item ≡ o .reply .item → key ≡ o .reply .key
     → Moves o t u w′ → Answers 0 item key u r → Performed w c t r w′
 unfolding answer unlessRefused
-done-performed {w} {w′} {n} {item} {key} {c} {t} {u} {r} o M e z i k N A =
-    let f : answer (forestsOf w) (Yields c) ≡ o = rw (M .allowed .done) e in
-    record {
-      code = A .isCode ∙ sym z ∙ ap (λ q. q .reply .code) (sym f);
-      item = A .isItem ∙ i ∙ ap (λ q. q .reply .item) (sym f);
-      key = A .isKey ∙ k ∙ ap (λ q. q .reply .key) (sym f);
-      links = omega (arith, A .links, N .links, ap (λ q. q .reply .links) f);
-      cuts = omega (arith, A .cuts, N .cuts, ap (λ q. q .reply .cuts) f);
-      words = N .words ∙ ap (λ q. encode (q .next)) (sym f);
-    }
+done-performed o M e z i k N A =
+    answered o (rw (M .allowed .done) e) (A .isCode ∙ sym z) (A .isItem ∙ i) (A .isKey ∙ k) (A .links ∙ N .links)
+    (A .cuts ∙ N .cuts) (N .words)
 
 -- ---- the six calls
 
@@ -90,7 +92,7 @@ pub as-find : {w : List ℕ} {n h : ℕ} → Allowed w n (ExtractMin h) → Allo
 unfolding refusal
 as-find A = record { store = A .store; done = A .done }
 
-pub minimum-key : {w : List ℕ} {n h i k : ℕ} → Allowed w n (FindMin h) → i ≡ minimum (forestsOf w) h
+minimum-key : {w : List ℕ} {n h i k : ℕ} → Allowed w n (FindMin h) → i ≡ minimum (forestsOf w) h
     → k ≡ look n w Key i → k ≡ keyOf (forestsOf w) (minimum (forestsOf w) h)
 minimum-key {w} {n} {h} {i} A p q =
     q ∙ ap (look n w Key) p ∙ key-at (A .store) (minimum-item A)
@@ -117,9 +119,8 @@ unfolding perform decreaseKey
 decreased-performed {w} {w′} {n} {i} {k} M N A =
     done-performed (decreaseKey i k (forestsOf w)) M refl refl refl refl N A
 
-pub deleted-item : {w : List ℕ} {n i : ℕ} → Allowed w n (Delete i) → i < n
-deleted-item {w} {n} {i} A =
-    omega (arith, heap-in (forestsOf w) i (delete-ok (forestsOf w) i (A .done)), items-size (A .store))
+pub deleted-item : {w : List ℕ} {n i : ℕ} {t : Tally} → MayMove w n (Delete i) t → i < n
+deleted-item M = item-inside (deleted-in-heap M)
 
 pub deleted-performed : {w w′ : List ℕ} {n i k : ℕ} {t u : Tally} {r : Reply} → MayMove w n (Delete i) t
     → k ≡ look n w Key i → Moves (delete i (forestsOf w)) t u w′ → Answers 0 i k u r → Performed w (Delete i) t r w′
@@ -128,7 +129,7 @@ deleted-performed {w} {w′} {n} {i} M q N A =
     let s = forestsOf w in
     let d = delete-says (eqb (minimum s (heapNumber s i)) i) i s in
     done-performed (delete i s) M refl (d .code) (sym (d .item))
-    (q ∙ key-at (M .allowed .store) (deleted-item (M .allowed)) ∙ sym (d .key)) N A
+    (q ∙ key-at (M .allowed .store) (deleted-item M) ∙ sym (d .key)) N A
 
 pub melded-performed : {w w′ : List ℕ} {n a b c d : ℕ} {t : Tally} {r : Reply} → MayMove w n (Meld a b) t
     → c ≡ look n w Count a → d ≡ look n w Count b → w′ ≡ encode (meld a b (forestsOf w)) → Answers 0 a (c + d) t r

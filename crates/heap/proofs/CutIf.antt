@@ -5,7 +5,7 @@ use mathlib.Core.Logic.{_≢_}
 use mathlib.Core.List.{List}
 use mathlib.Core.Bool.{Bool, true, false, not, _&&_}
 use native.Mathlib.Omega.{arith}
-use borrow.Author.Tests.{ne-eqb}
+use borrow.Author.Tests.{ne-eqb, not-true, not-false}
 use Rattle.rules.specs.declared.Field.the-variants.{Parent}
 use Rattle.rules.specs.Calls.{hasParent}
 use Rattle.rules.specs.Cut.{cutIf, cutOut}
@@ -20,32 +20,20 @@ use Rattle.store.proofs.Ready.{member}
 use Rattle.cut.specs.Ready.{Cascaded, Child, Member}
 use Rattle.cut.proofs.Cutting.{member-item, parent-word}
 
--- a test that fails, and one that holds
-off : (b : Bool) → not b ≡ true → b ≡ false
-off true e = sym e
-off false e = refl
-
-on : (b : Bool) → not b ≡ false → b ≡ true
-on true e = refl
-on false e = sym e
-
 module _ {n : ℕ} {w : List ℕ} {c m : ℕ → ℕ} {t : Forests} {h i p : ℕ} (H : Holds n w c m t none) (M : Member t h i)
     (e : p ≡ look n w Parent i) where
   parent : p ≡ parentOf t i
   parent = e ∙ parent-word H (member-item H M)
 
   -- i is a root
-  pub root-kept : (test : Bool) → p ≡ none → Cascaded n w c m (cutIf (hasParent t i && test) h i t) 0
-  unfolding hasParent cutIf
-  root-kept test z =
-      let q : parentOf t i ≡ none = sym parent ∙ z in
-      rw q (record { holds = H; cuts = refl })
+  pub no-parent : p ≡ none → hasParent t i ≡ false
+  unfolding hasParent
+  no-parent z = let q : parentOf t i ≡ none = sym parent ∙ z in rw q
 
-  pub root-kept-child : p ≡ none → Cascaded n w c m (cutIf (hasParent t i) h i t) 0
-  unfolding hasParent cutIf
-  root-kept-child z =
-      let q : parentOf t i ≡ none = sym parent ∙ z in
-      rw q (record { holds = H; cuts = refl })
+  -- where the test fails nothing is cut
+  pub kept : {b : Bool} → b ≡ false → Cascaded n w c m (cutIf b h i t) 0
+  unfolding cutIf
+  kept f = rw f (record { holds = H; cuts = refl })
 
   has : p ≢ none → hasParent t i ≡ true
   unfolding hasParent
@@ -68,15 +56,14 @@ module _ {n : ℕ} {w : List ℕ} {c m : ℕ → ℕ} {t : Forests} {h i p : ℕ
   -- i does not come before its parent
   pub later-kept : {b : Bool} → p ≢ none → b ≡ comesBefore (itemKey (look n w)) i p → not b ≡ true
       → Cascaded n w c m (cutIf (hasParent t i && precedes (t .key) i (parentOf t i)) h i t) 0
-  unfolding cutIf
-  later-kept {b} z d f = rw (has z, ← order z, ← d, off b f) (record { holds = H; cuts = refl })
+  later-kept {b} z d f = kept (rw (has z) (sym (order z) ∙ sym d ∙ not-true b f))
 
   -- it does, or the test is only that it has a parent
   pub before-cut : {b : Bool} {w′ : List ℕ} {r : ℕ} → p ≢ none → b ≡ comesBefore (itemKey (look n w)) i p
       → not b ≡ false → Cascaded n w′ c m (cutOut h i t) r
       → Cascaded n w′ c m (cutIf (hasParent t i && precedes (t .key) i (parentOf t i)) h i t) r
   unfolding cutIf
-  before-cut {b} z d f k = rw (has z, ← order z, ← d, on b f) k
+  before-cut {b} z d f k = rw (has z, ← order z, ← d, not-false b f) k
 
   pub child-cut : {w′ : List ℕ} {r : ℕ} → p ≢ none → Cascaded n w′ c m (cutOut h i t) r
       → Cascaded n w′ c m (cutIf (hasParent t i) h i t) r

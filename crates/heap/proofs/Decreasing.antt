@@ -1,5 +1,5 @@
 -- D on the words of a sound store: what its steps need, and what the words are at the end.
-use Prim.Native.Nat.{ℕ, zero, suc, _+_, _-_, _*_, _/_, _≤_, _<_}
+use Prim.Native.Nat.{ℕ, suc, _+_, _≤_, _<_}
 use mathlib.Core.Path.{_≡_, refl, sym, ap, _∙_}
 use mathlib.Core.Logic.{_≢_}
 use mathlib.Core.List.{List}
@@ -10,18 +10,18 @@ use lib.Dec.{eqb}
 use borrow.Author.Tests.{eqb-true, eqb-false}
 use Rattle.rules.specs.declared.Call.the-variants.{DecreaseKey}
 use Rattle.rules.specs.declared.Line.the-variants.{Yields}
-use Rattle.rules.specs.declared.Field.the-variants.{Key, Minimum, State}
+use Rattle.rules.specs.declared.Field.the-variants.{Key, Minimum}
 use Rattle.rules.specs.declared.Tally.{Tally}
 use Rattle.rules.specs.Answers.{answer, unlessRefused}
 use Rattle.rules.specs.Calls.{decreaseKey, hasParent, perform}
 use Rattle.rules.specs.Cut.{cutIf}
-use Rattle.rules.specs.Forests.{Forests, count, heapNumber, heapOf, keyOf, markOf, none, parentOf, setKey}
+use Rattle.rules.specs.Forests.{Forests, count, heapNumber, heapOf, keyOf, none, parentOf, setKey}
 use Rattle.rules.specs.Lists.{sumBy}
 use Rattle.rules.specs.Order.{lesser, minimum, precedes}
 use Rattle.rules.specs.SetWord.{setWord}
 use Rattle.rules.specs.Theorems.{InRange, IsMinimum}
 use Rattle.rules.specs.WellFormed.{WellFormed}
-use Rattle.rules.specs.Words.{at, encode, forestsOf, look, stateOf, word}
+use Rattle.rules.specs.Words.{encode, forestsOf, look}
 use Rattle.rules.proofs.Excused.{Formed, FormedBut, exact, to-formed}
 use Rattle.rules.proofs.KeepsWellFormed.{keepsWellFormed}
 use Rattle.rules.proofs.KeyKeeps.{key-formed}
@@ -38,41 +38,13 @@ use Rattle.store.specs.Says.{Changes, Sized}
 use Rattle.store.proofs.Encoded.{holds-encode}
 use Rattle.store.proofs.Holds.{holds-says}
 use Rattle.store.proofs.ItemOrder.{key-held}
+use Rattle.store.proofs.Listed.{not-none}
 use Rattle.store.proofs.Scalars.{instead, key-holds, minimum-holds}
 use Rattle.cut.specs.Ready.{CascadeReady, Cascaded, Member}
 use Rattle.heap.specs.Allowed.{MayMove, Moves, Store}
 use Rattle.heap.specs.Moving.{CutsIf, InHeap}
-use Rattle.heap.proofs.SoundStore.{formed, items-size, sound-holds, sound-says}
-
--- the heap of an item, from its state word
-state-heap : (v m : ℕ) → v ≢ 0 → m ≤ 1 → (stateOf v m - 1) / 2 ≡ v - 1
-unfolding stateOf
-state-heap zero m n k = absurd (n refl)
-state-heap (suc h) m n k = let e : 1 + 2 * h + m - 1 ≡ 2 * h + m = omega arith in rw e (omega arith)
-
-module _ {w : List ℕ} {n i : ℕ} (P : InHeap w n i) where
-  pub item-inside : i < n
-  item-inside = let k = heap-in (forestsOf w) i (P .live) in omega (arith, items-size (P .store))
-
-  state : {v : ℕ} → v ≡ look n w State i → v ≡ stateOf (heapOf (forestsOf w) i) (markOf (forestsOf w) i)
-  unfolding word
-  state e = e ∙ sound-says (P .store) .says State i item-inside
-
-  pub state-some : {v : ℕ} → v ≡ look n w State i → 1 ≤ v
-  unfolding stateOf
-  state-some {v} e = go (heapOf (forestsOf w) i) (P .live) (state e)
-    where
-      go : (g : ℕ) → g ≢ 0 → v ≡ stateOf g (markOf (forestsOf w) i) → 1 ≤ v
-      go zero n q = absurd (n refl)
-      go (suc g) n q = omega arith
-
-  pub heap-number : {v : ℕ} → v ≡ look n w State i → (v - 1) / 2 ≡ heapNumber (forestsOf w) i
-  heap-number e =
-      ap (λ u. (u - 1) / 2) (state e)
-      ∙ state-heap (heapOf (forestsOf w) i) (markOf (forestsOf w) i) (P .live) (formed (P .store) .disjoint .bit i)
-
-  pub heap-inside : heapNumber (forestsOf w) i < 8
-  heap-inside = omega (arith, formed (P .store) .disjoint .heaps i, P .live)
+use Rattle.heap.proofs.ItemHeap.{heap-inside, item-inside}
+use Rattle.heap.proofs.SoundStore.{formed, items-size, sound-holds}
 
 module _ {w : List ℕ} {n i k : ℕ} {tally : Tally} (P : MayMove w n (DecreaseKey i k) tally) where
   abbrev t : Forests
@@ -96,6 +68,7 @@ module _ {w : List ℕ} {n i k : ℕ} {tally : Tally} (P : MayMove w n (Decrease
   F : Formed (forestsOf w)
   F = to-formed (forestsOf w) W
 
+  -- with its new key i may come before its parent: the forests are well-formed but for that
   lowered : FormedBut i exact (setKey i k (forestsOf w))
   lowered = key-formed (forestsOf w) (W .disjoint) i k (ok .0) (ok .1) (F .ordered) (F .ranked)
 
@@ -136,7 +109,7 @@ module _ {w : List ℕ} {n i k : ℕ} {tally : Tally} (P : MayMove w n (Decrease
       pub sized₂ : Sized n w₂
       sized₂ = holds .says .sized
 
-      pub least-word : {m : ℕ} → m ≡ look n w₂ Minimum h → m ≡ minimum t h
+      least-word : {m : ℕ} → m ≡ look n w₂ Minimum h → m ≡ minimum t h
       unfolding wordBut
       least-word e = e ∙ holds-says holds .says Minimum h (heap-inside in-heap)
 
@@ -148,9 +121,6 @@ module _ {w : List ℕ} {n i k : ℕ} {tally : Tally} (P : MayMove w n (Decrease
       old-inside =
           let q = heap-in t (minimum t h) (λ z. omega (arith, z, old .inside)) in
           omega (arith, items-size S)
-
-      some : (x : ℕ) → x < n → x ≢ none
-      some x q z = omega (arith, sized₂ .small)
 
       pub two-ready : {m : ℕ} → m ≡ look n w₂ Minimum h → TwoItems n w₂ m i
       two-ready e =
@@ -167,7 +137,8 @@ module _ {w : List ℕ} {n i k : ℕ} {tally : Tally} (P : MayMove w n (Decrease
             el ∙ ap (λ x. lesser (itemKey (look n w₂)) x i) (least-word em)
             ∙ lesser-keys (itemKey (look n w₂)) (keyOf after) (minimum t h) i
             (λ _. key-held holds (minimum t h) old-inside) (λ _. key-held holds i (item-inside in-heap))
-            ∙ lesser-two (keyOf after) (minimum t h) i (some (minimum t h) old-inside) (some i (item-inside in-heap))
+            ∙ lesser-two (keyOf after) (minimum t h) i
+            (not-none (holds .shape) (minimum t h) old-inside) (not-none (holds .shape) i (item-inside in-heap))
 
         minima : (g : ℕ) → g < 8 → instead (minimum t) h l g ≡ minimum after g
         minima g _ = go (eqb h g) refl

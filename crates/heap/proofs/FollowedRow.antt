@@ -31,7 +31,7 @@ use Rattle.store.proofs.ConcatWords.{
   concat-prev,
   linkKinds,
 }
-use Rattle.heap.proofs.SoundStore.{row-none}
+use Rattle.store.proofs.Standing.{none-row}
 
 -- a value at a place taken from there
 at-self : (f : ℕ → ℕ) (a g : ℕ) → cond (eqb a g) (f a) (f g) ≡ f g
@@ -67,6 +67,7 @@ module _ (t : Forests) (D : Disjoint t) (a : ℕ) where
   unfolding headOr lastOf word
   prev-joined z zs n = concat-prev z (lastOr none (z ∷ zs)) (word t) (head-item z zs n) (Row a)
 
+  -- the ends of any row
   pub first-after : (l : List ℕ) → occurs none l ≡ 0 → (g : ℕ)
       → after t a l FirstTree g ≡ cond (eqb a g) (headOr none (rowOf t a ++ l)) (headOr none (rowOf t g))
   unfolding headOr firstOf lastOf word
@@ -75,7 +76,7 @@ module _ (t : Forests) (D : Disjoint t) (a : ℕ) where
   first-after (z ∷ zs) n g =
       concat-first z (lastOr none (z ∷ zs)) (word t) (head-item z zs n) (Row a) (Row g)
       ∙ ap (λ x. cond (eqb a g) x (headOr none (rowOf t g)))
-      (sym (head-concat (rowOf t a) (z ∷ zs) (row-none t D a)))
+      (sym (head-concat (rowOf t a) (z ∷ zs) (none-row t D a)))
 
   pub last-after : (l : List ℕ) → occurs none l ≡ 0 → (g : ℕ)
       → after t a l LastTree g ≡ cond (eqb a g) (lastOr none (rowOf t a ++ l)) (lastOr none (rowOf t g))
@@ -86,6 +87,7 @@ module _ (t : Forests) (D : Disjoint t) (a : ℕ) where
       concat-last z (lastOr none (z ∷ zs)) (word t) (head-item z zs n) (Row a) (Row g)
       ∙ ap (λ x. cond (eqb a g) x (lastOr none (rowOf t g))) (sym (last-concat none (rowOf t a) (z ∷ zs)))
 
+  -- the next word of an item outside row a, and of one in it
   pub next-kept : (l : List ℕ) → occurs none l ≡ 0 → (j : ℕ) → j ≢ none → occurs j (rowOf t a) ≡ 0
       → after t a l Next j ≡ word t Next j
   next-kept [] n j m k = unchanged Next j
@@ -103,6 +105,7 @@ module _ (t : Forests) (D : Disjoint t) (a : ℕ) where
       ∙ ap (λ x. cond (eqb (lastOr none (rowOf t a)) j) z x) e
       ∙ sym (next-before none j (rowOf t a) (z ∷ zs) (once-row t D a) (λ q. m (sym q)) k)
 
+  -- the previous word of an item outside the list, and of one in it
   pub prev-kept : (l : List ℕ) → occurs none l ≡ 0 → (j : ℕ) → occurs j l ≡ 0 → after t a l Prev j ≡ word t Prev j
   prev-kept [] n j k = unchanged Prev j
   prev-kept (z ∷ zs) n j k =

@@ -23,8 +23,10 @@ use Rattle.store.proofs.Ready.{append-ready}
 use Rattle.store.proofs.Says.{says-as}
 use Rattle.heap.specs.Allowed.{Allowed}
 use Rattle.heap.specs.Entered.{EnrollReady, EnterReady, enrolled, entered}
-use Rattle.heap.proofs.InsertKinds.{enrolled-word, entered-word, family, out}
-use Rattle.heap.proofs.SoundStore.{formed, items-size, minimum-link, says-encode, sound-holds, sound-says}
+use Rattle.heap.proofs.EnrolledKinds.{enrolled-word}
+use Rattle.heap.proofs.EnteredKinds.{MayEnter, entered-word, family, out}
+use Rattle.heap.proofs.RowLinks.{minimum-link}
+use Rattle.heap.proofs.SoundStore.{formed, items-size, says-encode, sound-holds, sound-says}
 
 module _ {w : List ℕ} {n h i k : ℕ} (A : Allowed w n (Insert h i k)) where
   abbrev t : Forests
@@ -35,6 +37,9 @@ module _ {w : List ℕ} {n h i k : ℕ} (A : Allowed w n (Insert h i k)) where
 
   ok : (h < 8) × (i < tableSize t) × (heapOf t i ≡ 0)
   ok = insert-ok t h i k (A .done)
+
+  enters : MayEnter t h i
+  enters = record { disjoint = D; heap = ok .0; inside = ok .1; free = ok .2 }
 
   e : tableSize t ≡ n
   e = items-size (A .store)
@@ -50,13 +55,13 @@ module _ {w : List ℕ} {n h i k : ℕ} (A : Allowed w n (Insert h i k)) where
           next = 0;
           prev = 0;
           says = says-as n w₁ _ _ (c₁ .says _ (holds-says H))
-              (entered-word t D h i k (ok .0) (ok .1) (ok .2) n);
+              (entered-word enters k n);
           shape = reshape (setHeap i (suc h) (setKey i k t)) (H .shape) refl refl refl (length-set (t .key) i k) refl
               (length-set (t .heap) i (suc h));
         }
 
     joins : Family n (setHeap i (suc h) (setKey i k t)) (Row h)
-    joins = family t D h i k (ok .0) (ok .1) (ok .2) n
+    joins = family enters k n
 
     pub row-ready : AppendReady n w₁ (Row h) i
     row-ready = append-ready held (Row h) joins (enter-ready .item)
@@ -66,7 +71,7 @@ module _ {w : List ℕ} {n h i k : ℕ} (A : Allowed w n (Insert h i k)) where
       unfolding appendTo insert listOf
       inserted =
           holds-says
-          (append-holds (Row h) i held joins (enter-ready .item) (out t D h i k (ok .0) (ok .1) (ok .2) h)
+          (append-holds (Row h) i held joins (enter-ready .item) (out enters k h)
           (getD-set-same (t .heap) i (suc h) 0 (ok .1)) c₂)
 
       pub enroll-ready : EnrollReady n w₂ h i
@@ -83,4 +88,4 @@ module _ {w : List ℕ} {n h i k : ℕ} (A : Allowed w n (Insert h i k)) where
       unfolding insert
       insert-words {w₃} c₃ =
           says-encode (insert h i k t) (length-set (t .heap) i (suc h) ∙ e)
-          (says-as n w₃ _ _ (c₃ .says _ inserted) (enrolled-word t D h i k (ok .0) (ok .1) (ok .2) n))
+          (says-as n w₃ _ _ (c₃ .says _ inserted) (enrolled-word enters k n))

@@ -22,6 +22,7 @@ use Rattle.store.specs.Says.{Changes, Says, Sized, Values}
 use Rattle.store.specs.Siblings.{Link, concatenated}
 use Rattle.store.proofs.ItemOrder.{key-says}
 use Rattle.store.proofs.Says.{says-as}
+use Rattle.store.proofs.SetAt.{cond-same}
 use Rattle.heap.specs.HeapsJoined.{
   JoinHeapsReady,
   RehomeReady,
@@ -79,6 +80,7 @@ join-heaps-changes {n} {w} {w₁} {w₂} {w₃} {a} {b} {c} {d} {p} {q} {l} r ec
 
 -- ---- the pass over the state words
 
+-- no item yet, one more, and all
 pub rehome-none : (n : ℕ) (w : List ℕ) (a b : ℕ) → Sized n w → Changes n w (rehomedTo 0 a b) w
 unfolding rehomedTo
 rehome-none n w a b s =
@@ -87,10 +89,6 @@ rehome-none n w a b s =
       says = λ v t. says-as n w v _ t (λ f i _.
           rw (le-ltb i 0 zero-le) (sym (cond-same (eqb (fieldNumber State) (fieldNumber f)) (v f i))));
     }
-  where
-    cond-same : (t : Bool) (x : ℕ) → cond t x x ≡ x
-    cond-same true x = refl
-    cond-same false x = refl
 
 pub rehome-more : {n : ℕ} {w₀ w w′ : List ℕ} (i a b : ℕ) {x y : ℕ} → i < n → Changes n w₀ (rehomedTo i a b) w
     → x ≡ look n w State i → y ≡ movedState a b x → Changes n w (setWord State i y) w′

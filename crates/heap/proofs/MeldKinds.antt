@@ -6,7 +6,7 @@ use mathlib.Core.List.{List, [], _∷_, _++_}
 use mathlib.Core.Bool.{Bool, true, false, cond}
 use native.Mathlib.Omega.{arith}
 use lib.Dec.{eqb}
-use borrow.Author.Tests.{eqb-true, eqb-false, ne-eqb}
+use borrow.Author.Tests.{eqb-true, eqb-false}
 use Rattle.rules.specs.declared.Field.{Field}
 use Rattle.rules.specs.declared.Field.the-variants.{
   Count,
@@ -37,6 +37,7 @@ use Rattle.store.specs.ItemOrder.{itemKey}
 use Rattle.store.proofs.ConcatWords.{linkKinds}
 use Rattle.store.proofs.Emptying.{empty-else, nones}
 use Rattle.store.proofs.ItemOrder.{key-is}
+use Rattle.store.proofs.Standing.{none-row, other-row}
 use Rattle.heap.specs.HeapsJoined.{heapsJoined, movedState, poured, rehomed}
 use Rattle.heap.proofs.FollowedRow.{
   after,
@@ -49,6 +50,7 @@ use Rattle.heap.proofs.FollowedRow.{
   prev-two,
 }
 use Rattle.heap.proofs.MeldLists.{
+  TwoHeaps,
   Where,
   inOne,
   inTwo,
@@ -61,71 +63,71 @@ use Rattle.heap.proofs.MeldLists.{
   where-is,
 }
 use Rattle.heap.proofs.MovedHeaps.{counts-move, heap-moves, heap-stays, state-moves}
-use Rattle.heap.proofs.SoundStore.{row-none}
 
-module _ (t : Forests) (D : Disjoint t) (a b : ℕ) (o : (a < 8) × (b < 8) × (a ≢ b)) where
+module _ {t : Forests} {a b : ℕ} (H : TwoHeaps t a b) where
+  D : Disjoint t
+  D = H .disjoint
+
   abbrev new : Forests
   new = meld a b t
 
-  abbrev one : List ℕ
-  one = rowOf t a
-
-  abbrev two : List ℕ
-  two = rowOf t b
-
   -- a word of the rows
   row-word : (F : List ℕ → ℕ) (g : ℕ)
-      → cond (eqb b g) (F []) (cond (eqb a g) (F (one ++ two)) (F (rowOf t g))) ≡ F (rowOf new g)
-  row-word F g = rw (row-at t D a b o g) (go (eqb b g) (eqb a g))
+      → cond (eqb b g) (F []) (cond (eqb a g) (F (rowOf t a ++ rowOf t b)) (F (rowOf t g))) ≡ F (rowOf new g)
+  row-word F g = rw (row-at H g) (go (eqb b g) (eqb a g))
     where
       go : (u v : Bool)
-          → cond u (F []) (cond v (F (one ++ two)) (F (rowOf t g))) ≡ F (cond u [] (cond v (one ++ two) (rowOf t g)))
+          → cond u (F []) (cond v (F (rowOf t a ++ rowOf t b)) (F (rowOf t g)))
+          ≡ F (cond u [] (cond v (rowOf t a ++ rowOf t b) (rowOf t g)))
       go true v = refl
       go false true = refl
       go false false = refl
 
-  out-one : (j : ℕ) → heapOf t j ≡ suc b → occurs j one ≡ 0
-  out-one j e = D .inRow a j ∙ rw (e, ne-eqb (suc b) (suc a) (λ q. o .2 (omega arith)))
+  -- a root of one of the two heaps is not in the row of the other
+  out-one : (j : ℕ) → heapOf t j ≡ suc b → occurs j (rowOf t a) ≡ 0
+  out-one j e = other-row t D a j (λ z. H .two (omega (arith, e, z)))
 
-  out-two : (j : ℕ) → heapOf t j ≡ suc a → occurs j two ≡ 0
-  out-two j e = D .inRow b j ∙ rw (e, ne-eqb (suc a) (suc b) (λ q. o .2 (omega arith)))
+  out-two : (j : ℕ) → heapOf t j ≡ suc a → occurs j (rowOf t b) ≡ 0
+  out-two j e = other-row t D b j (λ z. H .two (omega (arith, e, z)))
 
-  n₂ : occurs none two ≡ 0
-  n₂ = row-none t D b
+  n₂ : occurs none (rowOf t b) ≡ 0
+  n₂ = none-row t D b
 
   stay-a : moveHeap a b (suc a) ≡ suc a
-  stay-a = heap-stays a b (suc a) (λ e. o .2 (omega arith))
+  stay-a = heap-stays a b (suc a) (λ e. H .two (omega arith))
 
-  next-word : (j : ℕ) → j ≢ none → after t a two Next j ≡ word new Next j
+  -- the links
+  next-word : (j : ℕ) → j ≢ none → after t a (rowOf t b) Next j ≡ word new Next j
   unfolding word
-  next-word j m = go (where-is t D a b o j)
+  next-word j m = go (where-is H j)
     where
-      go : Where t D a b o j → after t a two Next j ≡ unlessFree new j (nextIn j (siblings new j))
+      go : Where H j → after t a (rowOf t b) Next j ≡ unlessFree new j (nextIn j (siblings new j))
       go (inOne h p) =
-          next-one t D a two n₂ j m (out-two j h) (old-list t D a b o j a h p (nextIn j))
-          ∙ sym (joined-list t D a b o j a h stay-a p (nextIn j))
+          next-one t D a (rowOf t b) n₂ j m (out-two j h) (old-list H j a h p (nextIn j))
+          ∙ sym (joined-list H j a h stay-a p (nextIn j))
       go (inTwo h p) =
-          next-kept t D a two n₂ j m (out-one j h)
-          ∙ old-list t D a b o j b h p (nextIn j)
-          ∙ sym (next-behind j one two (out-one j h))
-          ∙ sym (joined-list t D a b o j b h (heap-moves a b) p (nextIn j))
-      go (stays x y e) = next-kept t D a two n₂ j m x ∙ sym (e (nextIn j))
+          next-kept t D a (rowOf t b) n₂ j m (out-one j h)
+          ∙ old-list H j b h p (nextIn j)
+          ∙ sym (next-behind j (rowOf t a) (rowOf t b) (out-one j h))
+          ∙ sym (joined-list H j b h (heap-moves a b) p (nextIn j))
+      go (stays x y e) = next-kept t D a (rowOf t b) n₂ j m x ∙ sym (e (nextIn j))
 
-  prev-word : (j : ℕ) → j ≢ none → after t a two Prev j ≡ word new Prev j
+  prev-word : (j : ℕ) → j ≢ none → after t a (rowOf t b) Prev j ≡ word new Prev j
   unfolding word
-  prev-word j m = go (where-is t D a b o j)
+  prev-word j m = go (where-is H j)
     where
-      go : Where t D a b o j → after t a two Prev j ≡ unlessFree new j (prevIn none j (siblings new j))
+      go : Where H j → after t a (rowOf t b) Prev j ≡ unlessFree new j (prevIn none j (siblings new j))
       go (inOne h p) =
-          prev-kept t D a two n₂ j (out-two j h)
-          ∙ old-list t D a b o j a h p (prevIn none j)
-          ∙ sym (prev-before none j one two (out-two j h))
-          ∙ sym (joined-list t D a b o j a h stay-a p (prevIn none j))
+          prev-kept t D a (rowOf t b) n₂ j (out-two j h)
+          ∙ old-list H j a h p (prevIn none j)
+          ∙ sym (prev-before none j (rowOf t a) (rowOf t b) (out-two j h))
+          ∙ sym (joined-list H j a h stay-a p (prevIn none j))
       go (inTwo h p) =
-          prev-two t D a two n₂ j m (out-one j h) (old-list t D a b o j b h p (prevIn none j))
-          ∙ sym (joined-list t D a b o j b h (heap-moves a b) p (prevIn none j))
-      go (stays x y e) = prev-kept t D a two n₂ j y ∙ sym (e (prevIn none j))
+          prev-two t D a (rowOf t b) n₂ j m (out-one j h) (old-list H j b h p (prevIn none j))
+          ∙ sym (joined-list H j b h (heap-moves a b) p (prevIn none j))
+      go (stays x y e) = prev-kept t D a (rowOf t b) n₂ j y ∙ sym (e (prevIn none j))
 
+  -- the minima: a has the lesser of the two
   least-word : (g : ℕ)
       → cond (eqb a g) (lesser (keyOf t) (minimum t a) (minimum t b)) (cond (eqb b g) none (minimum t g))
       ≡ minimum new g
@@ -133,11 +135,11 @@ module _ (t : Forests) (D : Disjoint t) (a b : ℕ) (o : (a < 8) × (b < 8) × (
   least-word g = go (eqb a g) (eqb b g) refl refl ∙ row-word (leastIn (t .key)) g
     where
       go : (u v : Bool) → eqb a g ≡ u → eqb b g ≡ v
-          → cond u (lesser (keyOf t) (leastIn (t .key) one) (leastIn (t .key) two))
+          → cond u (lesser (keyOf t) (leastIn (t .key) (rowOf t a)) (leastIn (t .key) (rowOf t b)))
           (cond v none (leastIn (t .key) (rowOf t g)))
-          ≡ cond v none (cond u (leastIn (t .key) (one ++ two)) (leastIn (t .key) (rowOf t g)))
-      go true true e d = absurd (o .2 (eqb-true a g e ∙ sym (eqb-true b g d)))
-      go true false e d = sym (least-append (t .key) one two (row-none t D a) n₂)
+          ≡ cond v none (cond u (leastIn (t .key) (rowOf t a ++ rowOf t b)) (leastIn (t .key) (rowOf t g)))
+      go true true e d = absurd (H .two (eqb-true a g e ∙ sym (eqb-true b g d)))
+      go true false e d = sym (least-append (t .key) (rowOf t a) (rowOf t b) (none-row t D a) n₂)
       go false v e d = refl
 
   count-word : (g : ℕ)
@@ -147,14 +149,14 @@ module _ (t : Forests) (D : Disjoint t) (a b : ℕ) (o : (a < 8) × (b < 8) × (
     where
       go : (u : Bool) → eqb a g ≡ u
           → cond u (count t a + count t b) (cond (eqb b g) 0 (count t g)) ≡ count new g
-      go true e = rw (← (eqb-true a g e)) (sym (count-meld t a b (o .2)))
+      go true e = rw (← (eqb-true a g e)) (sym (count-meld t a b (H .two)))
       go false e = sym (counts-move a b g (λ q. eqb-false a g e (sym q)) (t .heap))
 
   state-word : (j : ℕ) → movedState a b (word t State j) ≡ word new State j
   unfolding word meld
   state-word j =
       state-moves a b (heapOf t j) (markOf t j) (D .bit j)
-      ∙ ap (λ g. stateOf g (markOf t j)) (sym (heap-at t D a b o j))
+      ∙ ap (λ g. stateOf g (markOf t j)) (sym (heap-at H j))
 
   abbrev pub Melds : ℕ → Field → Type 0
   Melds n f = (j : ℕ) → j < room n f → rehomed a b (heapsJoined a b (word t)) f j ≡ word new f j
@@ -169,28 +171,28 @@ module _ (t : Forests) (D : Disjoint t) (a b : ℕ) (o : (a < 8) × (b < 8) × (
       let q = apart-from moved f p in
       let plain = apart-some moved (linkKinds (Row a)) f refl p in
       rw (q Minimum refl, q Count refl, q State refl)
-      (empty-else t b (after t a two) f (apart-some moved (Count ∷ nones) f refl p) (plain-after t D a two f b plain) j
-      ∙ plain-after t D a two f j plain
+      (empty-else t b (after t a (rowOf t b)) f (apart-some moved (Count ∷ nones) f refl p) (plain-after t D a (rowOf t b) f b plain) j
+      ∙ plain-after t D a (rowOf t b) f j plain
       ∙ kept-words (children ∷ parents ∷ keys ∷ []) moved t new refl refl refl refl f p j)
 
   pub melded-word : (n : ℕ) → tableSize t ≡ n → (f : Field) → Melds n f
   unfolding rehomed heapsJoined poured emptyHeap word meld headOr lastOr
   melded-word n e =
       by-kinds moved (Melds n)
-      (λ j l. ap (cond (eqb b j) none) (first-after t D a two n₂ j) ∙ row-word (headOr none) j)
-      (λ j l. ap (cond (eqb b j) none) (last-after t D a two n₂ j) ∙ row-word (lastOr none) j)
+      (λ j l. ap (cond (eqb b j) none) (first-after t D a (rowOf t b) n₂ j) ∙ row-word (headOr none) j)
+      (λ j l. ap (cond (eqb b j) none) (last-after t D a (rowOf t b) n₂ j) ∙ row-word (lastOr none) j)
       (λ j l. ap (λ x. cond (eqb a j) (lesser (itemKey (word t)) (minimum t a) (minimum t b)) (cond (eqb b j) none x))
-      (plain-after t D a two Minimum j refl)
+      (plain-after t D a (rowOf t b) Minimum j refl)
       ∙ ap (λ x. cond (eqb a j) x (cond (eqb b j) none (minimum t j)))
       (lesser-keys (itemKey (word t)) (keyOf t) (minimum t a) (minimum t b)
       (λ _. key-is _ t (minimum t a) refl) (λ _. key-is _ t (minimum t b) refl))
       ∙ least-word j)
       (λ j l. ap (λ x. cond (eqb a j) (count t a + count t b) (cond (eqb b j) 0 x))
-      (plain-after t D a two Count j refl)
+      (plain-after t D a (rowOf t b) Count j refl)
       ∙ count-word j)
-      (λ j l. plain-after t D a two FirstChild j refl ∙ sym (free-at t D a b o j (headOr none (childrenOf t j))))
-      (λ j l. plain-after t D a two LastChild j refl ∙ sym (free-at t D a b o j (lastOr none (childrenOf t j))))
+      (λ j l. plain-after t D a (rowOf t b) FirstChild j refl ∙ sym (free-at H j (headOr none (childrenOf t j))))
+      (λ j l. plain-after t D a (rowOf t b) LastChild j refl ∙ sym (free-at H j (lastOr none (childrenOf t j))))
       (λ j l. next-word j (λ q. omega (arith, q, D .small)))
       (λ j l. prev-word j (λ q. omega (arith, q, D .small)))
-      (λ j l. ap (movedState a b) (plain-after t D a two State j refl) ∙ state-word j)
+      (λ j l. ap (movedState a b) (plain-after t D a (rowOf t b) State j refl) ∙ state-word j)
       (λ f p j l. other-word f p j)

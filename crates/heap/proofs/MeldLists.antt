@@ -14,29 +14,36 @@ use Rattle.rules.specs.Lists.{occurs}
 use Rattle.rules.specs.WellFormed.{Disjoint}
 use Rattle.rules.specs.Words.{siblings, unlessFree}
 use Rattle.rules.proofs.Occurs.{and-false, eqb-self}
-use Rattle.store.proofs.Families.{getD-set}
+use Rattle.store.proofs.SetAt.{getD-set}
 use Rattle.heap.proofs.MovedHeaps.{free-stays, heap-stays}
 
-module _ (t : Forests) (D : Disjoint t) (a b : ℕ) (o : (a < 8) × (b < 8) × (a ≢ b)) where
+-- a and b are two of the heaps
+pub record TwoHeaps (t : Forests) (a b : ℕ) : Type 0 where
+  pub disjoint : Disjoint t
+  pub into : a < 8
+  pub from : b < 8
+  pub two : a ≢ b
+
+module _ {t : Forests} {a b : ℕ} (H : TwoHeaps t a b) where
+  D : Disjoint t
+  D = H .disjoint
+
   abbrev new : Forests
   new = meld a b t
 
-  abbrev one : List ℕ
-  one = rowOf t a
-
-  abbrev two : List ℕ
-  two = rowOf t b
-
+  -- the heap of an item, and the row of a heap
   pub heap-at : (j : ℕ) → heapOf new j ≡ moveHeap a b (heapOf t j)
   unfolding meld moveHeap
   heap-at j = List·getD-map (moveHeap a b) (t .heap) j 0
 
-  pub row-at : (g : ℕ) → rowOf new g ≡ cond (eqb b g) [] (cond (eqb a g) (one ++ two) (rowOf t g))
+  pub row-at : (g : ℕ) → rowOf new g ≡ cond (eqb b g) [] (cond (eqb a g) (rowOf t a ++ rowOf t b) (rowOf t g))
   unfolding meld
   row-at g =
-      getD-set (set (t .rows) a (one ++ two)) b g [] [] (omega (arith, length-set (t .rows) a (one ++ two), D .rows8))
-      ∙ ap (cond (eqb b g) []) (getD-set (t .rows) a g (one ++ two) [] (omega (arith, D .rows8)))
+      getD-set (set (t .rows) a (rowOf t a ++ rowOf t b)) b g [] []
+      (omega (arith, length-set (t .rows) a (rowOf t a ++ rowOf t b), D .rows8, H .from))
+      ∙ ap (cond (eqb b g) []) (getD-set (t .rows) a g (rowOf t a ++ rowOf t b) [] (omega (arith, D .rows8, H .into)))
 
+  -- whoever is free was so before
   pub free-at : (j z : ℕ) → unlessFree new j z ≡ unlessFree t j z
   unfolding unlessFree
   free-at j z = rw (heap-at j, free-stays a b (heapOf t j))
@@ -45,9 +52,10 @@ module _ (t : Forests) (D : Disjoint t) (a b : ℕ) (o : (a < 8) × (b < 8) × (
   pub data Where (j : ℕ) : Type 0 where
     inOne : heapOf t j ≡ suc a → parentOf t j ≡ none → Where j
     inTwo : heapOf t j ≡ suc b → parentOf t j ≡ none → Where j
-    stays : occurs j one ≡ 0 → occurs j two ≡ 0
+    stays : occurs j (rowOf t a) ≡ 0 → occurs j (rowOf t b) ≡ 0
         → ((F : List ℕ → ℕ) → unlessFree new j (F (siblings new j)) ≡ unlessFree t j (F (siblings t j))) → Where j
 
+  -- the siblings of a child stay; a root is in the row of its heap
   child-list : (j : ℕ) → parentOf t j ≢ none → siblings new j ≡ siblings t j
   unfolding siblings meld
   child-list j m = rw (ne-eqb (parentOf t j) none m)
@@ -94,13 +102,14 @@ module _ (t : Forests) (D : Disjoint t) (a b : ℕ) (o : (a < 8) × (b < 8) × (
 
   -- the list of the roots of a and of b
   pub joined-list : (j g : ℕ) → heapOf t j ≡ suc g → moveHeap a b (suc g) ≡ suc a → parentOf t j ≡ none
-      → (F : List ℕ → ℕ) → unlessFree new j (F (siblings new j)) ≡ F (one ++ two)
+      → (F : List ℕ → ℕ) → unlessFree new j (F (siblings new j)) ≡ F (rowOf t a ++ rowOf t b)
   unfolding unlessFree
   joined-list j g h m p F =
       free-at j (F (siblings new j))
       ∙ rw (ne-eqb (heapOf t j) 0 (λ e. omega (arith, e, h)), root-list j p, h, m)
-      (ap F (ap (rowOf new) {y = a} (omega arith) ∙ row-at a ∙ rw (ne-eqb b a (λ e. o .2 (sym e)), eqb-self a)))
+      (ap F (ap (rowOf new) {y = a} (omega arith) ∙ row-at a ∙ rw (ne-eqb b a (λ e. H .two (sym e)), eqb-self a)))
 
+  -- the list of a root, before
   pub old-list : (j g : ℕ) → heapOf t j ≡ suc g → parentOf t j ≡ none → (F : List ℕ → ℕ)
       → unlessFree t j (F (siblings t j)) ≡ F (rowOf t g)
   unfolding unlessFree siblings

@@ -19,15 +19,9 @@ use Rattle.store.proofs.Says.{says-as}
 use Rattle.heap.specs.Allowed.{Allowed}
 use Rattle.heap.specs.HeapsJoined.{JoinHeapsReady, RehomeReady, heapsJoined, rehomed}
 use Rattle.heap.proofs.MeldKinds.{melded-word}
-use Rattle.heap.proofs.SoundStore.{
-  first-link,
-  formed,
-  items-size,
-  last-link,
-  minimum-link,
-  says-encode,
-  sound-says,
-}
+use Rattle.heap.proofs.MeldLists.{TwoHeaps}
+use Rattle.heap.proofs.RowLinks.{first-link, last-link, minimum-link}
+use Rattle.heap.proofs.SoundStore.{formed, items-size, says-encode, sound-says}
 
 module _ {w : List ℕ} {n a b : ℕ} (A : Allowed w n (Meld a b)) where
   abbrev t : Forests
@@ -39,12 +33,16 @@ module _ {w : List ℕ} {n a b : ℕ} (A : Allowed w n (Meld a b)) where
   ok : (a < 8) × (b < 8) × (a ≢ b)
   ok = meld-ok t a b (A .done)
 
+  heaps : TwoHeaps t a b
+  heaps = record { disjoint = D; into = ok .0; from = ok .1; two = ok .2 }
+
   e : tableSize t ≡ n
   e = items-size (A .store)
 
   S : Says n w (word t)
   S = sound-says (A .store)
 
+  -- a link read is one of the forests
   link-n : (x y : ℕ) → x ≡ y → Link (tableSize t) y → Link n x
   link-n x y p k m = omega (arith, k (λ q. m (p ∙ q)), p, e)
 
@@ -73,4 +71,4 @@ module _ {w : List ℕ} {n a b : ℕ} (A : Allowed w n (Meld a b)) where
     unfolding meld
     meld-words {w₂} c₂ =
         says-encode (meld a b t) (length-map (t .heap) (moveHeap a b) ∙ e)
-        (says-as n w₂ _ _ (c₂ .says _ (c₁ .says _ S)) (melded-word t D a b ok n e))
+        (says-as n w₂ _ _ (c₂ .says _ (c₁ .says _ S)) (melded-word heaps n e))

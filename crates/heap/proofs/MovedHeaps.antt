@@ -28,6 +28,7 @@ pub heap-moves : (a b : ℕ) → moveHeap a b (suc b) ≡ suc a
 unfolding moveHeap
 heap-moves a b = rw (eqb-self b)
 
+-- the code tests a state word, the rules move a heap field
 pub state-moves : (a b g m : ℕ) → m ≤ 1 → movedState a b (stateOf g m) ≡ stateOf (moveHeap a b g) m
 unfolding movedState stateOf moveHeap
 state-moves a b zero m k =

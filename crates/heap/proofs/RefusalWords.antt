@@ -1,32 +1,29 @@
 -- The tests on words that tell whether a call is refused.
 use Prim.Native.Nat.{ℕ, zero, suc, _≤_, _<_}
-use mathlib.Core.Path.{_≡_, refl, sym, ap, _∙_}
+use mathlib.Core.Path.{_≡_, refl, sym, _∙_}
 use mathlib.Core.Logic.{_≢_}
 use mathlib.Core.List.{List, [], _∷_}
 use mathlib.Core.Bool.{Bool, true, false, cond}
 use native.Mathlib.Omega.{arith}
-use lib.Dec.{ltb}
+use lib.Dec.{eqb, leb, ltb}
 use borrow.Author.Tests.{ltb-false}
-use Rattle.rules.specs.declared.Call.the-variants.{FindMin}
-use Rattle.rules.specs.declared.Field.the-variants.{Count, FirstTree, Key, Minimum, State}
+use Rattle.rules.specs.declared.Call.the-variants.{DecreaseKey, Delete, FindMin}
+use Rattle.rules.specs.declared.Field.the-variants.{FirstTree, State}
 use Rattle.rules.specs.Answers.{isEmpty, refusal}
-use Rattle.rules.specs.Forests.{Forests, count, heapOf, keyOf, markOf, none, rowOf, tableSize}
-use Rattle.rules.specs.Lists.{delta, occurs, sumBy}
-use Rattle.rules.specs.Order.{minimum}
-use Rattle.rules.specs.Words.{forestsOf, headOr, look, stateOf, word}
-use Rattle.rules.proofs.Occurs.{delta-self}
+use Rattle.rules.specs.Forests.{Forests, heapOf, keyOf, markOf, none, rowOf, tableSize}
+use Rattle.rules.specs.Words.{forestsOf, headOr, look, stateOf}
+use Rattle.rules.proofs.Refusals.{delete-ok}
+use Rattle.store.proofs.Standing.{none-row}
+use Rattle.consolidate.proofs.Chains.{head-none}
 use Rattle.heap.specs.Allowed.{Allowed, Store}
-use Rattle.heap.proofs.SoundStore.{formed, items-size, row-none, sound-says}
+use Rattle.heap.proofs.ItemHeap.{item-inside}
+use Rattle.heap.proofs.SoundStore.{first-at, formed, items-size, state-at}
 
+-- only a free item has the state 0
 stateOf-free : (g m : ℕ) → stateOf g m ≡ 0 → g ≡ 0
 unfolding stateOf
 stateOf-free zero m e = refl
 stateOf-free (suc g) m e = absurd (omega arith)
-
-headOr-none : (l : List ℕ) → occurs none l ≡ 0 → headOr none l ≡ none → isEmpty l ≡ true
-unfolding headOr isEmpty occurs sumBy
-headOr-none [] n e = refl
-headOr-none (x ∷ l) n e = absurd (omega (arith, delta-self none, ap (delta none) e))
 
 headOr-some : (l : List ℕ) → headOr none l ≢ none → isEmpty l ≡ false
 unfolding headOr isEmpty
@@ -45,34 +42,37 @@ module _ {w : List ℕ} {n : ℕ} (S : Store w n) where
 
   -- an item whose state word is 0 is free, any other is in a heap
   pub state-free : {i x : ℕ} → i < n → x ≡ look n w State i → x ≡ 0 → heapOf t i ≡ 0
-  unfolding word
-  state-free {i} k p e = stateOf-free (heapOf t i) (markOf t i) (sym (sound-says S .says State i k) ∙ sym p ∙ e)
+  state-free {i} k p e = stateOf-free (heapOf t i) (markOf t i) (sym (state-at S k) ∙ sym p ∙ e)
 
   pub state-live : {i x : ℕ} → i < n → x ≡ look n w State i → x ≢ 0 → heapOf t i ≢ 0
-  unfolding word stateOf
-  state-live {i} k p m e = m (p ∙ sound-says S .says State i k ∙ rw e)
-
-  pub key-at : {i : ℕ} → i < n → look n w Key i ≡ keyOf t i
-  unfolding word
-  key-at {i} k = sound-says S .says Key i k
-
-  pub minimum-at : {h : ℕ} → h < 8 → look n w Minimum h ≡ minimum t h
-  unfolding word
-  minimum-at {h} k = sound-says S .says Minimum h k
-
-  pub count-at : {h : ℕ} → h < 8 → look n w Count h ≡ count t h
-  unfolding word
-  count-at {h} k = sound-says S .says Count h k
+  unfolding stateOf
+  state-live {i} k p m e = m (p ∙ state-at S k ∙ rw e)
 
   -- a heap whose first tree is none is empty, any other is not
   pub row-empty : {h x : ℕ} → h < 8 → x ≡ look n w FirstTree h → x ≡ none → isEmpty (rowOf t h) ≡ true
-  unfolding word
+  unfolding isEmpty
   row-empty {h} k p e =
-      headOr-none (rowOf t h) (row-none t (formed S .disjoint) h) (sym (sound-says S .says FirstTree h k) ∙ sym p ∙ e)
+      rw (head-none (rowOf t h) (none-row t (formed S .disjoint) h) (sym (first-at S k) ∙ sym p ∙ e))
 
   pub row-some : {h x : ℕ} → h < 8 → x ≡ look n w FirstTree h → x ≢ none → isEmpty (rowOf t h) ≡ false
-  unfolding word
-  row-some {h} k p m = headOr-some (rowOf t h) (λ e. m (p ∙ sound-says S .says FirstTree h k ∙ e))
+  row-some {h} k p m = headOr-some (rowOf t h) (λ e. m (p ∙ first-at S k ∙ e))
+
+-- D is refused as X is, and then by the key
+pub decrease-refusal : (t : Forests) (i k : ℕ) → refusal t (DecreaseKey i k)
+    ≡ cond (eqb (refusal t (Delete i)) 0) (cond (ltb (keyOf t i) k) 11 0) (refusal t (Delete i))
+unfolding refusal
+decrease-refusal t i k = go (leb (tableSize t) i) (eqb (heapOf t i) 0) (cond (ltb (keyOf t i) k) 11 0)
+  where
+    go : (u v : Bool) (c : ℕ)
+        → cond u 8 (cond v 10 c) ≡ cond (eqb (cond u 8 (cond v 10 0)) 0) c (cond u 8 (cond v 10 0))
+    go true v c = refl
+    go false true c = refl
+    go false false c = refl
+
+-- the item of a call that X would not be refused on is in the table
+pub item-allowed : {w : List ℕ} {n i code : ℕ} → Store w n → code ≡ refusal (forestsOf w) (Delete i) → code ≡ 0 → i < n
+item-allowed {w} {n} {i} S e z =
+    item-inside (record { store = S; live = delete-ok (forestsOf w) i (sym e ∙ z) })
 
 -- the heap of a call that asks for the minimum is one of the eight
 pub find-heap : {w : List ℕ} {n h : ℕ} → Allowed w n (FindMin h) → h < 8

@@ -55,15 +55,14 @@ fn refuse_delete(s: &[u32], n: usize, i: u32) -> u32
     0
 }
 
+// As for X, and then by the key.
 fn refuse_decrease(s: &[u32], n: usize, i: u32, k: u32) -> u32
     requires { ⌜ Store (now s) n ⌝ }
     ensures { λ r. ⌜ r ≡ answers.refusal (forestsOf (now (s .entry))) (DecreaseKey i k) ⌝ }
 {
-    if i as usize >= n {
-        return 8;
-    }
-    if get(s, n, Field::State, i) == 0 {
-        return 10;
+    let code = refuse_delete(s, n, i);
+    if code != 0 {
+        return code;
     }
     if k > get(s, n, Field::Key, i) {
         return 11;

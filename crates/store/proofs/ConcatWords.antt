@@ -37,10 +37,12 @@ abbrev pub linkKinds : Owner → List Field
 linkKinds o = firstKind o ∷ lastKind o ∷ Next ∷ Prev ∷ []
 
 module _ (x y : ℕ) (v : Values) where
+  -- an empty chain changes nothing
   pub concat-none : (o : Owner) → x ≡ none → (f : Field) (i : ℕ) → concatenated o x y v f i ≡ v f i
   unfolding concatenated
   concat-none o e f i = rw e
 
+  -- nor does any chain change words of other kinds
   pub concat-other : (o : Owner) (f : Field) (i : ℕ) → Apart (linkKinds o) f → concatenated o x y v f i ≡ v f i
   unfolding concatenated joined setNext setFirst setLast firstOf lastOf
   concat-other o f i a = go (eqb x none)
@@ -58,6 +60,7 @@ module _ (x y : ℕ) (v : Values) where
       go false = kept o a
 
   module _ (some : x ≢ none) where
+    -- the links of the members
     pub concat-next : (o : Owner) (j : ℕ) → concatenated o x y v Next j ≡ cond (eqb (lastOf o v) j) x (v Next j)
     unfolding concatenated joined setNext setFirst setLast firstOf lastOf
     concat-next (Row h) j = rw (ne-eqb x none some)

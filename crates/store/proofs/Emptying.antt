@@ -33,6 +33,7 @@ use Rattle.rules.proofs.Words.{words-equal}
 use Rattle.store.specs.Says.{Sized, Values, Says, Changes}
 use Rattle.store.specs.Empty.{emptyHeap}
 use Rattle.store.proofs.Says.{says-as}
+use Rattle.store.proofs.SetAt.{cond-same}
 
 -- the kinds of which an empty heap has the word `none`
 abbrev pub nones : List Field
@@ -42,12 +43,9 @@ nones = FirstTree ∷ LastTree ∷ Minimum ∷ []
 abbrev pub emptied : ℕ → Values
 emptied k f i = cond (isOneOf nones f) (cond (ltb i k) none 0) 0
 
+-- all words 0: no heap is empty yet
 emptied-none : (f : Field) (i : ℕ) → 0 ≡ emptied 0 f i
-emptied-none f i = rw (le-ltb i 0 (omega arith)) (go (isOneOf nones f))
-  where
-    go : (t : Bool) → 0 ≡ cond {A = ℕ} t 0 0
-    go true = refl
-    go false = refl
+emptied-none f i = rw (le-ltb i 0 (omega arith)) (sym (cond-same (isOneOf nones f) 0))
 
 -- emptying a heap leaves its words of every other kind, if they are those of a heap
 pub empty-else : (s : Forests) (h : ℕ) (v : Values) (f : Field) → Apart (Count ∷ nones) f → v f h ≡ word s f h
@@ -68,24 +66,22 @@ one-more k i = go (eqb k i) (ltb i k) refl refl
         let m : k ≡ i → ⊥ = eqb-false k i d in
         rw (le-ltb i (k + 1) (omega (arith, ltb-false i k e)))
 
+-- one heap more, word by word
 emptied-more : (k : ℕ) (f : Field) (i : ℕ) → emptyHeap k (emptied k) f i ≡ emptied (k + 1) f i
 unfolding emptyHeap
 emptied-more k =
     by-kinds (Count ∷ nones) (λ f. (i : ℕ) → emptyHeap k (emptied k) f i ≡ emptied (k + 1) f i)
-    (λ i. go (eqb k i)) (one-more k) (one-more k) (one-more k)
+    (λ i. cond-same (eqb k i) 0) (one-more k) (one-more k) (one-more k)
     (λ f o i.
     let e = apart-from (Count ∷ nones) f o in
     rw (e Count refl, e FirstTree refl, e LastTree refl, e Minimum refl))
-  where
-    go : (t : Bool) → cond {A = ℕ} t 0 0 ≡ 0
-    go true = refl
-    go false = refl
 
 count-empty : (n h : ℕ) → count (empty n) h ≡ 0
 unfolding count sumBy
 count-empty zero h = refl
 count-empty (suc n) h = rw (eqb·zero-suc h) (omega (arith, count-empty n h))
 
+-- eight empty heaps over free items: the words of the empty forests
 emptied-all : (n : ℕ) (f : Field) (i : ℕ) → i < room n f → emptied 8 f i ≡ word (empty n) f i
 unfolding word headOr lastOr minimum leastIn unlessFree stateOf
 emptied-all n FirstTree i k = rw (lt-ltb i 8 k, getD-all 8 i)

@@ -25,6 +25,7 @@ module _ (n : ℕ) (counts minima : ℕ → ℕ) (t : Forests) (c : (h : ℕ) �
   abbrev Agree : Field → Type 0
   Agree f = (i : ℕ) → i < room n f → wordBut counts minima t f i ≡ word t f i
 
+  -- where the counts are the true ones only the minima may differ
   pub but-minima : (f : Field) → Apart (Minimum ∷ []) f → (i : ℕ) → i < room n f
       → wordBut counts minima t f i ≡ word t f i
   unfolding wordBut word
@@ -50,6 +51,7 @@ disjoint-shape s D =
     }
 
 module _ (n : ℕ) (s : Forests) (D : Disjoint s) (N : tableSize s ≡ n) where
+  -- a row and the children of an item are families
   pub row-family : (h : ℕ) → h < 8 → Family n s (Row h)
   unfolding listOf ownerOf
   row-family h k =
@@ -73,6 +75,7 @@ module _ (n : ℕ) (s : Forests) (D : Disjoint s) (N : tableSize s ≡ n) where
             (b .0, rw (b .1, ne-eqb p none (λ z. not-none s D p k (sym z))));
       }
 
+-- words and the forests that they encode
 pub encode-holds : (s : Forests) → Disjoint s → (w : List ℕ) → w ≡ encode s
     → Holds (tableSize s) w (count s) (minimum s) s none
 unfolding encode

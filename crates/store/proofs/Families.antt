@@ -1,11 +1,11 @@
 -- The links of an item are those in the list of its owner; a list changed changes only the links of its members.
-use Prim.Native.Nat.{ℕ, _-_, _<_}
+use Prim.Native.Nat.{ℕ, _<_}
 use mathlib.Core.Path.{_≡_, refl, sym, ap, _∙_}
 use mathlib.Core.Logic.{_≢_}
 use mathlib.Core.List.{List, []}
 use mathlib.Core.Bool.{Bool, true, false, cond}
 use native.Mathlib.Omega.{arith}
-use lib.ListN.{length, getD, set}
+use lib.ListN.{length}
 use lib.Seq.{getD-set-same, getD-set-other}
 use lib.Dec.{eqb}
 use borrow.Author.Tests.{eqb-true, eqb-false, ne-eqb}
@@ -13,14 +13,14 @@ use Rattle.rules.specs.Forests.{Forests, none, rowOf, childrenOf, parentOf, hea
 use Rattle.rules.specs.Words.{siblings, unlessFree}
 use Rattle.store.specs.declared.Owner.{Owner}
 use Rattle.store.specs.declared.Owner.the-variants.{Row, Children}
-use Rattle.store.specs.Families.{listOf, ownerOf, Shape}
+use Rattle.store.specs.Families.{listOf, ownerOf}
 
 -- two owners are one, or not
 pub data Same (o q : Owner) : Type 0 where
   same : q ≡ o → Same o q
   other : q ≢ o → Same o q
 
-pub same-owner : (o q : Owner) → Same o q
+same-owner : (o q : Owner) → Same o q
 same-owner (Row h) (Row g) = go (eqb g h) refl
   where
     go : (t : Bool) → eqb g h ≡ t → Same (Row h) (Row g)
@@ -34,7 +34,8 @@ same-owner (Children p) (Children q) = go (eqb q p) refl
     go true e = same (ap Children (eqb-true q p e))
     go false e = other (λ d. eqb-false q p e (cc))
 
-pub siblings-owner : (t : Forests) (i : ℕ) → siblings t i ≡ listOf t (ownerOf t i)
+-- the siblings of an item are the list of its owner
+siblings-owner : (t : Forests) (i : ℕ) → siblings t i ≡ listOf t (ownerOf t i)
 unfolding siblings listOf ownerOf
 siblings-owner t i = go (eqb (parentOf t i) none)
   where
@@ -72,6 +73,7 @@ unfolding unlessFree
 inside-word t o j F m e = rw (ne-eqb (heapOf t j) 0 m, siblings-owner t j, e)
 
 module _ {t t′ : Forests} {o : Owner} {x : ℕ} {l : List ℕ} (R : Relisted t t′ o x l) where
+  -- a link of an item in the list, after the change, and of one in another list
   pub inside-relisted : (j : ℕ) (F : List ℕ → ℕ) → j ≢ x → heapOf t j ≢ 0 → ownerOf t j ≡ o
       → unlessFree t′ j (F (siblings t′ j)) ≡ F l
   inside-relisted j F n m e =
@@ -88,24 +90,16 @@ module _ {t t′ : Forests} {o : Owner} {x : ℕ} {l : List ℕ} (R : Relisted t
           ap F (siblings-owner t′ j ∙ ap (listOf t′) (R .owners j n)
           ∙ R .lists (ownerOf t j) (m (eqb-false (heapOf t j) 0 e)) ∙ sym (siblings-owner t j))
 
--- a list of values with one changed
-pub getD-set : {A : Type 0} (l : List A) (i j : ℕ) (a d : A) → i < length l
-    → getD (set l i a) j d ≡ cond (eqb i j) a (getD l j d)
-getD-set l i j a d k = go (eqb i j) refl
-  where
-    go : (b : Bool) → eqb i j ≡ b → getD (set l i a) j d ≡ cond b a (getD l j d)
-    go true e = rw (← (eqb-true i j e)) (getD-set-same l i a d k)
-    go false e = getD-set-other l i j a d (λ q. eqb-false i j e (sym q))
-
 -- ---- the list of one owner set
 
-pub row-relisted : (n : ℕ) (t : Forests) (x h : ℕ) (l : List ℕ) → Shape n t → h < 8
+-- a row set, or the children of an item
+pub row-relisted : (t : Forests) (x h : ℕ) (l : List ℕ) → h < length (t .rows)
     → Relisted t (setRow h l t) (Row h) x l
 unfolding listOf ownerOf
-row-relisted n t x h l S k =
+row-relisted t x h l k =
     record {
       heap = λ j. refl;
-      list = getD-set-same (t .rows) h l [] (omega (arith, S .rows8));
+      list = getD-set-same (t .rows) h l [] k;
       lists = λ q m. other q m;
       owners = λ j m. refl;
     }
@@ -114,13 +108,13 @@ row-relisted n t x h l S k =
     other (Row g) m = getD-set-other (t .rows) h g l [] (λ e. m (ap Row e))
     other (Children q) m = refl
 
-pub children-relisted : (n : ℕ) (t : Forests) (x p : ℕ) (l : List ℕ) → Shape n t → p < n
+pub children-relisted : (t : Forests) (x p : ℕ) (l : List ℕ) → p < length (t .children)
     → Relisted t (setChildren p l t) (Children p) x l
 unfolding listOf ownerOf
-children-relisted n t x p l S k =
+children-relisted t x p l k =
     record {
       heap = λ j. refl;
-      list = getD-set-same (t .children) p l [] (omega (arith, S .childrenN));
+      list = getD-set-same (t .children) p l [] k;
       lists = λ q m. other q m;
       owners = λ j m. refl;
     }

@@ -46,6 +46,7 @@ by-heaps P h key parent first last next prev rank state Prev = prev
 by-heaps P h key parent first last next prev rank state Rank = rank
 by-heaps P h key parent first last next prev rank state State = state
 
+-- there are eight words of each of these kinds
 pub room-heap : (n : ℕ) (f : Field) → ofHeap f ≡ true → room n f ≡ 8
 room-heap n =
     by-kinds heapKinds (λ f. ofHeap f ≡ true → room n f ≡ 8)
@@ -64,6 +65,7 @@ word-heap s h =
 -- ---- the test of all
 
 module _ (n : ℕ) (w : List ℕ) (h : ℕ) where
+  -- the test holds where each word has its value
   each-has : (v : Field → ℕ) (fs : List Field) → have n w h v fs ≡ true → (f : Field) → isOneOf fs f ≡ true
       → look n w f h ≡ v f
   unfolding have

@@ -11,7 +11,7 @@ use Rattle.rules.specs.Forests.{Forests, none, rowOf, childrenOf}
 use Rattle.rules.specs.SetWord.{setWord}
 use Rattle.rules.specs.Words.{room, word}
 use Rattle.rules.proofs.Places.{room-small}
-use Rattle.rules.proofs.Words.{setWord-other, setWord-own}
+use Rattle.rules.proofs.Words.{setWord-other}
 use Rattle.store.specs.declared.Owner.{Owner}
 use Rattle.store.specs.declared.Owner.the-variants.{Row, Children}
 use Rattle.store.specs.Says.{Values, Says, Changes}
@@ -37,6 +37,7 @@ reshape t′ S r c p k m h =
       heapN = h ∙ S .heapN;
     }
 
+-- no table changes its length
 append-shape : (n : ℕ) (t : Forests) (o : Owner) (x : ℕ) → Shape n t → Shape n (appendTo o x t)
 unfolding appendTo
 append-shape n t (Row h) x S =
@@ -63,12 +64,8 @@ loose-none n v a b h f i k =
     let m : none ≡ i → ⊥ = λ e. omega (arith, e, room-small n f h) in
     setWord-other (setWord Prev none b v) Next none a f i (λ _. m) ∙ setWord-other v Prev none b f i (λ _. m)
 
--- the links of an item as they are
-loose-own : (v : Values) (x : ℕ) (f : Field) (i : ℕ) → loose x (v Next x) (v Prev x) v f i ≡ v f i
-unfolding loose
-loose-own v x f i = setWord-own (setWord Prev x (v Prev x) v) Next x f i ∙ setWord-own v Prev x f i
-
 module _ {n : ℕ} {w : List ℕ} {counts minima : ℕ → ℕ} {t : Forests} where
+  -- where no item is between two lists the words say all
   pub says-holds : Shape n t → Says n w (wordBut counts minima t) → Holds n w counts minima t none
   says-holds S s =
       record {
@@ -84,6 +81,7 @@ module _ {n : ℕ} {w : List ℕ} {counts minima : ℕ → ℕ} {t : Forests} wh
       loose-none n (wordBut counts minima t) (H .next) (H .prev) (H .shape .small) f i k)
 
 module _ {n : ℕ} {w w′ : List ℕ} {counts minima : ℕ → ℕ} {t : Forests} where
+  -- the moves
   pub append-holds : (o : Owner) (x : ℕ) → Holds n w counts minima t x → Family n t o → x < n
       → occurs x (listOf t o) ≡ 0 → MayJoin t o x → Changes n w (appended o x) w′
       → Holds n w′ counts minima (appendTo o x t) none

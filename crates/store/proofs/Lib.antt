@@ -3,9 +3,12 @@ pub mod Says
 pub mod ItemOrder
 pub mod Owners
 pub mod Moves
+pub mod SetAt
 pub mod Families
+pub mod Standing
 pub mod Listed
 pub mod KeptWords
+pub mod AppendLinks
 pub mod AppendWords
 pub mod RemoveWords
 pub mod Ready

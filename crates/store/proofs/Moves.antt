@@ -26,6 +26,7 @@ use Rattle.store.specs.Siblings.{
   removed,
 }
 
+-- the last of a list, by any values that the words say
 pub last-says : {n : ℕ} {w : List ℕ} {v : Values} (o : Owner) → Inside n o → Says n w v
     → lastOf o (look n w) ≡ lastOf o v
 unfolding lastOf
@@ -34,6 +35,7 @@ last-says (Children p) k s = s .says _ p k
 
 -- ---- the rank
 
+-- a row has no rank, and stays as it is
 pub row-rank : {n : ℕ} {w : List ℕ} {o : Owner} {h : ℕ} → o ≡ Row h → Sized n w
     → Changes n w (addRank o) w × Changes n w (dropRank o) w
 unfolding addRank dropRank

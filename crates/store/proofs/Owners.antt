@@ -1,4 +1,4 @@
--- The words of an owner are in the store.
+-- The words of an owner are in the store, and what storing a link of its list changes.
 use Prim.Native.Nat.{ℕ, _<_}
 use mathlib.Core.Path.{_≡_, sym, subst}
 use mathlib.Core.Logic.{_≢_}
@@ -32,11 +32,13 @@ children-within {n} {w} {o} {i} f r e p =
 
 -- ---- a link stored: the word of an item, or an end of the list
 
+-- there is no word of `none`
 no-word : {n : ℕ} {w : List ℕ} {v : Values} (f g : Field) (x : ℕ) → Says n w v → (i : ℕ) → i < room n g
     → setWord f none x v g i ≡ v g i
 no-word {n} {w} {v} f g x s i k =
     setWord-other v f none x g i (λ _ e. omega (arith, e, room-small n g (s .sized .small)))
 
+-- the end of a list stored as it is
 first-own : (o : Owner) (v : Values) (f : Field) (i : ℕ) → v f i ≡ setFirst o (firstOf o v) v f i
 unfolding setFirst firstOf
 first-own (Row h) v f i = sym (setWord-own v FirstTree h f i)

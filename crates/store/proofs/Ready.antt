@@ -3,11 +3,9 @@ use Prim.Native.Nat.{ℕ, _≤_, _<_}
 use mathlib.Core.Path.{_≡_, refl, sym, subst, _∙_}
 use mathlib.Core.Logic.{_≢_}
 use mathlib.Core.List.{List, [], _∷_}
-use mathlib.Core.Bool.{Bool, true, false}
 use native.Mathlib.Omega.{arith}
 use lib.ListN.{length}
-use lib.Dec.{eqb}
-use borrow.Author.Tests.{eqb-true, eqb-false, ne-eqb}
+use borrow.Author.Tests.{ne-eqb}
 use Rattle.rules.specs.declared.Field.the-variants.{Next, Prev, Rank}
 use Rattle.rules.specs.Lists.{occurs, sumBy}
 use Rattle.rules.specs.Forests.{Forests, none, heapOf, rankOf}
@@ -21,6 +19,7 @@ use Rattle.store.specs.declared.Owner.{Owner}
 use Rattle.store.specs.declared.Owner.the-variants.{Row, Children}
 use Rattle.store.specs.Siblings.{Inside, Link, lastOf, OwnerReady, RankRises, RankFalls, AppendReady, RemoveReady}
 use Rattle.store.specs.Families.{listOf, wordBut, loose, Shape, Present, Family, Holds}
+use Rattle.store.proofs.Listed.{link-in, not-in}
 use Rattle.store.proofs.Moves.{last-says}
 use Rattle.store.proofs.RemoveWords.{next-of, prev-of}
 
@@ -40,36 +39,27 @@ module _ (n : ℕ) (t : Forests) (o : Owner) (S : Shape n t) (F : Family n t o) 
   member y k = omega (arith, heap-in t y (F .owned y k .0), S .heapN)
 
   no-member : (y : ℕ) → n ≤ y → occurs y (listOf t o) ≡ 0
-  no-member y h = go (eqb (occurs y (listOf t o)) 0) refl
-    where
-      go : (b : Bool) → eqb (occurs y (listOf t o)) 0 ≡ b → occurs y (listOf t o) ≡ 0
-      go true e = eqb-true (occurs y (listOf t o)) 0 e
-      go false e =
-          let d : occurs y (listOf t o) ≢ 0 = eqb-false (occurs y (listOf t o)) 0 e in
-          absurd (omega (arith, member y (omega arith)))
+  no-member y h = not-in y (listOf t o) (λ i. omega (arith, member y i))
 
-  pub list-short : length (listOf t o) ≤ n
+  -- a list has at most as many members as there are items
+  list-short : length (listOf t o) ≤ n
   list-short = once-short n (listOf t o) (F .once) no-member
 
+  -- the ends of a list and the links of its members are in the table, or none
   member-link : (z : ℕ) → 1 ≤ occurs z (none ∷ listOf t o) → Link n z
   unfolding occurs sumBy
   member-link z k m = member z (omega (arith, delta-other z none (λ e. m (sym e))))
 
-  pub last-link : Link n (lastOr none (listOf t o))
+  last-link : Link n (lastOr none (listOf t o))
   last-link = member-link (lastOr none (listOf t o)) (last-in none (listOf t o))
 
-  pub prev-link : (x : ℕ) → 1 ≤ occurs x (listOf t o) → Link n (prevIn none x (listOf t o))
+  prev-link : (x : ℕ) → 1 ≤ occurs x (listOf t o) → Link n (prevIn none x (listOf t o))
   prev-link x k = member-link (prevIn none x (listOf t o)) (prev-in none x (listOf t o) k)
 
-  pub next-link : (x : ℕ) → Link n (nextIn x (listOf t o))
-  next-link x m = go (eqb (occurs z (listOf t o)) 0) refl
-    where
-      z : ℕ
-      z = nextIn x (listOf t o)
-
-      go : (b : Bool) → eqb (occurs z (listOf t o)) 0 ≡ b → nextIn x (listOf t o) < n
-      go true e = absurd (next-out x z (listOf t o) (eqb-true (occurs z (listOf t o)) 0 e) m refl)
-      go false e = let d : occurs z (listOf t o) ≢ 0 = eqb-false (occurs z (listOf t o)) 0 e in member z (omega arith)
+  next-link : (x : ℕ) → Link n (nextIn x (listOf t o))
+  next-link x =
+      link-in n (listOf t o) member (nextIn x (listOf t o))
+      (λ m z. next-out x (nextIn x (listOf t o)) (listOf t o) z m refl)
 
 -- the last word of a list whose words are those of the forests
 last-word : (n : ℕ) (counts minima : ℕ → ℕ) (t : Forests) (o : Owner) → Present n t o → (x a b : ℕ)
@@ -79,6 +69,7 @@ last-word n counts minima t (Row h) p x a b = refl
 last-word n counts minima t (Children q) p x a b = rw (ne-eqb (heapOf t q) 0 (p .1))
 
 module _ {n : ℕ} {w : List ℕ} {counts minima : ℕ → ℕ} {t : Forests} {x : ℕ} (H : Holds n w counts minima t x) where
+  -- the rank of an owner can rise, since its list is short, and fall, where it has a member
   rank-word : (p : ℕ) → p < n → look n w Rank p ≡ rankOf t p
   unfolding loose wordBut word
   rank-word p k = H .says .says Rank p k
@@ -95,10 +86,10 @@ module _ {n : ℕ} {w : List ℕ} {counts minima : ℕ → ℕ} {t : Forests} {x
   rank-falls (Children p) F y k =
       omega (arith, rank-word p (F .present .0), member-long y (listOf t (Children p)) k)
 
-  pub owner-ready : (o : Owner) → Family n t o → OwnerReady n w o
+  owner-ready : (o : Owner) → Family n t o → OwnerReady n w o
   owner-ready o F = record { sized = H .says .sized; inside = present-inside n t o (F .present) }
 
-  pub last-ready : (o : Owner) → Family n t o → Link n (lastOf o (look n w))
+  last-ready : (o : Owner) → Family n t o → Link n (lastOf o (look n w))
   last-ready o F =
       subst (Link n)
       (sym (last-says o (present-inside n t o (F .present)) (H .says)
@@ -110,11 +101,11 @@ module _ {n : ℕ} {w : List ℕ} {counts minima : ℕ → ℕ} {t : Forests} {x
       record { owner = owner-ready o F; last = last-ready o F; item = k; rank = rank-rises o F }
 
   -- the links of an item other than x
-  pub next-word : (y : ℕ) → y < n → y ≢ x → look n w Next y ≡ word t Next y
+  next-word : (y : ℕ) → y < n → y ≢ x → look n w Next y ≡ word t Next y
   unfolding loose wordBut
   next-word y k m = H .says .says Next y k ∙ rw (ne-eqb x y (λ e. m (sym e)))
 
-  pub prev-word : (y : ℕ) → y < n → y ≢ x → look n w Prev y ≡ word t Prev y
+  prev-word : (y : ℕ) → y < n → y ≢ x → look n w Prev y ≡ word t Prev y
   unfolding loose wordBut
   prev-word y k m = H .says .says Prev y k ∙ rw (ne-eqb x y (λ e. m (sym e)))
 

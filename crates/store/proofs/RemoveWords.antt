@@ -1,5 +1,5 @@
 -- The words after a removal are those of the forests in which x left the list, but for its own links.
-use Prim.Native.Nat.{ℕ, _-_, _≤_, _<_}
+use Prim.Native.Nat.{ℕ, _≤_, _<_}
 use mathlib.Core.Path.{_≡_, refl, sym}
 use mathlib.Core.Logic.{_≢_}
 use mathlib.Core.List.{List, [], _∷_}
@@ -35,13 +35,16 @@ use Rattle.store.proofs.Families.{
   children-relisted,
 }
 use Rattle.store.proofs.KeptWords.{kept-but}
-use Rattle.store.proofs.Listed.{none-out, absent, not-none, set-at}
+use Rattle.store.proofs.Listed.{none-out, absent, not-none}
+use Rattle.store.proofs.SetAt.{cond-same, set-at}
 
+-- only the list of o changes
 relisted : (n : ℕ) (t : Forests) (x : ℕ) (o : Owner) → Shape n t → Present n t o
     → Relisted t (removeFrom o x t) o x (without x (listOf t o))
 unfolding removeFrom listOf
-relisted n t x (Row h) S p = row-relisted n t x h (without x (rowOf t h)) S p
-relisted n t x (Children p) S i = children-relisted n t x p (without x (childrenOf t p)) S (i .0)
+relisted n t x (Row h) S p = row-relisted t x h (without x (rowOf t h)) (omega (arith, S .rows8))
+relisted n t x (Children p) S i =
+    children-relisted t x p (without x (childrenOf t p)) (omega (arith, i .0, S .childrenN))
 
 module _ (n : ℕ) (t : Forests) (o : Owner) (x : ℕ) (S : Shape n t) (F : Family n t o)
     (k : 1 ≤ occurs x (listOf t o)) where
@@ -87,15 +90,12 @@ module _ (n : ℕ) (t : Forests) (o : Owner) (x : ℕ) (S : Shape n t) (F : Fami
       → cond (eqb (word t g x) j) (word t f x) (word t f j) ≡ cond (eqb x j) (word t f x) (word (removeFrom o x t) f j)
   past f g j e = go (eqb x j) refl
     where
-      either : (c : Bool) → cond c (word t f x) (word t f x) ≡ word t f x
-      either true = refl
-      either false = refl
-
       go : (c : Bool) → eqb x j ≡ c
           → cond (eqb (word t g x) j) (word t f x) (word t f j) ≡ cond c (word t f x) (word (removeFrom o x t) f j)
-      go true d = rw (← (eqb-true x j d)) (either (eqb (word t g x) x))
+      go true d = rw (← (eqb-true x j d)) (cond-same (eqb (word t g x) x) (word t f x))
       go false d = e (λ z. eqb-false x j d (sym z))
 
+  -- the next word of any item, and the previous one
   next-law : (j : ℕ) → j < n
       → cond (eqb (word t Prev x) j) (word t Next x) (word t Next j)
       ≡ cond (eqb x j) (word t Next x) (word (removeFrom o x t) Next j)
@@ -116,6 +116,7 @@ module _ (n : ℕ) (t : Forests) (o : Owner) (x : ℕ) (S : Shape n t) (F : Fami
   last-law = rw (prev-of, next-of) (sym (last-without none x (listOf t o) (none-out n t o S F) k))
 
 module _ (n : ℕ) (counts minima : ℕ → ℕ) (t : Forests) (x : ℕ) (S : Shape n t) where
+  -- the words of kind f after the removal are those of the forests after it, but for the links of x
   abbrev pub Removes : Owner → Field → Type 0
   Removes o f =
       (j : ℕ) → j < room n f

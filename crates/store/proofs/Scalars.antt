@@ -17,9 +17,9 @@ use Rattle.rules.proofs.Parts.{rows, children, parents, keys, marks, heaps}
 use Rattle.store.specs.Says.{Changes, Values}
 use Rattle.store.specs.Families.{wordBut, loose, Shape, Holds}
 use Rattle.store.proofs.Says.{says-as}
-use Rattle.store.proofs.Families.{getD-set}
 use Rattle.store.proofs.Holds.{reshape}
 use Rattle.store.proofs.KeptWords.{kept-but}
+use Rattle.store.proofs.SetAt.{getD-set}
 
 -- a function with one value changed
 abbrev pub instead : (ℕ → ℕ) → ℕ → ℕ → ℕ → ℕ
@@ -29,6 +29,7 @@ module _ (n : ℕ) (counts minima : ℕ → ℕ) (t : Forests) (x a b : ℕ) (S 
   abbrev words : (ℕ → ℕ) → (ℕ → ℕ) → Forests → Values
   words c m s = loose x a b (wordBut c m s)
 
+  -- a key, a mark or a minimum stored: the words of the forests with that change
   key-word : (i k : ℕ) → i < n → (f : Field) (j : ℕ)
       → setWord Key i k (words counts minima t) f j ≡ words counts minima (setKey i k t) f j
   unfolding loose wordBut word

@@ -1,4 +1,4 @@
--- `heap::climb` meets its contract.
+-- `consolidate::climb` meets its contract.
 use Prim.Native.Nat.{ℕ, _+_, _-_, _≤_}
 use mathlib.Core.Path.{_≡_, refl, _∙_}
 use mathlib.Core.List.{List, _∷_}
@@ -9,7 +9,8 @@ use Rattle.rules.specs.Consolidate.{occupied}
 use Rattle.rules.specs.Forests.{Forests}
 use Rattle.consolidate.specs.Consolidating.{Consolidating, Settles, settle}
 use Rattle.consolidate.proofs.Climbing.{Climbing, climb-ends, climb-starts, rank-inside, tree-inside}
-use Rattle.consolidate.proofs.ClimbLink.{climb-step, holder-inside, link-ready, links-fit}
+use Rattle.consolidate.proofs.ClimbLink.{climb-step, links-fit}
+use Rattle.consolidate.proofs.ClimbMeeting.{holder-inside, link-ready}
 use Rattle.consolidate.proofs.climb.Statement.{statement}
 use Rattle.consolidate.proofs.climb.Tie as tie
 

@@ -1,4 +1,4 @@
--- `heap::consolidate` meets its contract.
+-- `consolidate::consolidate` meets its contract.
 use mathlib.Core.Path.{ap, _∙_}
 use borrow.Author.Needs.{needs}
 use Rattle.rules.specs.Consolidate.{consolidate, consolidateWithin, occupied}

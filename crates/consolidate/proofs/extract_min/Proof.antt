@@ -1,4 +1,4 @@
--- `heap::extract_min` meets its contract.
+-- `consolidate::extract_min` meets its contract.
 use borrow.Author.Needs.{needs}
 use Rattle.consolidate.proofs.Extracting.{
   consolidate-ready,

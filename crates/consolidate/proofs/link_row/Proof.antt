@@ -1,4 +1,4 @@
--- `heap::link_row` meets its contract.
+-- `consolidate::link_row` meets its contract.
 use Prim.Native.Nat.{ℕ}
 use mathlib.Core.Path.{_≡_, refl, _∙_}
 use native.Mathlib.Omega.{arith}

@@ -1,4 +1,4 @@
--- `heap::release` meets its contract.
+-- `consolidate::release` meets its contract.
 use Prim.Native.Nat.{ℕ}
 use mathlib.Core.Path.{_≡_, refl}
 use mathlib.Core.List.{List}

@@ -1,4 +1,4 @@
--- `heap::remove_root` meets its contract.
+-- `consolidate::remove_root` meets its contract.
 use native.Mathlib.Omega.{arith}
 use Rattle.consolidate.specs.Removed.{RemovesRoot}
 use Rattle.consolidate.proofs.RemoveRootSteps.{
@@ -16,31 +16,31 @@ use Rattle.consolidate.proofs.remove_root.Tie as tie
 get-requires : tie.Need-get-requires
 get-requires c κs =
     let p = c .before .before .pre in
-    record { sized = p .rowed .says .sized; inside = root-inside _ _ _ _ _ (p .rowed) _ (p .rooted) }
+    record { sized = p .rowed .says .sized; inside = root-inside (p .rowed) (p .rooted) }
 
 get-requires-2 : tie.Need-get-requires-2
 get-requires-2 c κs =
     let c4 = c .before .before .before .before in
     let p = c4 .pre in
-    record { sized = p .rowed .says .sized; inside = root-inside _ _ _ _ _ (p .rowed) _ (p .rooted) }
+    record { sized = p .rowed .says .sized; inside = root-inside (p .rowed) (p .rooted) }
 
 get-requires-3 : tie.Need-get-requires-3
 get-requires-3 c κs =
     let c6 = c .before .before .before .before .before .before in
     let p = c6 .pre in
-    record { sized = p .rowed .says .sized; inside = root-inside _ _ _ _ _ (p .rowed) _ (p .rooted) }
+    record { sized = p .rowed .says .sized; inside = root-inside (p .rowed) (p .rooted) }
 
 get-requires-4 : tie.Need-get-requires-4
 get-requires-4 c κs =
     let c8 = c .before .before .before .before .before .before .before .before in
     let p = c8 .pre in
-    record { sized = p .rowed .says .sized; inside = heap-inside _ _ _ _ _ (p .rowed) _ (p .rooted) }
+    record { sized = p .rowed .says .sized; inside = heap-inside (p .rowed) (p .rooted) }
 
 remove-requires : tie.Need-remove-requires
 remove-requires c κs =
     let c10 = c .before .before .before .before .before .before .before .before .before .before in
     let p = c10 .pre in
-    remove-ready _ _ _ _ _ (p .rowed) _ (p .rooted)
+    remove-ready (p .rowed) (p .rooted)
 
 release-requires : tie.Need-release-requires
 release-requires c κs =
@@ -49,7 +49,7 @@ release-requires c κs =
     let c11 = c7 .before .before .before .before in
     let c14 = c11 .before .before .before in
     let p = c14 .pre in
-    release-ready _ _ _ _ _ (p .rowed) _ (p .rooted) (c3 .remove .ensures) (c11 .get .ensures) (c7 .get3 .ensures)
+    release-ready (p .rowed) (p .rooted) (c3 .remove .ensures) (c11 .get .ensures) (c7 .get3 .ensures)
 
 concat-requires : tie.Need-concat-requires
 concat-requires c κs =
@@ -59,7 +59,7 @@ concat-requires c κs =
     let c15 = c11 .before .before .before .before in
     let c18 = c15 .before .before .before in
     let p = c18 .pre in
-    concat-ready _ _ _ _ _ (p .rowed) _ (p .rooted) (c7 .remove .ensures) (c15 .get .ensures) (c11 .get3 .ensures) _
+    concat-ready (p .rowed) (p .rooted) (c7 .remove .ensures) (c15 .get .ensures) (c11 .get3 .ensures)
     (c3 .release .ensures)
 
 free-item-requires : tie.Need-free-item-requires
@@ -69,7 +69,7 @@ free-item-requires c κs =
     c3 .before .before .before .before .before .before .before .before .before .before .before .before .before
     .before .before .before .before .before .before in
     let p = c22 .pre in
-    (c3 .concat .ensures .sized, root-inside _ _ _ _ _ (p .rowed) _ (p .rooted))
+    (c3 .concat .ensures .sized, root-inside (p .rowed) (p .rooted))
 
 sub-put : tie.Need-sub-put
 sub-put c =
@@ -78,7 +78,7 @@ sub-put c =
     .before .before .before .before in
     let c26 = c17 .before .before .before .before .before .before .before .before .before in
     let p = c26 .pre in
-    omega (arith, some-left _ _ _ _ _ (p .rowed) _ (p .rooted) (c17 .get4 .ensures))
+    omega (arith, some-left (p .rowed) (p .rooted) (c17 .get4 .ensures))
 
 put-requires : tie.Need-put-requires
 put-requires c κs =
@@ -87,7 +87,7 @@ put-requires c κs =
     c3 .before .before .before .before .before .before .before .before .before .before .before .before .before
     .before .before .before .before .before .before .before .before .before .before in
     let p = c26 .pre in
-    record { sized = c3 .free-item .ensures .sized; inside = heap-inside _ _ _ _ _ (p .rowed) _ (p .rooted) }
+    record { sized = c3 .free-item .ensures .sized; inside = heap-inside (p .rowed) (p .rooted) }
 
 same-length : tie.Need-same-length
 same-length c =
@@ -118,7 +118,7 @@ returns c =
     let c24 = c22 .before .before in
     let c26 = c24 .before .before in
     λ m t R O.
-    root-removed _ _ m _ t R _ O (c18 .remove .ensures) (c26 .get .ensures) (c22 .get3 .ensures) _
+    root-removed R O (c18 .remove .ensures) (c26 .get .ensures) (c22 .get3 .ensures)
     (c14 .release .ensures)
     (c24 .get2 .ensures) (c20 .get4 .ensures) (c10 .concat .ensures) (c6 .free-item .ensures) (c2 .put .ensures)
 

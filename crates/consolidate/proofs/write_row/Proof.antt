@@ -1,4 +1,4 @@
--- `heap::write_row` meets its contract.
+-- `consolidate::write_row` meets its contract.
 use Prim.Native.Nat.{_+_, _-_}
 use mathlib.Core.Path.{_≡_, refl}
 use mathlib.Core.List.{[]}

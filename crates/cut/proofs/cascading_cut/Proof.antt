@@ -1,6 +1,6 @@
--- `heap::cascading_cut` meets its contract. Invariant: what remains from here on gives the whole.
+-- `cut::cascading_cut` meets its contract. Invariant: what remains from here on gives the whole.
 use borrow.Author.Needs.{needs}
-use Prim.Native.Nat.{ℕ, suc, _+_}
+use Prim.Native.Nat.{ℕ, suc, _+_, _<_}
 use mathlib.Core.Path.{_≡_, refl, sym, _∙_}
 use mathlib.Core.Logic.{_≢_}
 use native.Mathlib.Omega.{arith}
@@ -23,12 +23,24 @@ Inv-loop s₀ n h x p₀ cuts₀ left₀ s p cuts left =
 abbrev μ-loop : tie.MeasureT-loop
 μ-loop s₀ n h x p₀ cuts₀ left₀ s p cuts left = left
 
+-- the state at the loop's head, for the forests that the caller has
+here : (c : tie.At-loop Inv-loop μ-loop) →
+    let a = c .before .before .args in
+    let p = c .before .before .pre in
+    Going (a .n) (c .loop .s) (p .counts) (p .minima)
+    (cascadingCut (suc (a .n)) (standing (p .forests) (a .x)) (a .h) (a .x) (p .forests))
+    (a .h) (c .loop .p) (c .loop .cuts) (c .loop .left)
+here c =
+    let p = c .before .before .pre in
+    c .loop .inv .2 (p .counts) (p .minima) (p .forests) (p .holds) (p .member)
+
+item : (c : tie.At-loop Inv-loop μ-loop) → c .loop .p < c .before .before .args .n
+item c = member-item (here c .holds) (here c .member)
+
 get-requires : tie.Need-get-requires Inv-loop μ-loop
 get-requires c κs =
     let l = c .before .before in
-    let p = l .before .before .pre in
-    let G = l .loop .inv .2 (p .counts) (p .minima) (p .forests) (p .holds) (p .member) in
-    record { sized = G .holds .says .sized; inside = member-item (G .holds) (G .member) }
+    record { sized = here l .holds .says .sized; inside = item l }
 
 returns : tie.Need-returns Inv-loop μ-loop
 returns c = λ counts minima t H M.
@@ -40,28 +52,22 @@ returns c = λ counts minima t H M.
 get-requires-2 : tie.Need-get-requires-2 Inv-loop μ-loop
 get-requires-2 c κs =
     let l = c .before .before .before .before .before in
-    let p = l .before .before .pre in
-    let G = l .loop .inv .2 (p .counts) (p .minima) (p .forests) (p .holds) (p .member) in
-    record { sized = G .holds .says .sized; inside = member-item (G .holds) (G .member) }
+    record { sized = here l .holds .says .sized; inside = item l }
 
 add-put : tie.Need-add-put Inv-loop μ-loop
 add-put c =
     let l = c .before .before .before .before .before .before .before .before in
-    let p = l .before .before .pre in
-    let G = l .loop .inv .2 (p .counts) (p .minima) (p .forests) (p .holds) (p .member) in
     omega (
       arith,
       c .before .before .get2 .ensures,
-      state-word (G .holds) (member-item (G .holds) (G .member)),
-      state-small (G .member),
+      state-word (here l .holds) (item l),
+      state-small (here l .member),
     )
 
 put-requires : tie.Need-put-requires Inv-loop μ-loop
 put-requires c κs =
     let l = c .before .before .before .before .before .before .before .before in
-    let p = l .before .before .pre in
-    let G = l .loop .inv .2 (p .counts) (p .minima) (p .forests) (p .holds) (p .member) in
-    record { sized = G .holds .says .sized; inside = member-item (G .holds) (G .member) }
+    record { sized = here l .holds .says .sized; inside = item l }
 
 returns-2 : tie.Need-returns-2 Inv-loop μ-loop
 returns-2 c = λ counts minima t H M.
@@ -82,8 +88,7 @@ cut-requires c κs =
     let c4 = c .before .before .before .before in
     let l = c4 .before .before .before .before in
     let p = l .before .before .pre in
-    let G = l .loop .inv .2 (p .counts) (p .minima) (p .forests) (p .holds) (p .member) in
-    let i = member-item (G .holds) (G .member) in
+    let G = here l in
     record {
       counts = p .counts;
       minima = p .minima;
@@ -91,7 +96,7 @@ cut-requires c κs =
       holds = G .holds;
       child = record {
         member = G .member;
-        child = λ z. c4 .if1 .left (c4 .before .get .ensures ∙ parent-word (G .holds) i ∙ z);
+        child = λ z. c4 .if1 .left (c4 .before .get .ensures ∙ parent-word (G .holds) (item l) ∙ z);
       };
     }
 

@@ -1,4 +1,4 @@
--- `heap::cut` meets its contract.
+-- `cut::cut` meets its contract.
 use borrow.Author.Needs.{needs}
 use mathlib.Core.Path.{_∙_}
 use native.Mathlib.Omega.{arith}

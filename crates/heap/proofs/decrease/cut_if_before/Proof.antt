@@ -1,7 +1,7 @@
 -- `heap::decrease::cut_if_before` meets its contract, by a law for each way out.
 use borrow.Author.Needs.{needs}
 use Rattle.cut.proofs.Cutting.{member-item}
-use Rattle.heap.proofs.CutIf.{root-kept, later-kept, before-cut, parent-inside, child}
+use Rattle.heap.proofs.CutIf.{before-cut, child, kept, later-kept, no-parent, parent-inside}
 use Rattle.heap.proofs.decrease.cut_if_before.Statement.{statement}
 use Rattle.heap.proofs.decrease.cut_if_before.Tie as tie
 
@@ -11,7 +11,9 @@ get-requires c κs =
     record { sized = p .holds .says .sized; inside = member-item (p .holds) (p .member) }
 
 returns : tie.Need-returns
-returns c = record { gives = λ counts minima t H M. root-kept H M (c .before .get .ensures) _ (c .if1 .taken) }
+returns c =
+    let e = c .before .get .ensures in
+    record { gives = λ counts minima t H M. kept H M e (rw (no-parent H M e (c .if1 .taken))) }
 
 precedes-requires : tie.Need-precedes-requires
 precedes-requires c κs =

@@ -1,10 +1,9 @@
 -- `heap::decrease::decrease_key` meets its contract: the key, the cut, then the minimum.
 use borrow.Author.Needs.{needs}
 use Rattle.heap.proofs.SoundStore.{sound-says}
+use Rattle.heap.proofs.ItemHeap.{heap-inside, item-inside}
 use Rattle.heap.proofs.Decreasing.{
   in-heap,
-  item-inside,
-  heap-inside,
   cut-ready,
   sized₂,
   two-ready,

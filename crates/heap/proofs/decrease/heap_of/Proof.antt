@@ -1,6 +1,6 @@
 -- `heap::decrease::heap_of` meets its contract: the state word names the heap.
 use Rattle.heap.proofs.SoundStore.{sound-says}
-use Rattle.heap.proofs.Decreasing.{item-inside, state-some, heap-number}
+use Rattle.heap.proofs.ItemHeap.{item-inside, state-some, heap-number}
 use Rattle.heap.proofs.decrease.heap_of.Statement.{statement}
 use Rattle.heap.proofs.decrease.heap_of.Tie as tie
 

@@ -1,7 +1,7 @@
 -- `heap::delete::cut_if_child` meets its contract, by a law for each way out.
 use borrow.Author.Needs.{needs}
 use Rattle.cut.proofs.Cutting.{member-item}
-use Rattle.heap.proofs.CutIf.{root-kept-child, child-cut, child}
+use Rattle.heap.proofs.CutIf.{child, child-cut, kept, no-parent}
 use Rattle.heap.proofs.delete.cut_if_child.Statement.{statement}
 use Rattle.heap.proofs.delete.cut_if_child.Tie as tie
 
@@ -11,7 +11,9 @@ get-requires c κs =
     record { sized = p .holds .says .sized; inside = member-item (p .holds) (p .member) }
 
 returns : tie.Need-returns
-returns c = record { gives = λ counts minima t H M. root-kept-child H M (c .before .get .ensures) (c .if1 .taken) }
+returns c =
+    let e = c .before .get .ensures in
+    record { gives = λ counts minima t H M. kept H M e (no-parent H M e (c .if1 .taken)) }
 
 cut-out-requires : tie.Need-cut-out-requires
 cut-out-requires c κs =

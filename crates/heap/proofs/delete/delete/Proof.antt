@@ -1,7 +1,7 @@
 -- `heap::delete::delete` meets its contract: the minimum goes as by T, any other with no linking.
 use borrow.Author.Needs.{needs}
 use Rattle.heap.proofs.SoundStore.{sound-says}
-use Rattle.heap.proofs.Decreasing.{heap-inside}
+use Rattle.heap.proofs.ItemHeap.{heap-inside}
 use Rattle.heap.proofs.Deleting.{deleted-in-heap, as-extract, as-minimum, as-other}
 use Rattle.heap.proofs.delete.delete.Statement.{statement}
 use Rattle.heap.proofs.delete.delete.Tie as tie

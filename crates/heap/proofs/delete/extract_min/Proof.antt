@@ -1,6 +1,6 @@
 -- `heap::delete::extract_min` meets its contract.
 use borrow.Author.Needs.{needs}
-use Rattle.heap.proofs.Deleting.{extract-ready, extract-moves}
+use Rattle.heap.proofs.Extracting.{extract-ready, extract-moves}
 use Rattle.heap.proofs.delete.extract_min.Statement.{statement}
 use Rattle.heap.proofs.delete.extract_min.Tie as tie
 

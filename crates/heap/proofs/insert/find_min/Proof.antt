@@ -1,7 +1,7 @@
 -- `heap::insert::find_min` meets its contract.
 use mathlib.Core.Path.{_∙_}
-use Rattle.heap.proofs.SoundStore.{sound-says}
-use Rattle.heap.proofs.RefusalWords.{find-heap, minimum-at}
+use Rattle.heap.proofs.SoundStore.{minimum-at, sound-says}
+use Rattle.heap.proofs.RefusalWords.{find-heap}
 use Rattle.heap.proofs.insert.find_min.Statement.{statement}
 use Rattle.heap.proofs.insert.find_min.Tie as tie
 

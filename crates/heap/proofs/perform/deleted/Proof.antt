@@ -9,7 +9,7 @@ get-requires : tie.Need-get-requires
 get-requires c κs =
     record {
       sized = sound-says (c .before .before .pre .allowed .store) .sized;
-      inside = deleted-item (c .before .before .pre .allowed);
+      inside = deleted-item (c .before .before .pre);
     }
 
 returns : tie.Need-returns

@@ -2,8 +2,8 @@
 use borrow.Author.Needs.{needs}
 use mathlib.Core.Path.{sym, subst, _∙_}
 use Prim.Native.Nat.{_<_}
-use Rattle.heap.proofs.SoundStore.{sound-says}
-use Rattle.heap.proofs.RefusalWords.{find-heap, minimum-at}
+use Rattle.heap.proofs.SoundStore.{minimum-at, sound-says}
+use Rattle.heap.proofs.RefusalWords.{find-heap}
 use Rattle.heap.proofs.Answered.{as-find, minimum-item, extracted-performed}
 use Rattle.heap.proofs.perform.extracted.Statement.{statement}
 use Rattle.heap.proofs.perform.extracted.Tie as tie

@@ -1,33 +1,28 @@
--- The words of forests into which an item was inserted, kind by kind.
+-- The words of an item that has entered a heap and is in no list yet, kind by kind.
 use Prim.Native.Nat.{ℕ, suc, _+_, _-_, _*_, _<_}
 use mathlib.Core.Path.{_≡_, refl, sym, ap, _∙_}
 use mathlib.Core.Logic.{_≢_}
-use mathlib.Core.List.{List, [], _∷_, _++_}
+use mathlib.Core.List.{List, [], _∷_}
 use mathlib.Core.Bool.{Bool, true, false, cond}
 use native.Mathlib.Omega.{arith}
-use lib.ListN.{set}
 use lib.Seq.{getD-set-other}
 use lib.Dec.{eqb, eqb·zero-suc}
 use borrow.Author.Tests.{eqb-true, ne-eqb}
 use Rattle.rules.specs.declared.Field.{Field}
 use Rattle.rules.specs.declared.Field.the-variants.{
-  Count,
   FirstChild,
   Key,
   LastChild,
-  Minimum,
   Next,
   Prev,
   State,
 }
 use Rattle.store.specs.declared.Owner.the-variants.{Row}
-use Rattle.rules.specs.Calls.{insert}
 use Rattle.rules.specs.Forests.{
   Forests,
   childrenOf,
   count,
   heapOf,
-  keyOf,
   markOf,
   none,
   parentOf,
@@ -36,27 +31,31 @@ use Rattle.rules.specs.Forests.{
   setKey,
   tableSize,
 }
-use Rattle.rules.specs.Lists.{delta, occurs}
-use Rattle.rules.specs.Order.{keyIn, leastIn, leastOf, lesser, minimum}
+use Rattle.rules.specs.Lists.{occurs}
+use Rattle.rules.specs.Order.{minimum}
 use Rattle.rules.specs.WellFormed.{Disjoint}
 use Rattle.rules.specs.Words.{headOr, lastOr, nextIn, prevIn, room, siblings, stateOf, unlessFree, word}
 use Rattle.rules.proofs.ByKind.{apart-from, by-kinds}
-use Rattle.rules.proofs.Counts.{count-entered}
-use Rattle.rules.proofs.LeastOfTwo.{least-append, least-other, lesser-keys}
 use Rattle.rules.proofs.Members.{free-children, row-root}
-use Rattle.rules.proofs.Occurs.{delta-other, occurs-one}
 use Rattle.rules.proofs.Parts.{children, marks, parents, rows}
 use Rattle.rules.proofs.SiblingLists.{once-row}
 use Rattle.store.specs.Families.{Family, listOf, loose, ownerOf, wordBut}
-use Rattle.store.specs.ItemOrder.{itemKey}
 use Rattle.store.specs.Says.{Values}
-use Rattle.store.proofs.Families.{getD-set}
-use Rattle.store.proofs.ItemOrder.{key-is}
+use Rattle.store.proofs.SetAt.{getD-set}
 use Rattle.store.proofs.KeptWords.{kept-but}
-use Rattle.heap.specs.Entered.{enrolled, entered}
-use Rattle.heap.proofs.SoundStore.{row-none}
+use Rattle.heap.specs.Entered.{entered}
 
-module _ (t : Forests) (D : Disjoint t) (h i k : ℕ) (hh : h < 8) (ii : i < tableSize t) (fr : heapOf t i ≡ 0) where
+-- i is free, and may enter heap h
+pub record MayEnter (t : Forests) (h i : ℕ) : Type 0 where
+  pub disjoint : Disjoint t
+  pub heap : h < 8
+  pub inside : i < tableSize t
+  pub free : heapOf t i ≡ 0
+
+module _ {t : Forests} {h i : ℕ} (E : MayEnter t h i) (k : ℕ) where
+  D : Disjoint t
+  D = E .disjoint
+
   -- i has entered heap h, and is in no list yet
   abbrev between : Forests
   between = setHeap i (suc h) (setKey i k t)
@@ -65,7 +64,7 @@ module _ (t : Forests) (D : Disjoint t) (h i k : ℕ) (hh : h < 8) (ii : i < tab
   old = wordBut (count t) (minimum t) t
 
   heap-at : (j : ℕ) → heapOf between j ≡ cond (eqb i j) (suc h) (heapOf t j)
-  heap-at j = getD-set (t .heap) i j (suc h) 0 ii
+  heap-at j = getD-set (t .heap) i j (suc h) 0 (E .inside)
 
   -- a word that i gets, and all others have
   enters : (x z j : ℕ) → (i ≡ j → z ≡ x) → cond (eqb i j) x (unlessFree t j z) ≡ unlessFree between j z
@@ -78,7 +77,7 @@ module _ (t : Forests) (D : Disjoint t) (h i k : ℕ) (hh : h < 8) (ii : i < tab
       go false e = refl
 
   childless : (j : ℕ) → i ≡ j → childrenOf t j ≡ []
-  childless j e = rw (← e) (free-children t D i ii fr)
+  childless j e = rw (← e) (free-children t D i (E .inside) (E .free))
 
   -- the links of i are 0, as those of a free item
   links : (j : ℕ) (F : List ℕ → ℕ)
@@ -92,7 +91,7 @@ module _ (t : Forests) (D : Disjoint t) (h i k : ℕ) (hh : h < 8) (ii : i < tab
           ≡ cond b 0 (cond (eqb (cond b (suc h) (heapOf t j)) 0) 0
           (F (cond (eqb (parentOf t j) none) (rowOf t (cond b (suc h) (heapOf t j) - 1))
           (childrenOf t (parentOf t j)))))
-      go true e = rw (← (eqb-true i j e), fr)
+      go true e = rw (← (eqb-true i j e), E .free)
       go false e = refl
 
   state : (j : ℕ) → cond (eqb i j) (1 + 2 * h) (stateOf (heapOf t j) (markOf t j))
@@ -103,7 +102,7 @@ module _ (t : Forests) (D : Disjoint t) (h i k : ℕ) (hh : h < 8) (ii : i < tab
       go : (b : Bool) → eqb i j ≡ b
           → cond b (1 + 2 * h) (stateOf (heapOf t j) (markOf t j))
           ≡ stateOf (cond b (suc h) (heapOf t j)) (markOf t j)
-      go true e = omega (arith, ap (markOf t) (eqb-true i j e), D .free i fr .2)
+      go true e = omega (arith, ap (markOf t) (eqb-true i j e), D .free i (E .free) .2)
       go false e = refl
 
   abbrev pub Enters : ℕ → Field → Type 0
@@ -118,7 +117,7 @@ module _ (t : Forests) (D : Disjoint t) (h i k : ℕ) (hh : h < 8) (ii : i < tab
   unfolding entered loose wordBut word headOr lastOr
   entered-word n =
       by-kinds own (Enters n)
-      (λ j l. sym (getD-set (t .key) i j k 0 (omega (arith, D .keyN))))
+      (λ j l. sym (getD-set (t .key) i j k 0 (omega (arith, D .keyN, E .inside))))
       (λ j l. enters none _ j (λ q. ap (headOr none) (childless j q)))
       (λ j l. enters none _ j (λ q. ap (lastOr none) (childless j q)))
       (λ j l. links j (nextIn j))
@@ -132,60 +131,18 @@ module _ (t : Forests) (D : Disjoint t) (h i k : ℕ) (hh : h < 8) (ii : i < tab
 
   -- no row has a free item
   pub out : (g : ℕ) → occurs i (rowOf t g) ≡ 0
-  out g = D .inRow g i ∙ rw (fr, eqb·zero-suc g)
-
-  abbrev new : Forests
-  new = insert h i k t
-
-  count-word : (g : ℕ) → cond (eqb h g) (count t h + 1) (count t g) ≡ count new g
-  unfolding insert delta
-  count-word g = go (eqb h g) refl (count-entered t new h i g ii fr refl)
-    where
-      go : (b : Bool) → eqb h g ≡ b → count new g ≡ count t g + cond b 1 0
-          → cond b (count t h + 1) (count t g) ≡ count new g
-      go true e q = omega (arith, ap (count t) (eqb-true h g e))
-      go false e q = omega arith
-
-  least-word : (g : ℕ) → cond (eqb h g) (lesser (keyOf new) (minimum t h) i) (minimum t g) ≡ minimum new g
-  unfolding minimum insert leastIn leastOf
-  least-word g =
-      rw (getD-set (t .rows) h g (rowOf t h ++ (i ∷ [])) [] (omega (arith, D .rows8))) (go (eqb h g) refl)
-    where
-      key′ : List ℕ
-      key′ = set (t .key) i k
-
-      go : (b : Bool) → eqb h g ≡ b
-          → cond b (lesser (keyIn key′) (leastIn (t .key) (rowOf t h)) i) (leastIn (t .key) (rowOf t g))
-          ≡ leastIn key′ (cond b (rowOf t h ++ (i ∷ [])) (rowOf t g))
-      go true e =
-          ap (λ m. lesser (keyIn key′) m i) (sym (least-other (t .key) i k (rowOf t h) (out h)))
-          ∙ sym (least-append key′ (rowOf t h) (i ∷ []) (row-none t D h)
-          (occurs-one none i ∙ delta-other none i (λ e. omega (arith, e, D .small))))
-      go false e = sym (least-other (t .key) i k (rowOf t g) (out g))
-
-  pub enrolled-word : (n : ℕ) (f : Field) (j : ℕ) → j < room n f
-      → enrolled h i (wordBut (count t) (minimum t) new) f j ≡ word new f j
-  unfolding enrolled wordBut word
-  enrolled-word n =
-      by-kinds (Minimum ∷ Count ∷ [])
-      (λ f. (j : ℕ) → j < room n f → enrolled h i (wordBut (count t) (minimum t) new) f j ≡ word new f j)
-      (λ j l. ap (λ m. cond (eqb h j) m (minimum t j))
-      (lesser-keys (itemKey (wordBut (count t) (minimum t) new)) (keyOf new) (minimum t h) i
-      (λ _. key-is _ new (minimum t h) refl) (λ _. key-is _ new i refl))
-      ∙ least-word j)
-      (λ j l. count-word j)
-      (λ f o j l. let e = apart-from (Minimum ∷ Count ∷ []) f o in rw (e Minimum refl, e Count refl))
+  out g = D .inRow g i ∙ rw (E .free, eqb·zero-suc g)
 
   -- what the row requires of i, before it joins
   pub family : (n : ℕ) → Family n between (Row h)
   unfolding listOf ownerOf
   family n =
       record {
-        present = hh;
+        present = E .heap;
         once = once-row t D h;
         owned = λ y m.
             let r = row-root t D h y m in
-            let d : y ≢ i = λ q. omega (arith, ap (heapOf t) q, r .0) in
+            let d : y ≢ i = λ q. omega (arith, ap (heapOf t) q, r .0, E .free) in
             let e : heapOf between y ≡ suc h = getD-set-other (t .heap) i y (suc h) 0 d ∙ r .0 in
             (λ z. omega (arith, e), rw (r .1, e) (ap Row (omega arith)));
       }

@@ -1,0 +1,34 @@
+-- T on the words of a sound store, from taking a minimum as `consolidate` does it.
+use Prim.Native.Nat.{ℕ}
+use mathlib.Core.Path.{_≡_, ap}
+use mathlib.Core.List.{List}
+use native.Mathlib.Omega.{arith}
+use Rattle.rules.specs.declared.Call.the-variants.{ExtractMin}
+use Rattle.rules.specs.declared.Tally.{Tally}
+use Rattle.rules.specs.Calls.{extract, perform}
+use Rattle.rules.specs.Order.{minimum}
+use Rattle.rules.specs.Words.{decode, forestsOf}
+use Rattle.consolidate.specs.Extract.{ExtractReady, Performs}
+use Rattle.heap.specs.Allowed.{MayMove, Moves}
+use Rattle.heap.proofs.SoundStore.{sound-says}
+
+module _ {w : List ℕ} {n h : ℕ} {tally : Tally} (P : MayMove w n (ExtractMin h) tally) where
+  same-forests : decode n w ≡ forestsOf w
+  unfolding forestsOf
+  same-forests = ap (λ k. decode k w) (P .allowed .store .items)
+
+  pub extract-ready : ExtractReady n w h (tally .links)
+  extract-ready =
+      record {
+        sound = P .allowed .store .sound;
+        size = sound-says (P .allowed .store) .sized .size;
+        accepted = rw same-forests (P .allowed .done);
+        fits = omega (arith, P .room .links);
+      }
+
+  pub extract-moves : {w′ : List ℕ} {item key : ℕ} {u : Tally}
+      → Performs w′ (tally .links) item key (u .links) (perform (decode n w) (ExtractMin h)) → u .cuts ≡ tally .cuts
+      → Moves (extract h (minimum (forestsOf w) h) (forestsOf w)) tally u w′
+  unfolding perform extract
+  extract-moves p e =
+      rw (← same-forests) (record { words = p .words; links = p .count; cuts = omega (arith, e) })
