@@ -1,7 +1,7 @@
 -- A tree on its way through the places: what holds between two links, on the words.
 use Prim.Native.Nat.{ℕ, zero, suc, _+_, _≤_, _<_}
 use mathlib.Core.Path.{_≡_, refl, sym, ap, subst, _∙_}
-use mathlib.Core.List.{List, [], _∷_, _++_}
+use mathlib.Core.List.{List, _∷_, _++_}
 use native.Mathlib.Omega.{arith}
 use lib.ListN.{length, getD, set}
 use borrow.Author.Tests.{eq-eqb}
@@ -10,16 +10,11 @@ use Rattle.rules.specs.Consolidate.{Linking, climb, isFree, occupied}
 use Rattle.rules.specs.Forests.{Forests, none, rankOf, setRow}
 use Rattle.rules.specs.WellFormed.{KeysFit}
 use Rattle.rules.specs.Words.{look}
+use Rattle.rules.proofs.Default.{getD-any}
 use Rattle.rules.proofs.ConsolidateKeeps.{Held, low, put, x-heap}
 use Rattle.rules.proofs.Excused.{to-formed, well-formed}
 use Rattle.consolidate.specs.Consolidating.{Consolidating, Settled, settle}
 use Rattle.consolidate.proofs.Beside.{beside-rank}
-
--- a read within the list needs no default
-getD-any : (l : List ℕ) (i a b : ℕ) → i < length l → getD l i a ≡ getD l i b
-getD-any [] i a b k = absurd (omega arith)
-getD-any (x ∷ l) zero a b k = refl
-getD-any (x ∷ l) (suc i) a b k = getD-any l i a b (omega arith)
 
 module _ {n h : ℕ} {w ps trees rest : List ℕ} {t : Forests} (C : Consolidating n h w ps trees rest t) where
   pub held : Held h ps trees t

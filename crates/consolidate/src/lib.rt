@@ -1,7 +1,7 @@
 // Linking, and taking a heap's minimum, on a store for n items.
 ghost use mathlib.Core.Path.{_≡_};
 ghost use mathlib.Core.Bool.{cond};
-ghost use Prim.Native.Nat.{ℕ, _+_, _<_};
+ghost use Prim.Native.Nat.{_+_, _<_};
 ghost use lib.ListN.{getD, set};
 ghost use Rattle.rules.specs.declared.Call.the-variants.{ExtractMin};
 ghost use Rattle.rules.specs.declared.Field.the-variants.{Key};

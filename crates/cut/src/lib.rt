@@ -1,5 +1,4 @@
 // A cut, and the cuts that follow it, on a store for n items.
-ghost use mathlib.Core.Path.{_≡_};
 ghost use Prim.Native.Nat.{ℕ, suc, _<_};
 ghost use Rattle.rules.specs.Forests.{Forests, none};
 ghost use Rattle.rules.specs.Cut.{cut, standing, cascadingCut, cutOut};

@@ -170,8 +170,9 @@ module _ {t : Forests} {a b : ℕ} (H : TwoHeaps t a b) where
   other-word f p j =
       let q = apart-from moved f p in
       let plain = apart-some moved (linkKinds (Row a)) f refl p in
+      let same = plain-after t D a (rowOf t b) f b plain in
       rw (q Minimum refl, q Count refl, q State refl)
-      (empty-else t b (after t a (rowOf t b)) f (apart-some moved (Count ∷ nones) f refl p) (plain-after t D a (rowOf t b) f b plain) j
+      (empty-else t b (after t a (rowOf t b)) f (apart-some moved (Count ∷ nones) f refl p) same j
       ∙ plain-after t D a (rowOf t b) f j plain
       ∙ kept-words (children ∷ parents ∷ keys ∷ []) moved t new refl refl refl refl f p j)
 

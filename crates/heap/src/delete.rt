@@ -1,5 +1,4 @@
 // Taking a heap's minimum, and deleting any item.
-ghost use mathlib.Core.Path.{_≡_};
 ghost use Rattle.rules.specs.declared.Call.the-variants.{ExtractMin, Delete};
 ghost use Rattle.rules.specs.Calls as calls;
 ghost use Rattle.rules.specs.Words.{forestsOf};

@@ -1,7 +1,7 @@
 // Under which code a call is refused, by the order of the table; 0 if it is not.
 ghost use mathlib.Core.Path.{_≡_};
 ghost use Prim.Native.Nat.{ℕ};
-ghost use Rattle.rules.specs.declared.Call.the-variants.{Insert, FindMin, ExtractMin, DecreaseKey, Delete, Meld};
+ghost use Rattle.rules.specs.declared.Call.the-variants.{Insert, ExtractMin, DecreaseKey, Delete, Meld};
 ghost use Rattle.rules.specs.Answers as answers;
 ghost use Rattle.rules.specs.Forests.{Forests};
 ghost use Rattle.rules.specs.Words.{forestsOf};

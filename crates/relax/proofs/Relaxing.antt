@@ -1,12 +1,13 @@
 -- An offer, by code: each way through it takes the search to the one that `offer` gives.
-use Prim.Native.Nat.{ℕ, zero, suc, _+_, _≤_, _<_}
+use Prim.Native.Nat.{ℕ, _+_, _≤_, _<_}
 use mathlib.Core.Path.{_≡_, refl, sym, ap, _∙_}
 use mathlib.Core.Logic.{_≢_}
-use mathlib.Core.List.{List, [], _∷_}
+use mathlib.Core.List.{List}
 use native.Mathlib.Omega.{arith}
-use lib.ListN.{length, getD, set}
+use lib.ListN.{getD, set}
 use Rattle.rules.specs.declared.Call.the-variants.{Insert, DecreaseKey}
 use Rattle.rules.specs.Forests.{none}
+use Rattle.rules.proofs.Default.{getD-any}
 use Rattle.rules.proofs.Sums.{sumBy-set}
 use Rattle.heap.specs.declared.Reply.{Reply}
 use Rattle.heap.specs.Performed.{Performed}
@@ -15,12 +16,6 @@ use Rattle.paths.specs.Search.{Verdict, unmet, smaller, tie, worse, judge, upda
 use Rattle.relax.specs.Moves.{EnterReady, OfferReady, Moves}
 use Rattle.paths.proofs.Judge.{judge-unmet, judge-smaller, judge-larger, judge-tie, judge-late}
 use Rattle.relax.proofs.Logged.{call-logged}
-
--- below the length the default does not matter
-same-at : (l : List ℕ) (i a b : ℕ) → i < length l → getD l i a ≡ getD l i b
-same-at [] i a b h = absurd (omega arith)
-same-at (x ∷ l) zero a b h = refl
-same-at (x ∷ l) (suc i) a b h = same-at l i a b (omega arith)
 
 module _ (p l e : ℕ) (best last store : List ℕ) (go : Progress) where
   -- the progress with another tally, and with k places met
@@ -37,7 +32,7 @@ module _ (p l e : ℕ) (best last store : List ℕ) (go : Progress) where
         holds =
             λ n out s O H.
             let z : getD (s .best) p none ≡ none =
-            rw (sym (H .best-is)) (same-at best p none 0 (E .offer .inBest) ∙ E .isNone) in
+            rw (sym (H .best-is)) (getD-any best p none 0 (E .offer .inBest) ∙ E .isNone) in
             record {
               best-is = ap (λ b. set b p l) (H .best-is);
               last-is = ap (λ b. set b p e) (H .last-is);
@@ -106,10 +101,10 @@ module _ (p l e : ℕ) (best last store : List ℕ) (go : Progress) where
   module _ (O : OfferReady p best last store go) where
     -- the code reads a word as `getD .. 0`
     best-word : getD best p none ≡ getD best p 0
-    best-word = same-at best p none 0 (O .inBest)
+    best-word = getD-any best p none 0 (O .inBest)
 
     last-word : getD last p none ≡ getD last p 0
-    last-word = same-at last p none 0 (O .inLast)
+    last-word = getD-any last p none 0 (O .inLast)
 
     -- One law for each way out, in the order of the tests.
     module _ (best′ last′ store′ : List ℕ) (r : Progress) where

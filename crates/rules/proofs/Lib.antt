@@ -5,6 +5,7 @@ pub mod Occurs
 pub mod Order
 pub mod SetAll
 pub mod Tabulate
+pub mod Default
 pub mod Members
 pub mod Excused
 pub mod Fibonacci

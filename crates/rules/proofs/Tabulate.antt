@@ -32,16 +32,3 @@ module _ {ℓ} {A : Type ℓ} where
       ext-getD d (tabulate n f) l (length-tabulate n f ∙ sym e) (λ i k.
       let j : i < n = omega (arith, length-tabulate n f) in
       getD-tabulate n f i d j ∙ h i j)
-
--- two functions that agree give one table
-from-ext {ℓ} : {A : Type ℓ} (k n : ℕ) (f g : ℕ → A) → ((i : ℕ) → i < n → f (k + i) ≡ g (k + i))
-    → tabulateFrom k n f ≡ tabulateFrom k n g
-unfolding tabulateFrom
-from-ext k zero f g h = refl
-from-ext {A = A} k (suc n) f g h =
-    let e : f k ≡ g k = ap f (omega arith) ∙ h 0 (omega arith) ∙ ap g (omega arith) in
-    rw (e, from-ext (suc k) n f g (λ i j. ap f (omega arith) ∙ h (suc i) (omega arith) ∙ ap g (omega arith)))
-
-pub tabulate-ext {ℓ} : {A : Type ℓ} (n : ℕ) (f g : ℕ → A) → ((i : ℕ) → i < n → f i ≡ g i)
-    → tabulate n f ≡ tabulate n g
-tabulate-ext n f g h = from-ext 0 n f g (λ i j. ap f (omega arith) ∙ h i j ∙ ap g (omega arith))
