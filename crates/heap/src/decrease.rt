@@ -29,8 +29,8 @@ pub fn heap_of(s: &[u32], n: usize, i: u32) -> u32
 // The item i is cut if it comes before its parent. Answers the number of cuts.
 fn cut_if_before(s: &mut [u32], n: usize, h: u32, i: u32) -> u32
     requires { ⌜ CascadeReady n (now s) h i ⌝ }
-    ensures { λ r. ⌜ CutsIf (λ t. calls.hasParent t i && order.precedes (t .key) i (parentOf t i)) n (now (s .entry)) h i
-        (now (s .exit)) r ⌝ }
+    ensures { λ r. ⌜ CutsIf (λ t. calls.hasParent t i && order.precedes (t .key) i (parentOf t i)) n
+        (now (s .entry)) h i (now (s .exit)) r ⌝ }
 {
     let p = get(s, n, Field::Parent, i);
     if p == NONE {
