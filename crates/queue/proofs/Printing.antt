@@ -35,8 +35,9 @@ module _ (store sheet out : List ℕ) {store′ out′ : List ℕ} {r : Ran}
     code-small : r .code < 10
     code-small = omega (arith, L .sameCode, fresh-code store sheet out, limit-le store sheet out)
 
-    pub code-fits : 0 + length (field (r .code) lineFeed) ≤ length out′
-    code-fits = omega (arith, out-length, field-short 0 (r .code) lineFeed (omega (arith, code-small)))
+    -- the code and a byte after it have room
+    pub code-fits : (end : ℕ) → 0 + length (field (r .code) end) ≤ length out′
+    code-fits end = omega (arith, out-length, field-short 0 (r .code) end (omega (arith, code-small)))
 
     pub code-shown : (r .code ≡ 0 → ⊥) → {out″ : List ℕ} {n : ℕ} → Wrote out′ 0 (field (r .code) lineFeed) out″ n
         → Shows (freshRun store sheet out) n out″
@@ -44,7 +45,7 @@ module _ (store sheet out : List ℕ) {store′ out′ : List ℕ} {r : Ran}
     code-shown z {out″} {n} w =
         let e : n ≡ length (field (r .code) lineFeed) = omega (arith, w .next) in
         record {
-          bytes = rw (← L .sameCode, ne-eqb _ 0 z, w .left, e, sets-eq (field (r .code) lineFeed) out′ 0 code-fits)
+          bytes = rw (← L .sameCode, ne-eqb _ 0 z, w .left, e, sets-eq (field (r .code) lineFeed) out′ 0 (code-fits lineFeed))
               (take-append-seam (field (r .code) lineFeed) _);
-          within = omega (arith, w .next, wrote-length w, code-fits);
+          within = omega (arith, w .next, wrote-length w, code-fits lineFeed);
         }

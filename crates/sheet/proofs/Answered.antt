@@ -10,7 +10,7 @@ use Rattle.rules.specs.declared.Line.{Line}
 use Rattle.rules.specs.declared.Line.the-variants.{NoCall, Yields}
 use Rattle.rules.specs.Answers.{answer, refused}
 use Rattle.rules.specs.Words.{encode, forestsOf}
-use Rattle.rules.proofs.ReplyBounds.{answer-small}
+use Rattle.rules.proofs.ReplyBounds.{Small, answer-small}
 use Rattle.rules.proofs.SoundWords.{sound-forests, sound-words}
 use Rattle.heap.specs.declared.Reply.{Reply}
 use Rattle.heap.specs.Performed.{Performed}
@@ -19,7 +19,7 @@ use Rattle.lines.specs.Print.{answerRow}
 use Rattle.lines.proofs.Printed.{row-32}
 use Rattle.sheet.specs.Promises.{Answerable, Answered}
 
-abbrev pub six : Answer
+abbrev six : Answer
 six = record { code = 6; item = 0; key = 0; links = 0; cuts = 0 }
 
 abbrev answerOf : Reply → Answer
@@ -38,15 +38,15 @@ module _ {w out : List ℕ} {at : ℕ} {line : Line} (A : Answerable w out at li
   abbrev reply : Answer
   reply = (answer (forestsOf w) line) .reply
 
-  -- an answer has room
+  -- an answer has room: any whose numbers are small, and the rules' reply
+  pub small-fits : (a : Answer) → Small a → at + length (answerRow a) ≤ length out
+  small-fits a S = omega (arith, A .room, row-32 a S)
+
   pub fits : (a : Answer) → a ≡ reply → at + length (answerRow a) ≤ length out
-  fits a e =
-      let short : length (answerRow reply) ≤ 32 =
-      row-32 reply (answer-small (forestsOf w) (sound-forests w (A .sound)) line (A .range)) in
-      rw e (omega (arith, A .room))
+  fits a e = rw e (small-fits reply (answer-small (forestsOf w) (sound-forests w (A .sound)) line (A .range)))
 
   module _ (e : line ≡ NoCall) where
-    pub six-reply : six ≡ reply
+    six-reply : six ≡ reply
     unfolding answer refused
     six-reply = ap (λ (l : Line). (answer (forestsOf w) l) .reply) (sym e)
 

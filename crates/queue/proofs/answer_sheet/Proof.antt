@@ -27,7 +27,7 @@ put-field-requires : tie.Need-put-field-requires
 put-field-requires c κs =
     let ran = c .before .before .before .before .before .before in
     let start = ran .before .before .before .before .before .before in
-    code-fits _ _ _ (ran .run-fresh .ensures) (start .pre)
+    code-fits _ _ _ (ran .run-fresh .ensures) (start .pre) _
 
 same-length-3 : tie.Need-same-length-3
 same-length-3 c = search needs

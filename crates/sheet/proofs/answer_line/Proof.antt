@@ -1,5 +1,6 @@
 -- `answer_line` meets its contract: code 6 where the line yields no call, else the reply of its call.
-use Rattle.sheet.proofs.Answered.{fits, six, six-reply, answered-none, call-reply, answered-call}
+use native.Mathlib.Omega.{arith}
+use Rattle.sheet.proofs.Answered.{fits, small-fits, answered-none, call-reply, answered-call}
 use borrow.Author.Needs.{needs}
 use Rattle.sheet.proofs.answer_line.Statement.{statement}
 use Rattle.sheet.proofs.answer_line.Tie as tie
@@ -12,8 +13,8 @@ enum-told c = search needs
 
 put-answer-requires : tie.Need-put-answer-requires
 put-answer-requires c κs =
-    let start = c .before .before .before .before .before in
-    fits (start .pre) six (six-reply (start .pre) (c .before .enum-told .given .1))
+    small-fits (c .before .before .before .before .before .pre) _
+    (record { code = omega arith; item = omega arith; key = omega arith; moves = omega arith })
 
 same-length : tie.Need-same-length
 same-length c = search needs
