@@ -20,7 +20,7 @@ use Rattle.paths.specs.Search.{begin, turns, never}
 use Rattle.paths.specs.Feed.{linksOf, cutsOf}
 use Rattle.paths.proofs.Begin.{sum-zeros}
 use Rattle.relax.specs.declared.Progress.{Progress}
-use Rattle.relax.specs.Holds.{Logged, Holds}
+use Rattle.relax.specs.Tracks.{Logged, Tracks}
 use Rattle.finder.specs.Standing.{Stands, BeginReady, Begun}
 use Rattle.relax.proofs.Logged.{call-logged}
 
@@ -52,7 +52,7 @@ module _ (places start : ℕ) (best last store : List ℕ) (R : BeginReady place
   begun best₁ last₁ store₁ eb el es reply store′ P =
       record {
         visited-is = refl;
-        holds =
+        tracks =
             record {
               best-is = ap (λ l. set l start 0) (eb ∙ ap (λ n. replicate n none) (R .bestN));
               last-is = el ∙ ap (λ n. replicate n none) (R .lastN);
@@ -73,7 +73,7 @@ module _ (places start : ℕ) (best last store : List ℕ) (R : BeginReady place
 
 -- no turn is made
 no-turn : (m : Map) (k : ℕ) → k ≡ 0 → (best last store : List ℕ) (r : Progress)
-    → Holds (m .places) 0 (begin m) best last store r → Holds (m .places) k (turns never m k) best last store r
+    → Tracks (m .places) 0 (begin m) best last store r → Tracks (m .places) k (turns never m k) best last store r
 unfolding turns
 no-turn m k z best last store r H = rw z H
 
@@ -85,12 +85,12 @@ begun-stands {places} {start} {from} {to} {loss} A {best} {last} {store} {r} G =
     record {
       accepted = A;
       few = omega (arith, G .visited-is);
-      holds =
+      tracks =
           no-turn (mapOf places start from to loss) (r .visited) (G .visited-is) best last store r
-          (same (G .holds));
+          (same (G .tracks));
     }
   where
     -- a search begins alike whatever the spans are
-    same : Holds places 0 (begin (mapOf places start [] [] [])) best last store r
-        → Holds places 0 (begin (mapOf places start from to loss)) best last store r
+    same : Tracks places 0 (begin (mapOf places start [] [] [])) best last store r
+        → Tracks places 0 (begin (mapOf places start from to loss)) best last store r
     same H = H

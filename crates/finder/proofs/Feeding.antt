@@ -68,15 +68,15 @@ module _ (m : Map) (best last store : List ℕ) (code : ℕ)
         rw (sym is, z)
         (record {
           code-is = refl;
-          links-is = F .holds .logged .links;
-          cuts-is = F .holds .logged .cuts;
-          best-is = F .holds .best-is;
-          last-is = F .holds .last-is;
-          store-is = F .holds .logged .words ∙ ap encode (endsEmpty m (fits .accepted));
+          links-is = F .tracks .logged .links;
+          cuts-is = F .tracks .logged .cuts;
+          best-is = F .tracks .best-is;
+          last-is = F .tracks .last-is;
+          store-is = F .tracks .logged .words ∙ ap encode (endsEmpty m (fits .accepted));
           examined-most =
               omega (
                 arith,
-                F .holds .examined-is,
+                F .tracks .examined-is,
                 examinedAtMost never m (fits .accepted) (find m) (between (m .places)),
               );
           examined-refused = λ n. absurd (n refl);

@@ -13,7 +13,7 @@ use Rattle.paths.specs.Theorems.{Moment}
 use Rattle.paths.proofs.Turns.{moments-keep}
 use Rattle.paths.proofs.Served.{ServedOf, served}
 use Rattle.paths.proofs.Counts.{counts-low}
-use Rattle.relax.specs.Holds.{Logged}
+use Rattle.relax.specs.Tracks.{Logged}
 
 pub logged-ready : (m : Map) → Accepted m → (s : Search) → Moment never m s → (store : List ℕ) (t : Tally)
     → Logged (m .places) (s .calls) store t → Ready store t

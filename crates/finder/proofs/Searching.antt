@@ -44,7 +44,7 @@ module _
 
   pub extract-ready : Ready store (go .tally)
   extract-ready =
-      logged-ready m (G .stands .accepted) s (between (go .visited)) store (go .tally) (G .stands .holds .logged)
+      logged-ready m (G .stands .accepted) s (between (go .visited)) store (go .tally) (G .stands .tracks .logged)
 
   -- the call takes the place that comes next in the search, with its loss
   pub taken : {reply : Reply} {store′ : List ℕ} → Performed store (ExtractMin 0) (go .tally) reply store′
@@ -52,7 +52,7 @@ module _
       (record { visited = go .visited; met = go .met; examined = go .examined; tally = reply .tally })
   taken {reply} {store′} P =
       let A = G .stands .accepted in
-      let H = G .stands .holds in
+      let H = G .stands .tracks in
       let S = turns-keep never m A (ServedOf m) (served never m A) (go .visited) in
       let N = some-next (s .queue) (λ z. omega (arith, z, H .met-is, G .more)) in
       let u : ℕ = N .0 in
@@ -69,7 +69,7 @@ module _
         accepted = A;
         next-is = rw item (N .1);
         loss-is = rw item key;
-        holds =
+        tracks =
             rw item
             (record {
               best-is = H .best-is;
@@ -93,7 +93,7 @@ module _
   pub goes-below : go .visited < m .places
   goes-below =
       let A = G .stands .accepted in
-      let N = some-next (s .queue) (λ z. omega (arith, z, G .stands .holds .met-is, G .more)) in
+      let N = some-next (s .queue) (λ z. omega (arith, z, G .stands .tracks .met-is, G .more)) in
       let B = turns-between never m A (go .visited) in
       omega (arith, B .goes (N .0) (N .1), extracted-rest never m A (go .visited) s B (N .0) (N .1))
 
@@ -103,5 +103,5 @@ module _
 pub stands-found : (m : Map) (best last store : List ℕ) (go : Progress) → Stands m best last store go
     → go .met ≤ go .visited → Found m best last store go
 stands-found m best last store go S h =
-    let n = none-next ((turns never m (go .visited)) .queue) (omega (arith, S .holds .met-is)) in
-    record { out = go .visited; holds = rw (search-is never m (go .visited) (S .few) n) (S .holds) }
+    let n = none-next ((turns never m (go .visited)) .queue) (omega (arith, S .tracks .met-is)) in
+    record { out = go .visited; tracks = rw (search-is never m (go .visited) (S .few) n) (S .tracks) }

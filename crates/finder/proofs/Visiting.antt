@@ -14,8 +14,8 @@ use Rattle.paths.proofs.Invariant.{unsettled}
 use Rattle.paths.proofs.Offers.{TryingOf, sum-fits, out-of-queue}
 use Rattle.paths.proofs.Examined.{examinedAtMost}
 use Rattle.relax.specs.declared.Progress.{Progress}
-use Rattle.relax.specs.Holds.{Holds, examineOne}
-use Rattle.relax.specs.Moves.{Offerable, OfferReady, Moves}
+use Rattle.relax.specs.Tracks.{Tracks, examineOne}
+use Rattle.relax.specs.Advances.{Offerable, OfferReady, Advances}
 use Rattle.finder.specs.Standing.{Taken}
 use Rattle.finder.proofs.Ready.{logged-ready}
 use Rattle.finder.proofs.AtPlace.{at, left, left-is, tryingAt, servedAt}
@@ -47,7 +47,7 @@ module _
     examined-small =
         omega (
           arith,
-          W .holds .examined-is,
+          W .tracks .examined-is,
           examinedAtMost never m (K .accepted) (at m k u e) (trying k u e (K .next-is) (omega (arith, span-in))),
           K .accepted .short,
         )
@@ -87,27 +87,29 @@ module _
     offer-ready =
         rw (K .lists .to-is)
         (record {
-          inBest = omega (arith, ap length (W .holds .best-is), tryingE .invariant .bestN, K .accepted .toIn e span-in);
-          inLast = omega (arith, ap length (W .holds .last-is), tryingE .invariant .lastN, K .accepted .toIn e span-in);
+          inBest =
+              omega (arith, ap length (W .tracks .best-is), tryingE .invariant .bestN, K .accepted .toIn e span-in);
+          inLast =
+              omega (arith, ap length (W .tracks .last-is), tryingE .invariant .lastN, K .accepted .toIn e span-in);
           ready =
               logged-ready m (K .accepted) (at m k u e) (trying k u e (K .next-is) (omega (arith, span-in))) store
-              (go .tally) (W .holds .logged);
-          room = omega (arith, W .holds .met-is, tryingE .left, left-is K, K .accepted .few);
+              (go .tally) (W .tracks .logged);
+          room = omega (arith, W .tracks .met-is, tryingE .left, left-is K, K .accepted .few);
         })
 
-    examined-holds : Holds (m .places) (suc k) (examine (at m k u e)) best last store (examineOne go)
+    examined-tracks : Tracks (m .places) (suc k) (examine (at m k u e)) best last store (examineOne go)
     unfolding examineOne
-    examined-holds =
+    examined-tracks =
         record {
-          best-is = W .holds .best-is;
-          last-is = W .holds .last-is;
-          logged = W .holds .logged;
-          examined-is = omega (arith, W .holds .examined-is);
-          met-is = W .holds .met-is;
+          best-is = W .tracks .best-is;
+          last-is = W .tracks .last-is;
+          logged = W .tracks .logged;
+          examined-is = omega (arith, W .tracks .examined-is);
+          met-is = W .tracks .met-is;
         }
 
     pub walking-on : {best′ last′ store′ : List ℕ} {r : Progress}
-        → Moves (getD to e 0) (offer (getD to e 0) (d + getD loss e 0) e) best last store
+        → Advances (getD to e 0) (offer (getD to e 0) (d + getD loss e 0) e) best last store
         (examineOne go) best′ last′ store′ r
         → Walking m k u end (e + 1) best′ last′ store′ r
     unfolding examineOne tried try
@@ -119,7 +121,7 @@ module _
           within = W .within;
           own = λ i a b. W .own i (omega arith) b;
           beyond = W .beyond;
-          holds =
+          tracks =
               rw (add-one, eq-eqb (fromOf m e) u leaves-u, K .lists .free e)
-              (M .holds (m .places) (suc k) (examine (at m k u e)) offerable examined-holds);
+              (M .tracks (m .places) (suc k) (examine (at m k u e)) offerable examined-tracks);
         }

@@ -12,7 +12,7 @@ use Rattle.paths.specs.Map.{Map, spans, fromOf}
 use Rattle.paths.specs.Search.{Search, extracted, visit, turn, turns, never, bestAt}
 use Rattle.spans.specs.Range.{FirstSpan}
 use Rattle.relax.specs.declared.Progress.{Progress}
-use Rattle.relax.specs.Holds.{Holds, visitOne}
+use Rattle.relax.specs.Tracks.{Tracks, visitOne}
 use Rattle.finder.specs.Standing.{Taken, Visits}
 use Rattle.finder.proofs.OwnSpans.{walk-begins, walk-ends}
 use Rattle.finder.proofs.AtPlace.{at, left-is, place-in}
@@ -24,7 +24,7 @@ pub record Walking (m : Map) (k u end e : ℕ) (best last store : List ℕ) (go 
   pub within : end ≤ spans m
   pub own : (i : ℕ) → e ≤ i → i < end → fromOf m i ≡ u
   pub beyond : end < spans m → u < fromOf m end
-  pub holds : Holds (m .places) (suc k) (at m k u e) best last store go
+  pub tracks : Tracks (m .places) (suc k) (at m k u e) best last store go
 
 module _
     {m : Map} {index to loss : List ℕ} {u d : ℕ} {best₀ last₀ store₀ : List ℕ} {taken : Progress}
@@ -58,7 +58,7 @@ module _
         own =
             λ i a b. omega (arith, firstOf .above i a (omega (arith, endOf .within)), endOf .below i b);
         beyond = λ h. omega (arith, endOf .above end (le-refl _) h);
-        holds = rw (walk-begins m u (bestAt before u) (extracted u before) first (firstOf .below)) (K .holds);
+        tracks = rw (walk-begins m u (bestAt before u) (extracted u before) first (firstOf .below)) (K .tracks);
       }
     where
       first : ℕ
@@ -94,19 +94,19 @@ module _
         (walk-ends m (K .accepted) u (bestAt before u) (extracted u before) end (W .within) (W .beyond)
         ∙ ap (λ i. at m k u i) q)
 
-    visited-holds : Holds (m .places) (suc k) (at m k u e) best last store (visitOne go)
+    visited-tracks : Tracks (m .places) (suc k) (at m k u e) best last store (visitOne go)
     unfolding visitOne
-    visited-holds =
+    visited-tracks =
         record {
-          best-is = W .holds .best-is;
-          last-is = W .holds .last-is;
-          logged = W .holds .logged;
-          examined-is = W .holds .examined-is;
-          met-is = W .holds .met-is;
+          best-is = W .tracks .best-is;
+          last-is = W .tracks .last-is;
+          logged = W .tracks .logged;
+          examined-is = W .tracks .examined-is;
+          met-is = W .tracks .met-is;
         }
 
-    turned : end ≤ e → (i : ℕ) → i ≡ suc k → Holds (m .places) i (turns never m i) best last store (visitOne go)
-    turned j i q = rw (q, turns-next j) visited-holds
+    turned : end ≤ e → (i : ℕ) → i ≡ suc k → Tracks (m .places) i (turns never m i) best last store (visitOne go)
+    turned j i q = rw (q, turns-next j) visited-tracks
 
     pub walking-ends : end ≤ e → Visits m taken best last store (visitOne go)
     unfolding visitOne
@@ -116,7 +116,7 @@ module _
               record {
                 accepted = K .accepted;
                 few = omega (arith, W .visited-is, left-is K);
-                holds = turned j (go .visited + 1) (omega (arith, W .visited-is));
+                tracks = turned j (go .visited + 1) (omega (arith, W .visited-is));
               };
           one-more = omega (arith, W .visited-is);
         }

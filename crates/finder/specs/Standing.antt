@@ -10,7 +10,7 @@ use Rattle.paths.specs.Queue.{takes, next}
 use Rattle.paths.specs.Search.{extracted, begin, turns, never, find, bestAt}
 use Rattle.spans.specs.Range.{Index}
 use Rattle.relax.specs.declared.Progress.{Progress}
-use Rattle.relax.specs.Holds.{Holds}
+use Rattle.relax.specs.Tracks.{Tracks}
 
 -- ---- one place
 
@@ -27,13 +27,13 @@ pub record Taken (m : Map) (index to loss : List ℕ) (u d : ℕ) (best last sto
   pub accepted : Accepted m
   pub next-is : next never ((turns never m (go .visited)) .queue) ≡ takes u
   pub loss-is : d ≡ bestAt (turns never m (go .visited)) u
-  pub holds : Holds (m .places) (suc (go .visited)) (extracted u (turns never m (go .visited))) best last store go
+  pub tracks : Tracks (m .places) (suc (go .visited)) (extracted u (turns never m (go .visited))) best last store go
 
 -- As many turns are made as places were visited.
 pub record Stands (m : Map) (best last store : List ℕ) (go : Progress) : Type 0 where
   pub accepted : Accepted m
   pub few : go .visited ≤ m .places
-  pub holds : Holds (m .places) (go .visited) (turns never m (go .visited)) best last store go
+  pub tracks : Tracks (m .places) (go .visited) (turns never m (go .visited)) best last store go
 
 -- A place that was met is not visited yet: it waits.
 pub record Goes (m : Map) (index to loss best last store : List ℕ) (go : Progress) : Type 0 where
@@ -57,9 +57,9 @@ pub record BeginReady (places start : ℕ) (best last store : List ℕ) : Type 0
 -- The start alone waits. Nothing depends on the spans.
 pub record Begun (places start : ℕ) (best last store : List ℕ) (r : Progress) : Type 0 where
   pub visited-is : r .visited ≡ 0
-  pub holds : Holds places 0 (begin (mapOf places start [] [] [])) best last store r
+  pub tracks : Tracks places 0 (begin (mapOf places start [] [] [])) best last store r
 
 -- The search is done, whatever number of places it took.
 pub record Found (m : Map) (best last store : List ℕ) (r : Progress) : Type 0 where
   pub out : ℕ
-  pub holds : Holds (m .places) out (find m) best last store r
+  pub tracks : Tracks (m .places) out (find m) best last store r

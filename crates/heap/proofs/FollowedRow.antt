@@ -19,6 +19,7 @@ use Rattle.rules.proofs.ConcatLinks.{head-concat, last-concat, next-before, pre
 use Rattle.rules.proofs.Occurs.{delta-self}
 use Rattle.rules.proofs.Relinks.{at-end}
 use Rattle.rules.proofs.SiblingLists.{once-row}
+use Rattle.rules.proofs.RemoveLinks.{none-head}
 use Rattle.rules.proofs.Siblings.{apart, last-in}
 use Rattle.store.specs.Says.{Values}
 use Rattle.store.specs.Siblings.{concatenated, firstOf, lastOf}
@@ -45,9 +46,6 @@ head-in : (z : ℕ) (zs : List ℕ) → 1 ≤ occurs z (z ∷ zs)
 unfolding occurs sumBy
 head-in z zs = omega (arith, delta-self z)
 
-head-item : (z : ℕ) (zs : List ℕ) → occurs none (z ∷ zs) ≡ 0 → z ≢ none
-head-item z zs n = apart z none (z ∷ zs) (head-in z zs) n
-
 abbrev pub after : Forests → ℕ → List ℕ → Values
 after t a l = concatenated (Row a) (headOr none l) (lastOr none l) (word t)
 
@@ -60,12 +58,12 @@ module _ (t : Forests) (D : Disjoint t) (a : ℕ) where
   next-joined : (z : ℕ) (zs : List ℕ) → occurs none (z ∷ zs) ≡ 0 → (j : ℕ)
       → after t a (z ∷ zs) Next j ≡ cond (eqb (lastOr none (rowOf t a)) j) z (word t Next j)
   unfolding headOr lastOf word
-  next-joined z zs n = concat-next z (lastOr none (z ∷ zs)) (word t) (head-item z zs n) (Row a)
+  next-joined z zs n = concat-next z (lastOr none (z ∷ zs)) (word t) (none-head z zs n) (Row a)
 
   prev-joined : (z : ℕ) (zs : List ℕ) → occurs none (z ∷ zs) ≡ 0 → (j : ℕ)
       → after t a (z ∷ zs) Prev j ≡ cond (eqb z j) (lastOr none (rowOf t a)) (word t Prev j)
   unfolding headOr lastOf word
-  prev-joined z zs n = concat-prev z (lastOr none (z ∷ zs)) (word t) (head-item z zs n) (Row a)
+  prev-joined z zs n = concat-prev z (lastOr none (z ∷ zs)) (word t) (none-head z zs n) (Row a)
 
   -- the ends of any row
   pub first-after : (l : List ℕ) → occurs none l ≡ 0 → (g : ℕ)
@@ -74,7 +72,7 @@ module _ (t : Forests) (D : Disjoint t) (a : ℕ) where
   first-after [] n g =
       unchanged FirstTree g ∙ rw (append-nil (rowOf t a)) (sym (at-self (λ x. headOr none (rowOf t x)) a g))
   first-after (z ∷ zs) n g =
-      concat-first z (lastOr none (z ∷ zs)) (word t) (head-item z zs n) (Row a) (Row g)
+      concat-first z (lastOr none (z ∷ zs)) (word t) (none-head z zs n) (Row a) (Row g)
       ∙ ap (λ x. cond (eqb a g) x (headOr none (rowOf t g)))
       (sym (head-concat (rowOf t a) (z ∷ zs) (none-row t D a)))
 
@@ -84,7 +82,7 @@ module _ (t : Forests) (D : Disjoint t) (a : ℕ) where
   last-after [] n g =
       unchanged LastTree g ∙ rw (append-nil (rowOf t a)) (sym (at-self (λ x. lastOr none (rowOf t x)) a g))
   last-after (z ∷ zs) n g =
-      concat-last z (lastOr none (z ∷ zs)) (word t) (head-item z zs n) (Row a) (Row g)
+      concat-last z (lastOr none (z ∷ zs)) (word t) (none-head z zs n) (Row a) (Row g)
       ∙ ap (λ x. cond (eqb a g) x (lastOr none (rowOf t g))) (sym (last-concat none (rowOf t a) (z ∷ zs)))
 
   -- the next word of an item outside row a, and of one in it

@@ -5,7 +5,7 @@ use mathlib.Core.List.{List}
 use mathlib.Core.Bool.{Bool, true, false, cond, not, _&&_}
 use native.Mathlib.Omega.{arith}
 use lib.ListN.{length}
-use lib.Seq.{sets, length-sets}
+use lib.Seq.{length-sets}
 use lib.Dec.{eqb, ltb, leb}
 use borrow.Author.Tests.{eqb-true, leb-true}
 use Rattle.text.specs.Lines.{lines}
@@ -18,6 +18,7 @@ use Rattle.mapfile.specs.Read.{
   Reading,
   refusal,
   refused,
+  done,
   filled,
   countRead,
   spansOnto,
@@ -40,13 +41,7 @@ module _ (from to loss : List ℕ) where
       go (eqb (length to) (length from)) (eqb (length loss) (length from)) (leb n (length from)) refl refl refl
     where
       full : Reading
-      full =
-          record {
-            answer = record { code = 0; places = places; start = start; spans = n };
-            from = sets from 0 (column (λ s. s .from) ls);
-            to = sets to 0 (column (λ s. s .to) ls);
-            loss = sets loss 0 (column (λ s. s .loss) ls);
-          }
+      full = done places start n ls from to loss
 
       go : (a b c : Bool) → eqb (length to) (length from) ≡ a → eqb (length loss) (length from) ≡ b
           → leb n (length from) ≡ c → (cond (not (a && b && c)) (refused 16 from to loss) full) .answer .code ≡ 0

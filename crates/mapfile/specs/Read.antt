@@ -37,17 +37,21 @@ refusal code = record { code = code; places = 0; start = 0; spans = 0 }
 unfoldable pub refused : ℕ → List ℕ → List ℕ → List ℕ → Reading
 refused code from to loss = record { answer = refusal code; from = from; to = to; loss = loss }
 
--- The spans of the lines ls go to the beginning of the three lists, which must be equally long and long enough.
-unfoldable pub filled : ℕ → ℕ → ℕ → List (List ℕ) → List ℕ → List ℕ → List ℕ → Reading
-filled places start n ls from to loss =
-    cond (not (eqb (length to) (length from) && eqb (length loss) (length from) && leb n (length from)))
-    (refused 16 from to loss)
-    (record {
+-- The spans of the lines ls go to the beginning of the three lists.
+abbrev pub done : ℕ → ℕ → ℕ → List (List ℕ) → List ℕ → List ℕ → List ℕ → Reading
+done places start n ls from to loss =
+    record {
       answer = record { code = 0; places = places; start = start; spans = n };
       from = sets from 0 (column (λ s. s .from) ls);
       to = sets to 0 (column (λ s. s .to) ls);
       loss = sets loss 0 (column (λ s. s .loss) ls);
-    })
+    }
+
+-- The lists must be equally long and long enough.
+unfoldable pub filled : ℕ → ℕ → ℕ → List (List ℕ) → List ℕ → List ℕ → List ℕ → Reading
+filled places start n ls from to loss =
+    cond (not (eqb (length to) (length from) && eqb (length loss) (length from) && leb n (length from)))
+    (refused 16 from to loss) (done places start n ls from to loss)
 
 -- The first line has places and start, and each other is a span, or the text is malformed.
 unfoldable pub countRead : Spans → ℕ → ℕ → List (List ℕ) → List ℕ → List ℕ → List ℕ → Reading

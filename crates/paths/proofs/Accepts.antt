@@ -2,7 +2,7 @@
 use Prim.Native.Nat.{ℕ, zero, suc, _≤_, _<_}
 use mathlib.Core.Path.{_≡_, refl, sym}
 use mathlib.Core.Logic.{_≢_}
-use mathlib.Core.Bool.{Bool, true, false, cond, not, _&&_, _||_, true≢false, false≢true}
+use mathlib.Core.Bool.{Bool, true, false, cond, not, _||_, true≢false}
 use native.Mathlib.Omega.{arith}
 use lib.ListN.{length}
 use lib.Dec.{eqb, ltb, leb}
@@ -20,6 +20,7 @@ use borrow.Author.Tests.{
   not-false,
 }
 use Rattle.rules.specs.Words.{storeSize}
+use Rattle.rules.proofs.Occurs.{and-split}
 use Rattle.paths.specs.Map.{Map, spans, fromOf, toOf, lossOf, Accepted}
 use Rattle.paths.specs.Codes.{fault, previous, spanCode, spanLists, resultLists, feedCode}
 use Rattle.paths.specs.Theorems.{Fits, CodeZero}
@@ -32,10 +33,6 @@ no-cond false c x n e = (refl, e)
 no-or : (a b : Bool) → (a || b) ≡ false → (a ≡ false) × (b ≡ false)
 no-or true b e = absurd (true≢false e)
 no-or false b e = (refl, e)
-
-both : (a b : Bool) → (a && b) ≡ true → (a ≡ true) × (b ≡ true)
-both true b e = (refl, e)
-both false b e = absurd (false≢true e)
 
 module _ (m : Map) where
   -- what a span without a fault is
@@ -82,10 +79,10 @@ module _ (m : Map) where
         let c₃ = no-cond (not (spanLists m)) 16 _ (λ q. omega arith) (c₂ .1) in
         let c₄ = no-cond (not (resultLists m bestN lastN storeN)) 17 _ (λ q. omega arith) (c₃ .1) in
         let f = no-or (eqb (m .places) 0) (ltb 4096 (m .places)) (c₁ .0) in
-        let g = both _ (leb (spans m) 16384) (not-false _ (c₃ .0)) in
-        let g′ = both (eqb (length (m .to)) (spans m)) (eqb (length (m .loss)) (spans m)) (g .0) in
-        let h = both _ (eqb storeN (storeSize (m .places))) (not-false _ (c₄ .0)) in
-        let h′ = both (eqb bestN (m .places)) (eqb lastN (m .places)) (h .0) in
+        let g = and-split _ (leb (spans m) 16384) (not-false _ (c₃ .0)) in
+        let g′ = and-split (eqb (length (m .to)) (spans m)) (eqb (length (m .loss)) (spans m)) (g .0) in
+        let h = and-split _ (eqb storeN (storeSize (m .places))) (not-false _ (c₄ .0)) in
+        let h′ = and-split (eqb bestN (m .places)) (eqb lastN (m .places)) (h .0) in
         let n : m .places ≢ 0 = eqb-false (m .places) 0 (f .0) in
         let s : (e : ℕ) → e < spans m → Faultless e =
         λ e k. faultless e (each-none (m .places) (m .from) (m .to) (m .loss) (spans m) (c₄ .1) e k) in

@@ -45,7 +45,14 @@ module _ (store sheet out : List ℕ) {store′ out′ : List ℕ} {r : Ran}
     code-shown z {out″} {n} w =
         let e : n ≡ length (field (r .code) lineFeed) = omega (arith, w .next) in
         record {
-          bytes = rw (← L .sameCode, ne-eqb _ 0 z, w .left, e, sets-eq (field (r .code) lineFeed) out′ 0 (code-fits lineFeed))
+          bytes =
+              rw (
+                ← L .sameCode,
+                ne-eqb _ 0 z,
+                w .left,
+                e,
+                sets-eq (field (r .code) lineFeed) out′ 0 (code-fits lineFeed),
+              )
               (take-append-seam (field (r .code) lineFeed) _);
           within = omega (arith, w .next, wrote-length w, code-fits lineFeed);
         }

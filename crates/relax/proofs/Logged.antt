@@ -17,7 +17,7 @@ use Rattle.rules.specs.declared.Tally.{Tally}
 use Rattle.heap.specs.declared.Reply.{Reply}
 use Rattle.heap.specs.Performed.{Performed}
 use Rattle.paths.specs.Feed.{linksOf, cutsOf}
-use Rattle.relax.specs.Holds.{Logged}
+use Rattle.relax.specs.Tracks.{Logged}
 use Rattle.paths.proofs.Log.{after-snoc, sum-snoc}
 
 module _ (n : ℕ) (calls : List Line) (store : List ℕ) (t : Tally) (L : Logged n calls store t) where

@@ -13,7 +13,7 @@ use Rattle.heap.specs.declared.Reply.{Reply}
 use Rattle.heap.specs.Performed.{Performed}
 use Rattle.relax.specs.declared.Progress.{Progress}
 use Rattle.paths.specs.Search.{Verdict, unmet, smaller, tie, worse, judge, update, offer}
-use Rattle.relax.specs.Moves.{EnterReady, OfferReady, Moves}
+use Rattle.relax.specs.Advances.{InsertReady, OfferReady, Advances}
 use Rattle.paths.proofs.Judge.{judge-unmet, judge-smaller, judge-larger, judge-tie, judge-late}
 use Rattle.relax.proofs.Logged.{call-logged}
 
@@ -22,14 +22,14 @@ module _ (p l e : ℕ) (best last store : List ℕ) (go : Progress) where
   abbrev on : ℕ → Reply → Progress
   on k reply = record { visited = go .visited; met = k; examined = go .examined; tally = reply .tally }
 
-  pub enter-moves : EnterReady p best last store go → (reply : Reply) (store′ : List ℕ)
+  pub enter-advances : InsertReady p best last store go → (reply : Reply) (store′ : List ℕ)
       → Performed store (Insert 0 p l) (go .tally) reply store′
-      → Moves p (update unmet p l e) best last store go (set best p l) (set last p e) store′ (on (go .met + 1) reply)
+      → Advances p (update unmet p l e) best last store go (set best p l) (set last p e) store′ (on (go .met + 1) reply)
   unfolding update
-  enter-moves E reply store′ P =
+  enter-advances E reply store′ P =
       record {
         visited-is = refl;
-        holds =
+        tracks =
             λ n out s O H.
             let z : getD (s .best) p none ≡ none =
             rw (sym (H .best-is)) (getD-any best p none 0 (E .offer .inBest) ∙ E .isNone) in
@@ -44,13 +44,13 @@ module _ (p l e : ℕ) (best last store : List ℕ) (go : Progress) where
             };
       }
 
-  pub lower-moves : (reply : Reply) (store′ : List ℕ) → Performed store (DecreaseKey p l) (go .tally) reply store′
-      → Moves p (update smaller p l e) best last store go (set best p l) (set last p e) store′ (on (go .met) reply)
+  pub lower-advances : (reply : Reply) (store′ : List ℕ) → Performed store (DecreaseKey p l) (go .tally) reply store′
+      → Advances p (update smaller p l e) best last store go (set best p l) (set last p e) store′ (on (go .met) reply)
   unfolding update
-  lower-moves reply store′ P =
+  lower-advances reply store′ P =
       record {
         visited-is = refl;
-        holds =
+        tracks =
             λ n out s O H.
             record {
               best-is = ap (λ b. set b p l) (H .best-is);
@@ -62,12 +62,12 @@ module _ (p l e : ℕ) (best last store : List ℕ) (go : Progress) where
             };
       }
 
-  tie-moves : Moves p (update tie p l e) best last store go best (set last p e) store go
+  tie-advances : Advances p (update tie p l e) best last store go best (set last p e) store go
   unfolding update
-  tie-moves =
+  tie-advances =
       record {
         visited-is = refl;
-        holds =
+        tracks =
             λ n out s O H.
             record {
               best-is = H .best-is;
@@ -78,24 +78,24 @@ module _ (p l e : ℕ) (best last store : List ℕ) (go : Progress) where
             };
       }
 
-  worse-moves : Moves p (update worse p l e) best last store go best last store go
+  worse-moves : Advances p (update worse p l e) best last store go best last store go
   unfolding update
-  worse-moves = record { visited-is = refl; holds = λ n out s O H. H }
+  worse-moves = record { visited-is = refl; tracks = λ n out s O H. H }
 
   -- the verdict is that on the words of the lists
-  judged-moves : (v : Verdict) → judge (getD best p none) (getD last p none) l e ≡ v
+  judged-advances : (v : Verdict) → judge (getD best p none) (getD last p none) l e ≡ v
       → (best′ last′ store′ : List ℕ) (r : Progress)
-      → Moves p (update v p l e) best last store go best′ last′ store′ r
-      → Moves p (offer p l e) best last store go best′ last′ store′ r
+      → Advances p (update v p l e) best last store go best′ last′ store′ r
+      → Advances p (offer p l e) best last store go best′ last′ store′ r
   unfolding offer
-  judged-moves v q best′ last′ store′ r M =
+  judged-advances v q best′ last′ store′ r M =
       record {
         visited-is = M .visited-is;
-        holds =
+        tracks =
             λ n out s O H.
             let j : judge (getD (s .best) p none) (getD (s .last) p none) l e ≡ v =
             rw (sym (H .best-is), sym (H .last-is)) q in
-            rw j (M .holds n out s O H);
+            rw j (M .tracks n out s O H);
       }
 
   module _ (O : OfferReady p best last store go) where
@@ -108,17 +108,17 @@ module _ (p l e : ℕ) (best last store : List ℕ) (go : Progress) where
 
     -- One law for each way out, in the order of the tests.
     module _ (best′ last′ store′ : List ℕ) (r : Progress) where
-      pub offer-enters : getD best p 0 ≡ none → Moves p (update unmet p l e) best last store go best′ last′ store′ r
-          → Moves p (offer p l e) best last store go best′ last′ store′ r
+      pub offer-enters : getD best p 0 ≡ none → Advances p (update unmet p l e) best last store go best′ last′ store′ r
+          → Advances p (offer p l e) best last store go best′ last′ store′ r
       offer-enters z M =
-          judged-moves unmet (judge-unmet (getD best p none) (getD last p none) l e (best-word ∙ z)) best′ last′
+          judged-advances unmet (judge-unmet (getD best p none) (getD last p none) l e (best-word ∙ z)) best′ last′
           store′ r M
 
       pub offer-lowers : getD best p 0 ≢ none → l < getD best p 0
-          → Moves p (update smaller p l e) best last store go best′ last′ store′ r
-          → Moves p (offer p l e) best last store go best′ last′ store′ r
+          → Advances p (update smaller p l e) best last store go best′ last′ store′ r
+          → Advances p (offer p l e) best last store go best′ last′ store′ r
       offer-lowers z k M =
-          judged-moves smaller
+          judged-advances smaller
           (judge-smaller (getD best p none) (getD last p none) l e (λ q. z (sym best-word ∙ q))
           (omega (arith, best-word)))
           best′ last′ store′ r M
@@ -130,22 +130,22 @@ module _ (p l e : ℕ) (best last store : List ℕ) (go : Progress) where
       low′ : getD best p none ≤ l
       low′ = omega (arith, best-word)
 
-      pub offer-larger : getD best p 0 < l → Moves p (offer p l e) best last store go best last store go
+      pub offer-larger : getD best p 0 < l → Advances p (offer p l e) best last store go best last store go
       offer-larger k =
-          judged-moves worse
+          judged-advances worse
           (judge-larger (getD best p none) (getD last p none) l e met′ low′ (λ q. omega (arith, k, q, best-word)))
           best last store go worse-moves
 
-      pub offer-late : getD last p 0 ≤ e → Moves p (offer p l e) best last store go best last store go
+      pub offer-late : getD last p 0 ≤ e → Advances p (offer p l e) best last store go best last store go
       offer-late k =
-          judged-moves worse
+          judged-advances worse
           (judge-late (getD best p none) (getD last p none) l e met′ low′ (omega (arith, last-word)))
           best last store go worse-moves
 
       pub offer-ties : l ≤ getD best p 0 → e < getD last p 0
-          → Moves p (offer p l e) best last store go best (set last p e) store go
+          → Advances p (offer p l e) best last store go best (set last p e) store go
       offer-ties k i =
-          judged-moves tie
+          judged-advances tie
           (judge-tie (getD best p none) (getD last p none) l e met′ low′ (omega (arith, low, k, best-word))
           (omega (arith, last-word)))
-          best (set last p e) store go tie-moves
+          best (set last p e) store go tie-advances

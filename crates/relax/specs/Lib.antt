@@ -1,2 +1,2 @@
-pub mod Holds
-pub mod Moves
+pub mod Tracks
+pub mod Advances

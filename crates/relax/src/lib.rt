@@ -2,8 +2,8 @@
 ghost use mathlib.Core.Path.{_≡_};
 ghost use Prim.Native.Nat.{_+_, _<_};
 ghost use Rattle.paths.specs.Search.{unmet, smaller, update, offer};
-ghost use Rattle.relax.specs.Holds.{examineOne, visitOne};
-ghost use Rattle.relax.specs.Moves.{EnterReady, OfferReady, Moves};
+ghost use Rattle.relax.specs.Tracks.{examineOne, visitOne};
+ghost use Rattle.relax.specs.Advances.{InsertReady, OfferReady, Advances};
 use heap::perform::perform;
 use rules::Call;
 use rules::Tally;
@@ -58,8 +58,8 @@ fn enter(
     e: u32,
     go: Progress,
 ) -> Progress
-    requires { ⌜ EnterReady p (now best) (now last) (now store) go ⌝ }
-    ensures { λ r. ⌜ Moves p (update unmet p l e)
+    requires { ⌜ InsertReady p (now best) (now last) (now store) go ⌝ }
+    ensures { λ r. ⌜ Advances p (update unmet p l e)
         (now (best .entry)) (now (last .entry)) (now (store .entry)) go
         (now (best .exit)) (now (last .exit)) (now (store .exit)) r ⌝ }
 {
@@ -96,7 +96,7 @@ fn lower(
     go: Progress,
 ) -> Progress
     requires { ⌜ OfferReady p (now best) (now last) (now store) go ⌝ }
-    ensures { λ r. ⌜ Moves p (update smaller p l e)
+    ensures { λ r. ⌜ Advances p (update smaller p l e)
         (now (best .entry)) (now (last .entry)) (now (store .entry)) go
         (now (best .exit)) (now (last .exit)) (now (store .exit)) r ⌝ }
 {
@@ -125,7 +125,7 @@ pub fn offered(
     go: Progress,
 ) -> Progress
     requires { ⌜ OfferReady p (now best) (now last) (now store) go ⌝ }
-    ensures { λ r. ⌜ Moves p (offer p l e)
+    ensures { λ r. ⌜ Advances p (offer p l e)
         (now (best .entry)) (now (last .entry)) (now (store .entry)) go
         (now (best .exit)) (now (last .exit)) (now (store .exit)) r ⌝ }
 {

@@ -64,7 +64,7 @@ none-tail : (z : ℕ) (zs : List ℕ) → occurs none (z ∷ zs) ≡ 0 → occur
 unfolding occurs sumBy
 none-tail z zs n = omega arith
 
-none-head : (z : ℕ) (zs : List ℕ) → occurs none (z ∷ zs) ≡ 0 → z ≢ none
+pub none-head : (z : ℕ) (zs : List ℕ) → occurs none (z ∷ zs) ≡ 0 → z ≢ none
 unfolding occurs sumBy
 none-head z zs n e = omega (arith, delta-self none, ap (delta none) e)
 

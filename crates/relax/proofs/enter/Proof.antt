@@ -1,5 +1,5 @@
 -- `relax::enter` meets its contract.
-use Rattle.relax.proofs.Relaxing.{enter-moves}
+use Rattle.relax.proofs.Relaxing.{enter-advances}
 use borrow.Author.Needs.{needs}
 use Rattle.relax.proofs.enter.Statement.{statement}
 use Rattle.relax.proofs.enter.Tie as tie
@@ -33,7 +33,7 @@ same-length-3 c = search needs
 
 returns : tie.Need-returns
 returns c =
-    enter-moves _ _ _ _ _ _ _
+    enter-advances _ _ _ _ _ _ _
     (c .before .before .before .before .before .before .before .before .before .before .pre) _ _
     (c .before .before .before .before .perform .ensures)
 

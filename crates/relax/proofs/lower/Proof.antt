@@ -1,5 +1,5 @@
 -- `relax::lower` meets its contract.
-use Rattle.relax.proofs.Relaxing.{lower-moves}
+use Rattle.relax.proofs.Relaxing.{lower-advances}
 use borrow.Author.Needs.{needs}
 use Rattle.relax.proofs.lower.Statement.{statement}
 use Rattle.relax.proofs.lower.Tie as tie
@@ -29,7 +29,7 @@ same-length-3 : tie.Need-same-length-3
 same-length-3 c = search needs
 
 returns : tie.Need-returns
-returns c = lower-moves _ _ _ _ _ _ _ _ _ (c .before .before .before .perform .ensures)
+returns c = lower-advances _ _ _ _ _ _ _ _ _ (c .before .before .before .perform .ensures)
 
 pub lower-spec : {M : Type 1} → statement M
 lower-spec =

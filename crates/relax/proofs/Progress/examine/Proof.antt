@@ -1,6 +1,6 @@
 -- `relax::Progress::examine` meets its contract.
 use mathlib.Core.Path.{refl}
-use Rattle.relax.specs.Holds.{examineOne}
+use Rattle.relax.specs.Tracks.{examineOne}
 use borrow.Author.Needs.{needs}
 use Rattle.relax.proofs.Progress.examine.Statement.{statement}
 use Rattle.relax.proofs.Progress.examine.Tie as tie

@@ -1,6 +1,6 @@
 -- `relax::Progress::visit` meets its contract.
 use mathlib.Core.Path.{refl}
-use Rattle.relax.specs.Holds.{visitOne}
+use Rattle.relax.specs.Tracks.{visitOne}
 use borrow.Author.Needs.{needs}
 use Rattle.relax.proofs.Progress.visit.Statement.{statement}
 use Rattle.relax.proofs.Progress.visit.Tie as tie

@@ -19,7 +19,7 @@ pub record Logged (n : ℕ) (calls : List Line) (store : List ℕ) (t : Tally) :
   pub cuts : t .cuts ≡ cutsOf n calls
 
 -- The result lists, the store and the progress are those of the search s; `out` places were taken.
-pub record Holds (n out : ℕ) (s : Search) (best last store : List ℕ) (go : Progress) : Type 0 where
+pub record Tracks (n out : ℕ) (s : Search) (best last store : List ℕ) (go : Progress) : Type 0 where
   pub best-is : best ≡ s .best
   pub last-is : last ≡ s .last
   pub logged : Logged n (s .calls) store (go .tally)

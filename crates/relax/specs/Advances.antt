@@ -9,7 +9,7 @@ use Rattle.rules.specs.WellFormed.{WellFormed}
 use Rattle.heap.specs.Performed.{Ready}
 use Rattle.paths.specs.Search.{Search, bestAt}
 use Rattle.relax.specs.declared.Progress.{Progress}
-use Rattle.relax.specs.Holds.{Holds}
+use Rattle.relax.specs.Tracks.{Tracks}
 
 -- A search in which place p may be offered a loss: if not met, it does not wait.
 pub record Offerable (n p : ℕ) (s : Search) : Type 0 where
@@ -23,13 +23,13 @@ pub record OfferReady (p : ℕ) (best last store : List ℕ) (go : Progress) : T
   pub ready : Ready store (go .tally)
   pub room : go .met < 4294967295
 
-pub record EnterReady (p : ℕ) (best last store : List ℕ) (go : Progress) : Type 0 where
+pub record InsertReady (p : ℕ) (best last store : List ℕ) (go : Progress) : Type 0 where
   pub offer : OfferReady p best last store go
   pub isNone : getD best p 0 ≡ none
 
 -- Whatever search the code stands in, it goes to the one that g gives.
-pub record Moves (p : ℕ) (g : Search → Search) (best last store : List ℕ) (go : Progress)
+pub record Advances (p : ℕ) (g : Search → Search) (best last store : List ℕ) (go : Progress)
     (best′ last′ store′ : List ℕ) (r : Progress) : Type 0 where
   pub visited-is : r .visited ≡ go .visited
-  pub holds : (n out : ℕ) (s : Search) → Offerable n p s → Holds n out s best last store go
-      → Holds n out (g s) best′ last′ store′ r
+  pub tracks : (n out : ℕ) (s : Search) → Offerable n p s → Tracks n out s best last store go
+      → Tracks n out (g s) best′ last′ store′ r
