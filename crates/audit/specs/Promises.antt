@@ -15,7 +15,7 @@ pub record Item (n : ℕ) (w : List ℕ) (i : ℕ) : Type 0 where
   pub inside : i < n
 
 -- item i is in a heap, and its state word is this
-pub record InHeap (n : ℕ) (w : List ℕ) (i state : ℕ) : Type 0 where
+pub record HasState (n : ℕ) (w : List ℕ) (i state : ℕ) : Type 0 where
   pub item : Item n w i
   pub is : state ≡ look n w State i
   pub some : 0 < state

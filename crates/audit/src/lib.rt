@@ -6,7 +6,7 @@ ghost use Rattle.rules.specs.Words.{look, stateHeap, stateMark};
 ghost use Rattle.store.specs.Says.{Sized, Within};
 ghost use Rattle.soundness.specs.Check.{linkOk, listLength, parentOk, freeOk, itemOk, minimumOk};
 ghost use Rattle.soundness.specs.Check.{countAt, allOk, soundWords};
-ghost use Rattle.audit.specs.Promises.{Item, InHeap, StatesLow, AtMost, Counts};
+ghost use Rattle.audit.specs.Promises.{Item, HasState, StatesLow, AtMost, Counts};
 ghost use Rattle.audit.specs.Promises.{ranksIfOk, heapIfOk, treesIfOk};
 use rules::Field;
 use soundness::Siblings;
@@ -87,7 +87,7 @@ fn list_length(store: &[u32], n: usize, l: Siblings) -> usize
 // A root is unmarked and does not come before the minimum of its heap; any other item has a parent in its heap that
 // comes before it.
 fn parent_ok(store: &[u32], n: usize, i: usize, state: usize) -> bool
-    requires { ⌜ InHeap n (now store) i state ⌝ }
+    requires { ⌜ HasState n (now store) i state ⌝ }
     ensures { λ r. ⌜ r ≡ parentOk n (now (store .entry)) i ⌝ }
 {
     let heap = heap_of(state);

@@ -27,7 +27,7 @@ use Rattle.store.specs.declared.Owner.the-variants.{Children}
 use Rattle.store.specs.ItemOrder.{itemKey}
 use Rattle.store.specs.Says.{Changes}
 use Rattle.store.specs.Siblings.{appended}
-use Rattle.store.proofs.Standing.{root-in, some-item}
+use Rattle.store.proofs.ListMembers.{root-in, some-item}
 use Rattle.consolidate.specs.Consolidating.{Consolidating}
 use Rattle.consolidate.proofs.Climbing.{Climbing, held, keys-fit, rank-inside}
 use Rattle.consolidate.proofs.ClimbMeeting.{

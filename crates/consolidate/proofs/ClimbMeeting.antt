@@ -20,9 +20,9 @@ use Rattle.store.specs.declared.Owner.the-variants.{Children}
 use Rattle.store.specs.ItemOrder.{itemKey}
 use Rattle.store.specs.Siblings.{AppendReady, Link, RankRises, lastOf}
 use Rattle.store.proofs.Listed.{link-in}
-use Rattle.store.proofs.Standing.{root-in}
+use Rattle.store.proofs.ListMembers.{root-in}
 use Rattle.consolidate.proofs.Beside.{beside-rank, before-says}
-use Rattle.consolidate.proofs.Chains.{last-apart}
+use Rattle.consolidate.proofs.LinkedLists.{last-apart}
 use Rattle.consolidate.proofs.Climbing.{Climbing, held, place-at, rank-inside, tree-inside}
 use Rattle.consolidate.proofs.LinkLists.{TwoRoots, a-in, a-root, l-in}
 

@@ -1,4 +1,4 @@
-pub mod Chains
+pub mod LinkedLists
 pub mod MoveWords
 pub mod Beside
 pub mod RowedWords

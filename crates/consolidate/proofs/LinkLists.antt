@@ -19,10 +19,10 @@ use Rattle.rules.proofs.SiblingLists.{once-children}
 use Rattle.store.specs.declared.Owner.the-variants.{Children}
 use Rattle.store.specs.Says.{Values}
 use Rattle.store.specs.Siblings.{appended}
-use Rattle.store.proofs.Standing.{free-child, none-child, not-child, root-in, some-item}
-use Rattle.consolidate.specs.Chain.{Chain}
+use Rattle.store.proofs.ListMembers.{free-child, none-child, not-child, root-in, some-item}
+use Rattle.consolidate.specs.LinkedList.{LinkedList}
 use Rattle.consolidate.specs.Stored.{Beside}
-use Rattle.consolidate.proofs.Chains.{chain-append, chain-frame, last-apart}
+use Rattle.consolidate.proofs.LinkedLists.{linked-append, linked-frame, last-apart}
 use Rattle.consolidate.proofs.MoveWords.{child-first, child-last, child-next, child-other, child-prev}
 
 -- a and l are roots of heap h, whose row is ρ
@@ -54,7 +54,7 @@ module _ {n h : ℕ} {v : Values} {t : Forests} (B : Beside n h v t) {ρ : List 
   pub l-in : l < tableSize t
   l-in = root-in t (l-root .0)
 
-  family : Chain (v FirstChild a) (v LastChild a) (v Next) (v Prev) (childrenOf t a)
+  family : LinkedList (v FirstChild a) (v LastChild a) (v Next) (v Prev) (childrenOf t a)
   family = B .families a (omega (arith, B .size, a-in)) (λ e. omega (arith, a-root .0))
 
   -- whoever is neither l nor a child of a keeps its links
@@ -67,10 +67,10 @@ module _ {n h : ℕ} {v : Values} {t : Forests} (B : Beside n h v t) {ρ : List 
       )
 
   -- the children of a, with l at the end
-  own-chain : Chain (v′ FirstChild a) (v′ LastChild a) (v′ Next) (v′ Prev) (childrenOf t a ++ (l ∷ []))
-  own-chain =
+  own-list : LinkedList (v′ FirstChild a) (v′ LastChild a) (v′ Next) (v′ Prev) (childrenOf t a ++ (l ∷ []))
+  own-list =
       rw (child-last a l v a, eqb-self a)
-      (chain-append (childrenOf t a) family l (once-children old D a a-in)
+      (linked-append (childrenOf t a) family l (once-children old D a a-in)
       (none-child old D a a-in)
       (root-child old D a l a-in (l-root .1)) (some-item old D l l-in) (v′ FirstChild a) (v′ Next) (v′ Prev)
       (child-first a l v a ∙ rw (eqb-self a)) (child-next a l v) (child-prev a l v))
@@ -79,19 +79,19 @@ module _ {n h : ℕ} {v : Values} {t : Forests} (B : Beside n h v t) {ρ : List 
   abbrev Elsewhere : ℕ → Type 0
   Elsewhere y = (y < tableSize t) × (y ≢ l) × (occurs y (childrenOf t a) ≡ 0)
 
-  other-chain : {f e : ℕ} (m : List ℕ) → Chain f e (v Next) (v Prev) m → ((y : ℕ) → 1 ≤ occurs y m → Elsewhere y)
-      → Chain f e (v′ Next) (v′ Prev) m
-  other-chain m c k =
-      chain-frame (v′ Next) (v′ Prev) c
+  other-list : {f e : ℕ} (m : List ℕ) → LinkedList f e (v Next) (v Prev) m → ((y : ℕ) → 1 ≤ occurs y m → Elsewhere y)
+      → LinkedList f e (v′ Next) (v′ Prev) m
+  other-list m c k =
+      linked-frame (v′ Next) (v′ Prev) c
       (λ y i. let o = k y i in keeps y (some-item old D y (o .0)) (o .1) (o .2))
 
   -- the other rows, all families, and the links of free items
   pub linked-rows : (g : ℕ) → g < 8 → g ≢ h
-      → Chain (v′ FirstTree g) (v′ LastTree g) (v′ Next) (v′ Prev) (rowOf (link a l t) g)
+      → LinkedList (v′ FirstTree g) (v′ LastTree g) (v′ Next) (v′ Prev) (rowOf (link a l t) g)
   unfolding link
   linked-rows g k d =
       rw (child-other a l v FirstTree g refl, child-other a l v LastTree g refl)
-      (other-chain (rowOf t g) (B .otherRows g k d) there)
+      (other-list (rowOf t g) (B .otherRows g k d) there)
     where
       there : (y : ℕ) → 1 ≤ occurs y (rowOf t g) → Elsewhere y
       there y i =
@@ -102,19 +102,19 @@ module _ {n h : ℕ} {v : Values} {t : Forests} (B : Beside n h v t) {ρ : List 
           )
 
   pub linked-families : (p : ℕ) → p < n → heapOf t p ≢ 0
-      → Chain (v′ FirstChild p) (v′ LastChild p) (v′ Next) (v′ Prev) (childrenOf (link a l t) p)
+      → LinkedList (v′ FirstChild p) (v′ LastChild p) (v′ Next) (v′ Prev) (childrenOf (link a l t) p)
   unfolding link
   linked-families =
       byItem a
       (λ k f. rw (getD-set-same (t .children) a (childrenOf t a ++ (l ∷ [])) [] (omega (arith, D .childrenN, a-in)))
-      own-chain)
+      own-list)
       (λ p d k f. rw (
         getD-set-other (t .children) a p (childrenOf t a ++ (l ∷ [])) [] d,
         child-first a l v p,
         child-last a l v p,
         ne-eqb a p (λ e. d (sym e)),
       )
-      (other-chain (childrenOf t p) (B .families p k f) (there p (omega (arith, B .size)) d)))
+      (other-list (childrenOf t p) (B .families p k f) (there p (omega (arith, B .size)) d)))
     where
       there : (p : ℕ) → p < tableSize t → p ≢ a → (y : ℕ) → 1 ≤ occurs y (childrenOf t p) → Elsewhere y
       there p k d y i =

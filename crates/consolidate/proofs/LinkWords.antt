@@ -78,7 +78,7 @@ module _ {n h : ℕ} {v : Values} {t : Forests} (B : Beside n h v t) {ρ : List 
       byItem l
       (λ k. child-other a l v State l refl ∙ beside-state B l k
       ∙ ap (stateOf (heapOf t l))
-      (D .bare l (l-root B T .1) ∙ sym (getD-set-same (t .mark) l 0 0 (omega (arith, D .markN, l-in B T)))))
+      (D .rootsUnmarked l (l-root B T .1) ∙ sym (getD-set-same (t .mark) l 0 0 (omega (arith, D .markN, l-in B T)))))
       (λ i m k. child-other a l v State i refl ∙ beside-state B i k
       ∙ ap (stateOf (heapOf t i)) (sym (getD-set-other (t .mark) l i 0 0 m)))
 

@@ -34,12 +34,12 @@ use Rattle.store.proofs.ConcatWords.{
   concat-none,
   concat-prev,
 }
-use Rattle.store.proofs.Standing.{free-child, not-child, not-row, other-row, some-item}
-use Rattle.consolidate.specs.Chain.{Chain}
+use Rattle.store.proofs.ListMembers.{free-child, not-child, not-row, other-row, some-item}
+use Rattle.consolidate.specs.LinkedList.{LinkedList}
 use Rattle.consolidate.specs.Released.{released}
 use Rattle.consolidate.specs.Removed.{RootOf}
 use Rattle.consolidate.specs.Stored.{Rowed}
-use Rattle.consolidate.proofs.Chains.{chain-frame, head-apart, last-apart}
+use Rattle.consolidate.proofs.LinkedLists.{linked-frame, head-apart, last-apart}
 use Rattle.consolidate.proofs.MoveWords.{out-first, out-last, released-other}
 use Rattle.consolidate.proofs.RemoveRootRow.{family, out-keeps, row₂, x-in, x-row}
 use Rattle.consolidate.proofs.RootRemoved.{plain, rootRemoved, rowJoined}
@@ -119,18 +119,18 @@ module _ {n h m : ℕ} {w : List ℕ} {t : Forests} (R : Rowed n h m w t) {x : �
                   ∙ rw (ne-eqb (v FirstChild x) y q) (before .1),
             )
 
-    other-chain : {f e : ℕ} (l : List ℕ) → Chain f e (v Next) (v Prev) l → ((y : ℕ) → 1 ≤ occurs y l → Elsewhere y)
-        → Chain f e (v₅ Next) (v₅ Prev) l
-    other-chain l g k = chain-frame (v₅ Next) (v₅ Prev) g (λ y i. keeps y (k y i))
+    other-list : {f e : ℕ} (l : List ℕ) → LinkedList f e (v Next) (v Prev) l → ((y : ℕ) → 1 ≤ occurs y l → Elsewhere y)
+        → LinkedList f e (v₅ Next) (v₅ Prev) l
+    other-list l g k = linked-frame (v₅ Next) (v₅ Prev) g (λ y i. keeps y (k y i))
 
     -- the other rows
     pub other-rows : (g : ℕ) → g < 8 → g ≢ h
-        → Chain (v₅ FirstTree g) (v₅ LastTree g) (v₅ Next) (v₅ Prev) (rowOf (removeRoot h x t) g)
+        → LinkedList (v₅ FirstTree g) (v₅ LastTree g) (v₅ Next) (v₅ Prev) (rowOf (removeRoot h x t) g)
     unfolding removeRoot setFree release rootRemoved freeItem
     other-rows g k d =
         let e = ends g d in
         rw (e .0, e .1, getD-set-other (t .rows) h g (without x (rowOf t h) ++ cs) [] d)
-        (other-chain (rowOf t g) (R .beside .otherRows g k d) there)
+        (other-list (rowOf t g) (R .beside .otherRows g k d) there)
       where
         there : (y : ℕ) → 1 ≤ occurs y (rowOf t g) → Elsewhere y
         there y i =
@@ -144,7 +144,7 @@ module _ {n h m : ℕ} {w : List ℕ} {t : Forests} (R : Rowed n h m w t) {x : �
 
     -- the children of any other item
     pub other-families : (p : ℕ) → p < n → heapOf (removeRoot h x t) p ≢ 0
-        → Chain (v₅ FirstChild p) (v₅ LastChild p) (v₅ Next) (v₅ Prev) (childrenOf (removeRoot h x t) p)
+        → LinkedList (v₅ FirstChild p) (v₅ LastChild p) (v₅ Next) (v₅ Prev) (childrenOf (removeRoot h x t) p)
     unfolding removeRoot setFree release rootRemoved freeItem
     other-families =
         byItem x (λ k f. absurd (f (heap-x t D h x (O .member) (O .root))))
@@ -155,7 +155,7 @@ module _ {n h m : ℕ} {w : List ℕ} {t : Forests} (R : Rowed n h m w t) {x : �
           plain h x cs v FirstChild p refl,
           plain h x cs v LastChild p refl,
         )
-        (other-chain (childrenOf t p) (R .beside .families p k f) (there p (omega (arith, R .beside .size)) d))))
+        (other-list (childrenOf t p) (R .beside .families p k f) (there p (omega (arith, R .beside .size)) d))))
       where
         there : (p : ℕ) → p < tableSize t → p ≢ x → (y : ℕ) → 1 ≤ occurs y (childrenOf t p) → Elsewhere y
         there p k d y i =

@@ -23,12 +23,12 @@ use Rattle.store.specs.Empty.{freeItem}
 use Rattle.store.specs.Says.{Values}
 use Rattle.store.specs.Siblings.{firstOf, lastOf, removed}
 use Rattle.store.proofs.ConcatWords.{concat-first, concat-last, concat-next, concat-none, concat-prev}
-use Rattle.store.proofs.Standing.{none-row, not-row, root-in, some-item}
-use Rattle.consolidate.specs.Chain.{Chain}
+use Rattle.store.proofs.ListMembers.{none-row, not-row, root-in, some-item}
+use Rattle.consolidate.specs.LinkedList.{LinkedList}
 use Rattle.consolidate.specs.Released.{released}
 use Rattle.consolidate.specs.Removed.{RootOf}
 use Rattle.consolidate.specs.Stored.{Rowed}
-use Rattle.consolidate.proofs.Chains.{chain-concat, chain-frame, chain-remove, head-none}
+use Rattle.consolidate.proofs.LinkedLists.{linked-concat, linked-frame, linked-remove, head-none}
 use Rattle.consolidate.proofs.MoveWords.{out-first, out-last, out-next, out-prev, released-other}
 use Rattle.consolidate.proofs.RootRemoved.{rootRemoved, rowJoined}
 
@@ -51,7 +51,7 @@ module _ {n h m : ℕ} {w : List ℕ} {t : Forests} (R : Rowed n h m w t) {x : �
   pub x-row : occurs x row ≡ 1
   x-row = root-row t D h x (O .member) (O .root)
 
-  pub family : Chain (v FirstChild x) (v LastChild x) (v Next) (v Prev) cs
+  pub family : LinkedList (v FirstChild x) (v LastChild x) (v Next) (v Prev) cs
   family = R .beside .families x (omega (arith, R .beside .size, x-in)) (λ e. omega (arith, O .member))
 
   -- the words after each store
@@ -65,9 +65,9 @@ module _ {n h m : ℕ} {w : List ℕ} {t : Forests} (R : Rowed n h m w t) {x : �
   v₃ = rowJoined h x cs v
 
   -- the row without x
-  out-chain : Chain (v₁ FirstTree h) (v₁ LastTree h) (v₁ Next) (v₁ Prev) (without x row)
-  out-chain =
-      chain-remove row (R .row) x (once-row t D h) (none-row t D h) (omega (arith, x-row)) _ _ _ _
+  out-list : LinkedList (v₁ FirstTree h) (v₁ LastTree h) (v₁ Next) (v₁ Prev) (without x row)
+  out-list =
+      linked-remove row (R .row) x (once-row t D h) (none-row t D h) (omega (arith, x-row)) _ _ _ _
       (out-first h x v h ∙ rw (eqb-self h)) (out-last h x v h ∙ rw (eqb-self h)) (out-next h x v) (out-prev h x v)
 
   -- whoever is not in the row keeps its links when x leaves it, and when the children are released
@@ -97,15 +97,15 @@ module _ {n h m : ℕ} {w : List ℕ} {t : Forests} (R : Rowed n h m w t) {x : �
       (some-item t D y (heap-in t y (r .0)), not-row t D h y (λ e. some-item t D x x-in (sym (r .1) ∙ e)))
 
   -- releasing the children changes no link
-  pub row₂ : Chain (v₂ FirstTree h) (v₂ LastTree h) (v₂ Next) (v₂ Prev) (without x row)
+  pub row₂ : LinkedList (v₂ FirstTree h) (v₂ LastTree h) (v₂ Next) (v₂ Prev) (without x row)
   row₂ =
       rw (released-other h cs v₁ FirstTree h refl, released-other h cs v₁ LastTree h refl)
-      (chain-frame (v₂ Next) (v₂ Prev) out-chain
+      (linked-frame (v₂ Next) (v₂ Prev) out-list
       (λ y i. (released-other h cs v₁ Next y refl, released-other h cs v₁ Prev y refl)))
 
-  family₂ : Chain (v FirstChild x) (v LastChild x) (v₂ Next) (v₂ Prev) cs
+  family₂ : LinkedList (v FirstChild x) (v LastChild x) (v₂ Next) (v₂ Prev) cs
   family₂ =
-      chain-frame (v₂ Next) (v₂ Prev) family
+      linked-frame (v₂ Next) (v₂ Prev) family
       (λ y i. let k = child-out y i in out-keeps y (k .0) (k .1))
 
   abbrev after : Forests
@@ -125,25 +125,25 @@ module _ {n h m : ℕ} {w : List ℕ} {t : Forests} (R : Rowed n h m w t) {x : �
   none-after = rw row-after at (none-row after D′ h)
 
   -- the children follow the row, if there are any
-  row₃ : Chain (v₃ FirstTree h) (v₃ LastTree h) (v₃ Next) (v₃ Prev) (without x row ++ cs)
+  row₃ : LinkedList (v₃ FirstTree h) (v₃ LastTree h) (v₃ Next) (v₃ Prev) (without x row ++ cs)
   unfolding firstOf lastOf
   row₃ = go (eqb (v FirstChild x) none) refl
     where
       go : (b : Bool) → eqb (v FirstChild x) none ≡ b
-          → Chain (v₃ FirstTree h) (v₃ LastTree h) (v₃ Next) (v₃ Prev) (without x row ++ cs)
+          → LinkedList (v₃ FirstTree h) (v₃ LastTree h) (v₃ Next) (v₃ Prev) (without x row ++ cs)
       go true e =
           let a : v FirstChild x ≡ none = eqb-true (v FirstChild x) none e in
           let j = concat-none (v FirstChild x) (v LastChild x) v₂ (Row h) a in
           let z : cs ≡ [] =
           head-none cs (omega (arith, none-after, occurs-append none (without x row) cs)) (sym (family .front) ∙ a) in
-          subst (Chain (v₃ FirstTree h) (v₃ LastTree h) (v₃ Next) (v₃ Prev))
+          subst (LinkedList (v₃ FirstTree h) (v₃ LastTree h) (v₃ Next) (v₃ Prev))
           (sym (ap (λ l. without x row ++ l) z ∙ append-nil (without x row)))
           (rw (j FirstTree h, j LastTree h)
-          (chain-frame (v₃ Next) (v₃ Prev) row₂ (λ y i. (j Next y, j Prev y))))
+          (linked-frame (v₃ Next) (v₃ Prev) row₂ (λ y i. (j Next y, j Prev y))))
       go false e =
           let a : v FirstChild x ≢ none = eqb-false (v FirstChild x) none e in
           rw (concat-last (v FirstChild x) (v LastChild x) v₂ a (Row h) (Row h), eqb-self h)
-          (chain-concat (without x row) cs row₂ family₂ once-after none-after a (v₃ FirstTree h) (v₃ Next) (v₃ Prev)
+          (linked-concat (without x row) cs row₂ family₂ once-after none-after a (v₃ FirstTree h) (v₃ Next) (v₃ Prev)
           (concat-first (v FirstChild x) (v LastChild x) v₂ a (Row h) (Row h) ∙ rw (eqb-self h))
           (concat-next (v FirstChild x) (v LastChild x) v₂ a (Row h))
           (concat-prev (v FirstChild x) (v LastChild x) v₂ a (Row h)))
@@ -153,11 +153,11 @@ module _ {n h m : ℕ} {w : List ℕ} {t : Forests} (R : Rowed n h m w t) {x : �
     v₅ = rootRemoved h x cs c v
 
     -- x is not in that row, so its own words do not matter
-    pub row₅ : Chain (v₅ FirstTree h) (v₅ LastTree h) (v₅ Next) (v₅ Prev) (rowOf after h)
+    pub row₅ : LinkedList (v₅ FirstTree h) (v₅ LastTree h) (v₅ Next) (v₅ Prev) (rowOf after h)
     unfolding rootRemoved freeItem
     row₅ =
         rw row-after
-        (chain-frame (v₅ Next) (v₅ Prev) row₃
+        (linked-frame (v₅ Next) (v₅ Prev) row₃
         (λ y i.
         let m : x ≢ y =
         λ e. omega (

@@ -23,7 +23,7 @@ use Rattle.consolidate.specs.Released.{Listed, ReleaseReady, Releases, r
 use Rattle.consolidate.specs.Removed.{RootOf}
 use Rattle.consolidate.specs.Stored.{Rowed}
 use Rattle.consolidate.proofs.Beside.{beside-count, beside-rank}
-use Rattle.consolidate.proofs.Chains.{head-apart, last-apart}
+use Rattle.consolidate.proofs.LinkedLists.{head-apart, last-apart}
 use Rattle.consolidate.proofs.RemoveRootRow.{
   child-out,
   family,

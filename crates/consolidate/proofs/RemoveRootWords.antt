@@ -51,7 +51,7 @@ use Rattle.store.specs.Empty.{freeItem}
 use Rattle.store.specs.Says.{Values}
 use Rattle.store.specs.Siblings.{removed}
 use Rattle.store.proofs.ConcatWords.{concat-other}
-use Rattle.store.proofs.Standing.{other-row}
+use Rattle.store.proofs.ListMembers.{other-row}
 use Rattle.consolidate.specs.Released.{released}
 use Rattle.consolidate.specs.Removed.{RootOf}
 use Rattle.consolidate.specs.Stored.{linked, Agree, Beside, Rowed}

@@ -31,11 +31,11 @@ use Rattle.store.specs.declared.Owner.the-variants.{Row}
 use Rattle.store.specs.Says.{Values}
 use Rattle.store.specs.Siblings.{appended}
 use Rattle.store.proofs.ConcatWords.{linkKinds}
-use Rattle.store.proofs.Standing.{none-row, not-row, other-row, root-in, some-item}
-use Rattle.consolidate.specs.Chain.{Chain}
+use Rattle.store.proofs.ListMembers.{none-row, not-row, other-row, root-in, some-item}
+use Rattle.consolidate.specs.LinkedList.{LinkedList}
 use Rattle.consolidate.specs.Stored.{linked, Agree, Beside}
 use Rattle.consolidate.proofs.Beside.{beside-parent}
-use Rattle.consolidate.proofs.Chains.{chain-append, chain-frame, last-apart}
+use Rattle.consolidate.proofs.LinkedLists.{linked-append, linked-frame, last-apart}
 use Rattle.consolidate.proofs.MoveWords.{row-first, row-last, row-next, row-other, row-parent, row-prev}
 
 module _ {n h : ℕ} {v : Values} {t : Forests} (B : Beside n h v t) where
@@ -83,7 +83,7 @@ module _ {n h : ℕ} {v : Values} {t : Forests} (B : Beside n h v t) where
 -- ---- a tree at the end of the row, of which m is written and k is to come
 
 module _ {n h : ℕ} {v : Values} {t : Forests} (D : Disjoint t) (B : Beside n h v t) {m : List ℕ}
-    (C : Chain (v FirstTree h) (v LastTree h) (v Next) (v Prev) m) (x : ℕ) (k : List ℕ)
+    (C : LinkedList (v FirstTree h) (v LastTree h) (v Next) (v Prev) m) (x : ℕ) (k : List ℕ)
     (e : rowOf t h ≡ m ++ (x ∷ k)) where
   abbrev v′ : Values
   v′ = appended (Row h) x v
@@ -106,10 +106,10 @@ module _ {n h : ℕ} {v : Values} {t : Forests} (D : Disjoint t) (B : Beside n h
   x-out = omega (arith, in-row x, delta-self x, once-row t D h x)
 
   -- the row with x at its end
-  pub longer : Chain (v′ FirstTree h) (v′ LastTree h) (v′ Next) (v′ Prev) (m ++ (x ∷ []))
+  pub longer : LinkedList (v′ FirstTree h) (v′ LastTree h) (v′ Next) (v′ Prev) (m ++ (x ∷ []))
   longer =
       rw (row-last h x v h, eqb-self h)
-      (chain-append m C x (λ y. omega (arith, in-row y, once-row t D h y)) none-out x-out (some-item t D x x-in)
+      (linked-append m C x (λ y. omega (arith, in-row y, once-row t D h y)) none-out x-out (some-item t D x x-in)
       (v′ FirstTree h) (v′ Next) (v′ Prev)
       (row-first h x v h ∙ rw (eqb-self h)) (row-next h x v) (row-prev h x v))
 
@@ -123,9 +123,9 @@ module _ {n h : ℕ} {v : Values} {t : Forests} (D : Disjoint t) (B : Beside n h
         row-prev h x v y ∙ rw (ne-eqb x y a),
       )
 
-  other-chain : {f b : ℕ} (l : List ℕ) → Chain f b (v Next) (v Prev) l
-      → ((y : ℕ) → 1 ≤ occurs y l → (y < tableSize t) × (occurs y (rowOf t h) ≡ 0)) → Chain f b (v′ Next) (v′ Prev) l
-  other-chain l c f = chain-frame (v′ Next) (v′ Prev) c (λ y i. keeps y (f y i .0) (f y i .1))
+  other-list : {f b : ℕ} (l : List ℕ) → LinkedList f b (v Next) (v Prev) l
+      → ((y : ℕ) → 1 ≤ occurs y l → (y < tableSize t) × (occurs y (rowOf t h) ≡ 0)) → LinkedList f b (v′ Next) (v′ Prev) l
+  other-list l c f = linked-frame (v′ Next) (v′ Prev) c (λ y i. keeps y (f y i .0) (f y i .1))
 
   row-member : (g y : ℕ) → g ≢ h → 1 ≤ occurs y (rowOf t g) → (y < tableSize t) × (occurs y (rowOf t h) ≡ 0)
   row-member g y d i =
@@ -165,8 +165,8 @@ module _ {n h : ℕ} {v : Values} {t : Forests} (D : Disjoint t) (B : Beside n h
         families = λ p j f. rw (
           row-other h x v FirstChild p refl,
           row-other h x v LastChild p refl,
-        ) (other-chain (childrenOf t p) (B .families p j f) (λ y i. child-member p y (omega (arith, B .size)) i));
+        ) (other-list (childrenOf t p) (B .families p j f) (λ y i. child-member p y (omega (arith, B .size)) i));
         otherRows = λ g j d. rw (row-first h x v g, row-last h x v g, ne-eqb h g (λ z. d (sym z)))
-            (other-chain (rowOf t g) (B .otherRows g j d) (λ y i. row-member g y d i));
+            (other-list (rowOf t g) (B .otherRows g j d) (λ y i. row-member g y d i));
         minima = λ g j d. row-other h x v Minimum g refl ∙ B .minima g j d;
       }

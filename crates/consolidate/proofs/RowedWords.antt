@@ -13,7 +13,7 @@ use Rattle.rules.specs.Forests.{Forests, none, rowOf, childrenOf, parentOf, hea
 use Rattle.rules.specs.Lists.{occurs}
 use Rattle.rules.specs.Order.{minimum}
 use Rattle.rules.specs.WellFormed.{Disjoint}
-use Rattle.rules.specs.Words.{room, nextIn, prevIn, siblings, unlessFree, word, encode}
+use Rattle.rules.specs.Words.{fieldSize, nextIn, prevIn, siblings, unlessFree, word, encode}
 use Rattle.rules.proofs.ByKind.{apart-some, by-kinds}
 use Rattle.rules.proofs.Members.{root-row, parent-child}
 use Rattle.rules.proofs.SiblingLists.{siblings-row, siblings-children}
@@ -22,14 +22,14 @@ use Rattle.store.specs.Says.{Values}
 use Rattle.store.proofs.Encoded.{but-minima, disjoint-shape, holds-encode}
 use Rattle.store.proofs.Holds.{holds-says, says-holds}
 use Rattle.store.proofs.Says.{says-as}
-use Rattle.consolidate.specs.Chain.{Chain}
+use Rattle.consolidate.specs.LinkedList.{LinkedList}
 use Rattle.consolidate.specs.Stored.{linked, Beside, Rowed}
 
 module _ (t : Forests) (D : Disjoint t) where
   -- the words of a row, and of the children of an item
-  row-chain : (g : ℕ) → Chain (word t FirstTree g) (word t LastTree g) (word t Next) (word t Prev) (rowOf t g)
+  row-list : (g : ℕ) → LinkedList (word t FirstTree g) (word t LastTree g) (word t Next) (word t Prev) (rowOf t g)
   unfolding word unlessFree
-  row-chain g =
+  row-list g =
       record {
         front = refl;
         back = refl;
@@ -37,10 +37,10 @@ module _ (t : Forests) (D : Disjoint t) where
         prevs = λ y i. let e = siblings-row t D g y i in rw (ne-eqb (heapOf t y) 0 (e .0), e .1);
       }
 
-  family-chain : (p : ℕ) → p < tableSize t → heapOf t p ≢ 0
-      → Chain (word t FirstChild p) (word t LastChild p) (word t Next) (word t Prev) (childrenOf t p)
+  family-list : (p : ℕ) → p < tableSize t → heapOf t p ≢ 0
+      → LinkedList (word t FirstChild p) (word t LastChild p) (word t Next) (word t Prev) (childrenOf t p)
   unfolding word unlessFree
-  family-chain p k f =
+  family-list p k f =
       record {
         front = rw (ne-eqb (heapOf t p) 0 f);
         back = rw (ne-eqb (heapOf t p) 0 f);
@@ -62,11 +62,11 @@ module _ (t : Forests) (D : Disjoint t) where
           size = e;
           words = λ f a. but-minima n counts minima t c f (apart-some linked (Minimum ∷ []) f refl a);
           frees = λ i k z. (rw z, rw z, rw z, rw z);
-          families = λ p k f. family-chain p (omega (arith, e)) f;
-          otherRows = λ g k d. row-chain g;
+          families = λ p k f. family-list p (omega (arith, e)) f;
+          otherRows = λ g k d. row-list g;
           minima = m;
         };
-        row = row-chain h;
+        row = row-list h;
         least = refl;
       }
 
@@ -82,10 +82,10 @@ module _ (t : Forests) (D : Disjoint t) where
     minima g = cond (eqb g h) m (minimum t g)
 
     -- each row, that of h and the others
-    row-of : (g : ℕ) → g < 8 → Chain (v FirstTree g) (v LastTree g) (v Next) (v Prev) (rowOf t g)
+    row-of : (g : ℕ) → g < 8 → LinkedList (v FirstTree g) (v LastTree g) (v Next) (v Prev) (rowOf t g)
     row-of g k = go (eqb g h) refl
       where
-        go : (b : Bool) → eqb g h ≡ b → Chain (v FirstTree g) (v LastTree g) (v Next) (v Prev) (rowOf t g)
+        go : (b : Bool) → eqb g h ≡ b → LinkedList (v FirstTree g) (v LastTree g) (v Next) (v Prev) (rowOf t g)
         go true e = rw (eqb-true g h e) (R .row)
         go false e = B .otherRows g k (eqb-false g h e)
 
@@ -125,10 +125,10 @@ module _ (t : Forests) (D : Disjoint t) where
         go true e = p (eqb-true (heapOf t i) 0 e)
         go false e = q (eqb-false (heapOf t i) 0 e)
 
-    same : (f : Field) (i : ℕ) → i < room n f → v f i ≡ wordBut (count t) minima t f i
+    same : (f : Field) (i : ℕ) → i < fieldSize n f → v f i ≡ wordBut (count t) minima t f i
     unfolding wordBut word
     same =
-        by-kinds linked (λ f. (i : ℕ) → i < room n f → v f i ≡ wordBut (count t) minima t f i)
+        by-kinds linked (λ f. (i : ℕ) → i < fieldSize n f → v f i ≡ wordBut (count t) minima t f i)
         (λ g k. row-of g k .front) (λ g k. row-of g k .back) least-of
         (λ i k. byHeap i (λ e. B .frees i k e .0) (λ e. B .families i k e .front))
         (λ i k. byHeap i (λ e. B .frees i k e .1) (λ e. B .families i k e .back))

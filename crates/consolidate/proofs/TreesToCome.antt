@@ -17,7 +17,7 @@ use Rattle.rules.proofs.LinkKeeps.{in-row, once}
 use Rattle.rules.proofs.Occurs.{occurs-append}
 use Rattle.rules.proofs.SiblingLists.{list-inside}
 use Rattle.rules.proofs.Siblings.{Once}
-use Rattle.store.proofs.Standing.{root-in}
+use Rattle.store.proofs.ListMembers.{root-in}
 use Rattle.consolidate.specs.Consolidating.{Consolidating}
 use Rattle.consolidate.proofs.Climbing.{held}
 

@@ -19,7 +19,7 @@ use Rattle.rules.proofs.Potential.{climb-count, length-occupied}
 use Rattle.rules.proofs.Siblings.{head-out}
 use Rattle.consolidate.specs.Consolidating.{ClimbReady, Consolidating, Settled, Settles, linkRow, settle}
 use Rattle.consolidate.specs.Stored.{Rowed}
-use Rattle.consolidate.proofs.Chains.{head-none}
+use Rattle.consolidate.proofs.LinkedLists.{head-none}
 use Rattle.consolidate.proofs.TreesToCome.{comes-inside, comes-once, follows, none-comes, rest-short}
 
 -- The trees of rest are to come, x first: what is left to do from here gives the goal.

@@ -22,7 +22,7 @@ use Rattle.store.specs.Siblings.{AppendReady, RankRises, appended, lastOf}
 use Rattle.store.proofs.Listed.{link-in, not-in}
 use Rattle.consolidate.specs.Writing.{Coming, Writing}
 use Rattle.consolidate.proofs.Beside.{key-beside}
-use Rattle.consolidate.proofs.Chains.{last-apart}
+use Rattle.consolidate.proofs.LinkedLists.{last-apart}
 use Rattle.consolidate.proofs.RowWords.{longer, longer-beside}
 
 -- the least item of a list stands in it

@@ -1,4 +1,4 @@
-pub mod Chain
+pub mod LinkedList
 pub mod Stored
 pub mod Released
 pub mod Removed

@@ -8,9 +8,9 @@ use Rattle.rules.specs.declared.Field.the-variants.{FirstTree, LastTree, Minimu
 use Rattle.rules.specs.Forests.{Forests, rowOf, childrenOf, heapOf, tableSize}
 use Rattle.rules.specs.Kinds.{Apart}
 use Rattle.rules.specs.Order.{minimum}
-use Rattle.rules.specs.Words.{room, word}
+use Rattle.rules.specs.Words.{fieldSize, word}
 use Rattle.store.specs.Says.{Values, Says}
-use Rattle.consolidate.specs.Chain.{Chain}
+use Rattle.consolidate.specs.LinkedList.{LinkedList}
 
 -- the kinds of words that make lists, and the minima
 abbrev pub linked : List Field
@@ -18,7 +18,7 @@ linked = FirstTree ∷ LastTree ∷ Minimum ∷ FirstChild ∷ LastChild ∷ Nex
 
 -- the words of kind f are those of the forests
 abbrev pub Agree : ℕ → Values → Forests → Field → Type 0
-Agree n v t f = (i : ℕ) → i < room n f → v f i ≡ word t f i
+Agree n v t f = (i : ℕ) → i < fieldSize n f → v f i ≡ word t f i
 
 -- v has the words of the forests t, but for the row and the minimum of heap h: of these nothing is said.
 pub record Beside (n h : ℕ) (v : Values) (t : Forests) : Type 0 where
@@ -27,8 +27,8 @@ pub record Beside (n h : ℕ) (v : Values) (t : Forests) : Type 0 where
   pub frees : (i : ℕ) → i < n → heapOf t i ≡ 0
       → (v FirstChild i ≡ 0) × (v LastChild i ≡ 0) × (v Next i ≡ 0) × (v Prev i ≡ 0)
   pub families : (p : ℕ) → p < n → heapOf t p ≢ 0
-      → Chain (v FirstChild p) (v LastChild p) (v Next) (v Prev) (childrenOf t p)
-  pub otherRows : (g : ℕ) → g < 8 → g ≢ h → Chain (v FirstTree g) (v LastTree g) (v Next) (v Prev) (rowOf t g)
+      → LinkedList (v FirstChild p) (v LastChild p) (v Next) (v Prev) (childrenOf t p)
+  pub otherRows : (g : ℕ) → g < 8 → g ≢ h → LinkedList (v FirstTree g) (v LastTree g) (v Next) (v Prev) (rowOf t g)
   pub minima : (g : ℕ) → g < 8 → g ≢ h → v Minimum g ≡ minimum t g
 
 -- The words w are those of the forests t, but for the minimum of heap h, which is m.
@@ -36,5 +36,5 @@ pub record Rowed (n h m : ℕ) (w : List ℕ) (t : Forests) : Type 0 where
   pub values : Values
   pub says : Says n w values
   pub beside : Beside n h values t
-  pub row : Chain (values FirstTree h) (values LastTree h) (values Next) (values Prev) (rowOf t h)
+  pub row : LinkedList (values FirstTree h) (values LastTree h) (values Next) (values Prev) (rowOf t h)
   pub least : values Minimum h ≡ m

@@ -8,7 +8,7 @@ use Rattle.rules.specs.Forests.{Forests, rowOf}
 use Rattle.rules.specs.Order.{leastIn}
 use Rattle.rules.specs.WellFormed.{Disjoint}
 use Rattle.store.specs.Says.{Values, Says}
-use Rattle.consolidate.specs.Chain.{Chain}
+use Rattle.consolidate.specs.LinkedList.{LinkedList}
 use Rattle.consolidate.specs.Stored.{Beside}
 
 -- the trees of `written` are in the words of the row; m is the least of them
@@ -16,7 +16,7 @@ pub record Writing (n h : ℕ) (w written : List ℕ) (m : ℕ) (t : Forests) : 
   pub values : Values
   pub says : Says n w values
   pub beside : Beside n h values t
-  pub row : Chain (values FirstTree h) (values LastTree h) (values Next) (values Prev) written
+  pub row : LinkedList (values FirstTree h) (values LastTree h) (values Next) (values Prev) written
   pub least : m ≡ leastIn (t .key) written
 
 -- the row of h: what is written, then x if it is a tree, then the rest

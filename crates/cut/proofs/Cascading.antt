@@ -9,7 +9,7 @@ use lib.Dec.{eqb}
 use borrow.Author.Tests.{ne-eqb}
 use Rattle.rules.specs.declared.Field.the-variants.{State}
 use Rattle.rules.specs.Forests.{Forests, none, parentOf, markOf, heapOf, setMark}
-use Rattle.rules.specs.Cut.{cut, root, unmarked, marked, standing, Cuts, cascadingCut}
+use Rattle.rules.specs.Cut.{cut, root, unmarked, marked, nodeKind, Cuts, cascadingCut}
 use Rattle.rules.specs.SetWord.{setWord}
 use Rattle.rules.specs.Words.{stateOf}
 use Rattle.store.specs.Says.{Changes}
@@ -23,12 +23,12 @@ pub record Going (n : ℕ) (w : List ℕ) (c m : ℕ → ℕ) (k : Cuts) (h p cu
   pub here : Forests
   pub holds : Holds n w c m here none
   pub member : Member here h p
-  pub goal-cuts : k .cuts ≡ cuts + (cascadingCut left (standing here p) h p here) .cuts
-  pub goal-forests : k .forests ≡ (cascadingCut left (standing here p) h p here) .forests
+  pub goal-cuts : k .cuts ≡ cuts + (cascadingCut left (nodeKind here p) h p here) .cuts
+  pub goal-forests : k .forests ≡ (cascadingCut left (nodeKind here p) h p here) .forests
 
 -- before the first cut
 pub going-start : {n : ℕ} {w : List ℕ} {c m : ℕ → ℕ} {t : Forests} {h x : ℕ} → Holds n w c m t none → Member t h x
-    → Going n w c m (cascadingCut (suc n) (standing t x) h x t) h x 0 (n + 1)
+    → Going n w c m (cascadingCut (suc n) (nodeKind t x) h x t) h x 0 (n + 1)
 going-start {n} {t = t} {h} {x} H M =
     let e : n + 1 ≡ suc n = omega arith in
     record {
@@ -42,13 +42,13 @@ going-start {n} {t = t} {h} {x} H M =
 -- ---- how a parent stands
 
 -- a root, and a child by its mark
-root-standing : (t : Forests) (p : ℕ) → parentOf t p ≡ none → standing t p ≡ root
-unfolding standing
-root-standing t p e = rw e
+root-kind : (t : Forests) (p : ℕ) → parentOf t p ≡ none → nodeKind t p ≡ root
+unfolding nodeKind
+root-kind t p e = rw e
 
-child-standing : (t : Forests) (p : ℕ) → parentOf t p ≢ none → standing t p ≡ cond (eqb (markOf t p) 0) unmarked marked
-unfolding standing
-child-standing t p e = rw (ne-eqb (parentOf t p) none e)
+child-kind : (t : Forests) (p : ℕ) → parentOf t p ≢ none → nodeKind t p ≡ cond (eqb (markOf t p) 0) unmarked marked
+unfolding nodeKind
+child-kind t p e = rw (ne-eqb (parentOf t p) none e)
 
 -- the state of an item of heap h is odd where it is unmarked
 state-mark : (h mark : ℕ) → mark ≤ 1 → stateOf (suc h) mark % 2 ≡ 1 → mark ≡ 0
@@ -73,7 +73,7 @@ module _ {n : ℕ} {w : List ℕ} {c m : ℕ → ℕ} {k : Cuts} {h p cuts : ℕ
   unfolding cascadingCut
   going-root zero G l e = absurd (omega arith)
   going-root (suc d) G l e =
-      let r = root-standing (G .here) p e in
+      let r = root-kind (G .here) p e in
       record {
         holds = subst (λ t. Holds n w c m t none) (sym (rw r at (G .goal-forests))) (G .holds);
         cuts = let z = rw r at (G .goal-cuts) in omega (arith, z);
@@ -92,7 +92,7 @@ module _ {n : ℕ} {w w′ : List ℕ} {c m : ℕ → ℕ} {k : Cuts} {h p cuts 
       s ∙ ap (λ u. stateOf u (markOf (G .here) p)) (G .member .heap) in
       let z : markOf (G .here) p ≡ 0 =
       state-mark h (markOf (G .here) p) (G .member .disjoint .bit p) (rw (← i) e) in
-      let u : standing (G .here) p ≡ unmarked = child-standing (G .here) p ne ∙ rw z in
+      let u : nodeKind (G .here) p ≡ unmarked = child-kind (G .here) p ne ∙ rw z in
       let H : Holds n w′ c m (setMark p 1 (G .here)) none =
       mark-holds (G .holds) p (v + 1) 1 (member-item (G .holds) (G .member))
       (rw (G .member .heap) (omega (arith, i, z))) a in
@@ -112,8 +112,8 @@ module _ {n : ℕ} {w w′ : List ℕ} {c m : ℕ → ℕ} {k : Cuts} {h p cuts 
       s ∙ ap (λ u. stateOf u (markOf (G .here) p)) (G .member .heap) in
       let z : markOf (G .here) p ≢ 0 =
       state-marked h (markOf (G .here) p) (G .member .disjoint .bit p) (rw (← i) e) in
-      let u : standing (G .here) p ≡ marked =
-      child-standing (G .here) p ne ∙ rw (ne-eqb (markOf (G .here) p) 0 z) in
+      let u : nodeKind (G .here) p ≡ marked =
+      child-kind (G .here) p ne ∙ rw (ne-eqb (markOf (G .here) p) 0 z) in
       let f : suc d - 1 ≡ d = omega arith in
       rw (f, y) (record {
         here = cut h p (G .here);

@@ -16,12 +16,12 @@ use Rattle.rules.proofs.Members.{parent-child}
 use Rattle.store.specs.declared.Owner.the-variants.{Row, Children}
 use Rattle.store.specs.Says.{Changes}
 use Rattle.store.specs.Siblings.{appended, removed, AppendReady, RemoveReady}
-use Rattle.store.specs.Families.{listOf, ownerOf, appendTo, removeFrom, wordBut, loose, Family, MayJoin, Holds}
+use Rattle.store.specs.Families.{listOf, ownerOf, appendTo, removeFrom, wordBut, withLinks, Family, MayJoin, Holds}
 use Rattle.store.proofs.Ready.{append-ready, remove-ready}
 use Rattle.store.proofs.Holds.{append-holds, remove-holds}
 use Rattle.store.proofs.Encoded.{row-family, children-family}
 use Rattle.store.proofs.Scalars.{mark-holds}
-use Rattle.store.proofs.Standing.{not-row, root-in}
+use Rattle.store.proofs.ListMembers.{not-row, root-in}
 use Rattle.cut.specs.Ready.{Member, Child}
 
 -- a heap's number, and an item, are in the table
@@ -36,13 +36,13 @@ member-item {t = t} {x = x} H M =
 -- the parent word of an item
 pub parent-word : {n : ℕ} {w : List ℕ} {c m : ℕ → ℕ} {t : Forests} {x : ℕ} → Holds n w c m t none → x < n
     → look n w Parent x ≡ parentOf t x
-unfolding loose wordBut word
+unfolding withLinks wordBut word
 parent-word {x = x} H k = H .says .says Parent x k
 
 -- and its state word
 pub state-word : {n : ℕ} {w : List ℕ} {c m : ℕ → ℕ} {t : Forests} {x : ℕ} → Holds n w c m t none → x < n
     → look n w State x ≡ stateOf (heapOf t x) (markOf t x)
-unfolding loose wordBut word
+unfolding withLinks wordBut word
 state-word {x = x} H k = H .says .says State x k
 
 pub state-small : {t : Forests} {h x : ℕ} → Member t h x → stateOf (heapOf t x) (markOf t x) ≤ 16

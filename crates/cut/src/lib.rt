@@ -1,7 +1,7 @@
 // A cut, and the cuts that follow it, on a store for n items.
 ghost use Prim.Native.Nat.{ℕ, suc, _<_};
 ghost use Rattle.rules.specs.Forests.{Forests, none};
-ghost use Rattle.rules.specs.Cut.{cut, standing, cascadingCut, cutOut};
+ghost use Rattle.rules.specs.Cut.{cut, nodeKind, cascadingCut, cutOut};
 ghost use Rattle.store.specs.Families.{Holds};
 ghost use Rattle.cut.specs.Ready.{Member, Child, CutReady, CascadeReady, Cascaded};
 use rules::Field;
@@ -24,7 +24,7 @@ fn cut(s: &mut [u32], n: usize, h: u32, x: u32)
 fn cascading_cut(s: &mut [u32], n: usize, h: u32, x: u32) -> u32
     requires { ⌜ CascadeReady n (now s) h x ⌝ }
     ensures { λ r. ⌜ ((c m : ℕ → ℕ) (t : Forests) → Holds n (now (s .entry)) c m t none → Member t h x
-        → Cascaded n (now (s .exit)) c m (cascadingCut (suc n) (standing t x) h x t) r) ⌝ }
+        → Cascaded n (now (s .exit)) c m (cascadingCut (suc n) (nodeKind t x) h x t) r) ⌝ }
 {
     let mut p = x;
     let mut cuts: u32 = 0;

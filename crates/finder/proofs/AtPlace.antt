@@ -4,26 +4,26 @@ use mathlib.Core.Path.{_≡_}
 use mathlib.Core.List.{List}
 use native.Mathlib.Omega.{arith}
 use Rattle.paths.specs.Map.{Map, spans}
-use Rattle.paths.specs.Search.{Search, tried, extracted, turns, never, bestAt}
+use Rattle.paths.specs.Search.{Search, tried, extracted, steps, never, bestAt}
 use Rattle.paths.proofs.Waiting.{next-takes, waits-below}
 use Rattle.paths.proofs.Offers.{TryingOf}
 use Rattle.paths.proofs.Tried.{tried-trying}
-use Rattle.paths.proofs.Turns.{
+use Rattle.paths.proofs.Steps.{
   Between,
   rest,
   extracted-trying,
   extracted-rest,
-  turns-between,
-  turns-keep,
+  steps-between,
+  steps-keep,
   trying-keeps,
 }
 use Rattle.paths.proofs.Served.{ServedOf, served}
 use Rattle.relax.specs.declared.Progress.{Progress}
-use Rattle.finder.specs.Standing.{Taken}
+use Rattle.finder.specs.SearchState.{Taken}
 
--- after the spans below e of place u, which was taken after k turns
+-- after the spans below e of place u, which was taken after k steps
 abbrev pub at : Map → ℕ → ℕ → ℕ → Search
-at m k u e = tried m u (bestAt (turns never m k) u) e (extracted u (turns never m k))
+at m k u e = tried m u (bestAt (steps never m k) u) e (extracted u (steps never m k))
 
 module _
     {m : Map} {index to loss : List ℕ} {u d : ℕ} {best₀ last₀ store₀ : List ℕ} {taken : Progress}
@@ -32,16 +32,16 @@ module _
   k = taken .visited
 
   abbrev before : Search
-  before = turns never m k
+  before = steps never m k
 
   pub betweenTurns : Between never m k before
-  betweenTurns = turns-between never m (K .accepted) k
+  betweenTurns = steps-between never m (K .accepted) k
 
   -- the places that are not settled
   abbrev pub left : ℕ
   left = rest never m (K .accepted) k before betweenTurns u (K .next-is)
 
-  -- each turn has settled a place
+  -- each step has settled a place
   pub left-is : left + 1 + k ≡ m .places
   left-is =
       omega (
@@ -59,7 +59,7 @@ module _
   pub servedAt : (e : ℕ) → e ≤ spans m → ServedOf m (at m k u e)
   servedAt e h =
       trying-keeps never m (K .accepted) (ServedOf m) (served never m (K .accepted)) k u (K .next-is)
-      (turns-keep never m (K .accepted) (ServedOf m) (served never m (K .accepted)) k) e h
+      (steps-keep never m (K .accepted) (ServedOf m) (served never m (K .accepted)) k) e h
 
   pub place-in : u < m .places
   place-in =

@@ -16,12 +16,12 @@ use Rattle.rules.proofs.Sums.{sumBy-set}
 use Rattle.heap.specs.declared.Reply.{Reply}
 use Rattle.heap.specs.Performed.{Ready, Performed}
 use Rattle.paths.specs.Map.{Map, mapOf, Accepted}
-use Rattle.paths.specs.Search.{begin, turns, never}
+use Rattle.paths.specs.Search.{begin, steps, never}
 use Rattle.paths.specs.Feed.{linksOf, cutsOf}
 use Rattle.paths.proofs.Begin.{sum-zeros}
 use Rattle.relax.specs.declared.Progress.{Progress}
 use Rattle.relax.specs.Tracks.{Logged, Tracks}
-use Rattle.finder.specs.Standing.{Stands, BeginReady, Begun}
+use Rattle.finder.specs.SearchState.{Stands, BeginReady, Begun}
 use Rattle.relax.proofs.Logged.{call-logged}
 
 abbrev noCall : Tally
@@ -33,8 +33,7 @@ module _ (places start : ℕ) (best last store : List ℕ) (R : BeginReady place
   begin-ready store₁ e =
       record {
         sound = rw e (sound-encode (empty places) (emptyWellFormed places (R .sized .small)));
-        links = omega arith;
-        cuts = omega arith;
+        room = record { links = omega arith; cuts = omega arith };
       }
 
   none-logged : (store₁ : List ℕ) → store₁ ≡ encode (empty places) → Logged places [] store₁ noCall
@@ -71,10 +70,10 @@ module _ (places start : ℕ) (best last store : List ℕ) (R : BeginReady place
             };
       }
 
--- no turn is made
+-- no step is made
 no-turn : (m : Map) (k : ℕ) → k ≡ 0 → (best last store : List ℕ) (r : Progress)
-    → Tracks (m .places) 0 (begin m) best last store r → Tracks (m .places) k (turns never m k) best last store r
-unfolding turns
+    → Tracks (m .places) 0 (begin m) best last store r → Tracks (m .places) k (steps never m k) best last store r
+unfolding steps
 no-turn m k z best last store r H = rw z H
 
 pub begun-stands : {places start : ℕ} {from to loss : List ℕ} → Accepted (mapOf places start from to loss)

@@ -12,7 +12,7 @@ use Rattle.paths.specs.Search.{never, search, find}
 use Rattle.paths.specs.Codes.{feedCode}
 use Rattle.paths.specs.Feed.{feedAs, feedResult}
 use Rattle.paths.specs.Theorems.{between, Fits}
-use Rattle.finder.specs.Standing.{BeginReady, Found}
+use Rattle.finder.specs.SearchState.{BeginReady, Found}
 use Rattle.finder.specs.Promise.{Feeds}
 use Rattle.paths.proofs.Served.{endsEmpty}
 use Rattle.paths.proofs.Examined.{examinedAtMost}

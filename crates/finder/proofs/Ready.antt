@@ -10,7 +10,7 @@ use Rattle.heap.specs.Performed.{Ready}
 use Rattle.paths.specs.Map.{Map, Accepted}
 use Rattle.paths.specs.Search.{Search, never}
 use Rattle.paths.specs.Theorems.{Moment}
-use Rattle.paths.proofs.Turns.{moments-keep}
+use Rattle.paths.proofs.Steps.{moments-keep}
 use Rattle.paths.proofs.Served.{ServedOf, served}
 use Rattle.paths.proofs.Counts.{counts-low}
 use Rattle.relax.specs.Tracks.{Logged}
@@ -22,6 +22,5 @@ logged-ready m A s M store t L =
     let low = counts-low never m A s M in
     record {
       sound = rw (L .words) (sound-encode (after (empty (m .places)) (s .calls)) (S .formed));
-      links = omega (arith, low, L .links);
-      cuts = omega (arith, low, L .cuts);
+      room = record { links = omega (arith, low, L .links); cuts = omega (arith, low, L .cuts) };
     }

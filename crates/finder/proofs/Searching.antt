@@ -12,14 +12,14 @@ use Rattle.rules.proofs.Sums.{sumBy-set}
 use Rattle.heap.specs.declared.Reply.{Reply}
 use Rattle.heap.specs.Performed.{Ready, Performed}
 use Rattle.paths.specs.Map.{Map, mapOf}
-use Rattle.paths.specs.Search.{Search, turns, never, bestAt}
+use Rattle.paths.specs.Search.{Search, steps, never, bestAt}
 use Rattle.paths.specs.Theorems.{between}
 use Rattle.paths.proofs.Waiting.{next-takes, waits-below, some-next, none-next}
-use Rattle.paths.proofs.Turns.{extracted-rest, turns-between, turns-keep, search-is}
+use Rattle.paths.proofs.Steps.{extracted-rest, steps-between, steps-keep, search-is}
 use Rattle.paths.proofs.Served.{ServedOf, served, takesMinimum}
-use Rattle.spans.specs.Range.{Index}
+use Rattle.spans.specs.Range.{IsIndex}
 use Rattle.relax.specs.declared.Progress.{Progress}
-use Rattle.finder.specs.Standing.{Taken, Stands, Goes, Found}
+use Rattle.finder.specs.SearchState.{Taken, Stands, Goes, Found}
 use Rattle.relax.proofs.Logged.{call-logged, logged-forests}
 use Rattle.finder.proofs.Ready.{logged-ready}
 
@@ -27,7 +27,7 @@ use Rattle.finder.proofs.Ready.{logged-ready}
 
 -- the map that has these lists
 pub goes-on : {places start : ℕ} {from to loss index best last store : List ℕ} {go : Progress}
-    → Index places from index → Stands (mapOf places start from to loss) best last store go → go .visited < go .met
+    → IsIndex places from index → Stands (mapOf places start from to loss) best last store go → go .visited < go .met
     → Goes (mapOf places start from to loss) index to loss best last store go
 goes-on I S h =
     record {
@@ -40,7 +40,7 @@ module _
     {m : Map} {index to loss best last store : List ℕ} {go : Progress}
     (G : Goes m index to loss best last store go) where
   abbrev s : Search
-  s = turns never m (go .visited)
+  s = steps never m (go .visited)
 
   pub extract-ready : Ready store (go .tally)
   extract-ready =
@@ -53,7 +53,7 @@ module _
   taken {reply} {store′} P =
       let A = G .stands .accepted in
       let H = G .stands .tracks in
-      let S = turns-keep never m A (ServedOf m) (served never m A) (go .visited) in
+      let S = steps-keep never m A (ServedOf m) (served never m A) (go .visited) in
       let N = some-next (s .queue) (λ z. omega (arith, z, H .met-is, G .more)) in
       let u : ℕ = N .0 in
       let M = takesMinimum never m A (go .visited) u (N .1) in
@@ -63,7 +63,7 @@ module _
       let key : reply .key ≡ bestAt s u =
       P .key ∙ ap (λ f. (answer f (Yields (ExtractMin 0))) .reply .key) e ∙ M .1 in
       let w : getD (s .queue .waits) u 0 ≢ 0 = next-takes never (s .queue) u (N .1) .inside in
-      let B = turns-between never m A (go .visited) in
+      let B = steps-between never m A (go .visited) in
       record {
         lists = G .lists;
         accepted = A;
@@ -89,12 +89,12 @@ module _
             });
       }
 
-  -- each turn has settled a place, and one waits
+  -- each step has settled a place, and one waits
   pub goes-below : go .visited < m .places
   goes-below =
       let A = G .stands .accepted in
       let N = some-next (s .queue) (λ z. omega (arith, z, G .stands .tracks .met-is, G .more)) in
-      let B = turns-between never m A (go .visited) in
+      let B = steps-between never m A (go .visited) in
       omega (arith, B .goes (N .0) (N .1), extracted-rest never m A (go .visited) s B (N .0) (N .1))
 
 -- ---- the end
@@ -103,5 +103,5 @@ module _
 pub stands-found : (m : Map) (best last store : List ℕ) (go : Progress) → Stands m best last store go
     → go .met ≤ go .visited → Found m best last store go
 stands-found m best last store go S h =
-    let n = none-next ((turns never m (go .visited)) .queue) (omega (arith, S .tracks .met-is)) in
+    let n = none-next ((steps never m (go .visited)) .queue) (omega (arith, S .tracks .met-is)) in
     record { out = go .visited; tracks = rw (search-is never m (go .visited) (S .few) n) (S .tracks) }

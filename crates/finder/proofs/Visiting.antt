@@ -8,7 +8,7 @@ use lib.ListN.{length, getD}
 use borrow.Author.Tests.{eq-eqb}
 use Rattle.rules.specs.Forests.{none}
 use Rattle.paths.specs.Map.{Map, spans, fromOf, toOf}
-use Rattle.paths.specs.Search.{Search, offer, try, tried, examine, turns, never, bestAt}
+use Rattle.paths.specs.Search.{Search, offer, try, tried, examine, steps, never, bestAt}
 use Rattle.paths.specs.Theorems.{trying}
 use Rattle.paths.proofs.Invariant.{unsettled}
 use Rattle.paths.proofs.Offers.{TryingOf, sum-fits, out-of-queue}
@@ -16,7 +16,7 @@ use Rattle.paths.proofs.Examined.{examinedAtMost}
 use Rattle.relax.specs.declared.Progress.{Progress}
 use Rattle.relax.specs.Tracks.{Tracks, examineOne}
 use Rattle.relax.specs.Advances.{Offerable, OfferReady, Advances}
-use Rattle.finder.specs.Standing.{Taken}
+use Rattle.finder.specs.SearchState.{Taken}
 use Rattle.finder.proofs.Ready.{logged-ready}
 use Rattle.finder.proofs.AtPlace.{at, left, left-is, tryingAt, servedAt}
 use Rattle.finder.proofs.Walking.{Walking}
@@ -28,7 +28,7 @@ module _
   k = taken .visited
 
   abbrev before : Search
-  before = turns never m k
+  before = steps never m k
 
   -- span e is one of u's
   module _

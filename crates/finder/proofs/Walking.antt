@@ -9,15 +9,15 @@ use lib.ListN.{getD}
 use lib.Dec.{ltb}
 use borrow.Author.Tests.{ltb-true, ltb-false}
 use Rattle.paths.specs.Map.{Map, spans, fromOf}
-use Rattle.paths.specs.Search.{Search, extracted, visit, turn, turns, never, bestAt}
+use Rattle.paths.specs.Search.{Search, extracted, visit, step, steps, never, bestAt}
 use Rattle.spans.specs.Range.{FirstSpan}
 use Rattle.relax.specs.declared.Progress.{Progress}
 use Rattle.relax.specs.Tracks.{Tracks, visitOne}
-use Rattle.finder.specs.Standing.{Taken, Visits}
+use Rattle.finder.specs.SearchState.{Taken, Visits}
 use Rattle.finder.proofs.OwnSpans.{walk-begins, walk-ends}
 use Rattle.finder.proofs.AtPlace.{at, left-is, place-in}
 
--- Before span e of place u, which was taken after k turns: the spans from e to `end` are its spans still to be tried.
+-- Before span e of place u, which was taken after k steps: the spans from e to `end` are its spans still to be tried.
 pub record Walking (m : Map) (k u end e : ℕ) (best last store : List ℕ) (go : Progress) : Type 0 where
   pub visited-is : go .visited ≡ k
   pub ordered : e ≤ end
@@ -33,7 +33,7 @@ module _
   k = taken .visited
 
   abbrev before : Search
-  before = turns never m k
+  before = steps never m k
 
   -- the first span of u, and that of the next place
   firstOf : FirstSpan (m .from) u (getD index u 0)
@@ -86,9 +86,9 @@ module _
     visited-small = omega (arith, W .visited-is, left-is K, K .accepted .few)
 
     -- the spans after e leave other places
-    turns-next : end ≤ e → turns never m (suc k) ≡ at m k u e
-    unfolding turns turn visit
-    turns-next j =
+    steps-next : end ≤ e → steps never m (suc k) ≡ at m k u e
+    unfolding steps step visit
+    steps-next j =
         let q : end ≡ e = omega (arith, W .ordered) in
         rw (K .next-is)
         (walk-ends m (K .accepted) u (bestAt before u) (extracted u before) end (W .within) (W .beyond)
@@ -105,8 +105,8 @@ module _
           met-is = W .tracks .met-is;
         }
 
-    turned : end ≤ e → (i : ℕ) → i ≡ suc k → Tracks (m .places) i (turns never m i) best last store (visitOne go)
-    turned j i q = rw (q, turns-next j) visited-tracks
+    turned : end ≤ e → (i : ℕ) → i ≡ suc k → Tracks (m .places) i (steps never m i) best last store (visitOne go)
+    turned j i q = rw (q, steps-next j) visited-tracks
 
     pub walking-ends : end ≤ e → Visits m taken best last store (visitOne go)
     unfolding visitOne

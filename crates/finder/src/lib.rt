@@ -4,7 +4,7 @@ ghost use Prim.Native.Nat.{ℕ};
 ghost use lib.ListN.{length, replicate};
 ghost use Rattle.paths.specs.Map.{mapOf};
 ghost use Rattle.paths.specs.Feed.{feedResult};
-ghost use Rattle.finder.specs.Standing.{BeginReady, Begun, Stands, Found};
+ghost use Rattle.finder.specs.SearchState.{BeginReady, Begun, Stands, Found};
 ghost use Rattle.finder.specs.Promise.{Feeds};
 use heap::perform::perform;
 use relax::Progress;

@@ -1,7 +1,7 @@
 // A place is taken from the queue, and its spans are tried. The map is no argument: the contracts hold for any whose
 // lists these are.
 ghost use Rattle.paths.specs.Map.{Map};
-ghost use Rattle.finder.specs.Standing.{Taken, Goes, Visits};
+ghost use Rattle.finder.specs.SearchState.{Taken, Goes, Visits};
 use heap::perform::perform;
 use relax::Progress;
 use relax::offered;

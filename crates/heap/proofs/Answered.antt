@@ -31,7 +31,7 @@ pub may-move : {w : List ℕ} {n code : ℕ} {c : Call} {t : Tally} → Ready w 
 may-move Y S p e =
     record {
       allowed = record { store = S; done = sym p ∙ e };
-      room = record { links = Y .links; cuts = Y .cuts };
+      room = Y .room;
     }
 
 -- the contract, where the answer is the outcome o
@@ -97,10 +97,10 @@ minimum-key : {w : List ℕ} {n h i k : ℕ} → Allowed w n (FindMin h) → i �
 minimum-key {w} {n} {h} {i} A p q =
     q ∙ ap (look n w Key) p ∙ key-at (A .store) (minimum-item A)
 
-pub shown-performed : {w : List ℕ} {n h i k : ℕ} {t : Tally} {r : Reply} → MayMove w n (FindMin h) t
+pub found-min-performed : {w : List ℕ} {n h i k : ℕ} {t : Tally} {r : Reply} → MayMove w n (FindMin h) t
     → i ≡ minimum (forestsOf w) h → k ≡ look n w Key i → Answers 0 i k t r → Performed w (FindMin h) t r w
 unfolding perform
-shown-performed {w} {n} {h} M p q A =
+found-min-performed {w} {n} {h} M p q A =
     done-performed (perform (forestsOf w) (FindMin h)) M refl refl p (minimum-key (M .allowed) p q)
     (record { words = sound-words w (M .allowed .store .sound); links = omega arith; cuts = omega arith }) A
 

@@ -34,12 +34,12 @@ use Rattle.rules.specs.Forests.{
 use Rattle.rules.specs.Lists.{occurs}
 use Rattle.rules.specs.Order.{minimum}
 use Rattle.rules.specs.WellFormed.{Disjoint}
-use Rattle.rules.specs.Words.{headOr, lastOr, nextIn, prevIn, room, siblings, stateOf, unlessFree, word}
+use Rattle.rules.specs.Words.{headOr, lastOr, nextIn, prevIn, fieldSize, siblings, stateOf, unlessFree, word}
 use Rattle.rules.proofs.ByKind.{apart-from, by-kinds}
 use Rattle.rules.proofs.Members.{free-children, row-root}
 use Rattle.rules.proofs.Parts.{children, marks, parents, rows}
 use Rattle.rules.proofs.SiblingLists.{once-row}
-use Rattle.store.specs.Families.{Family, listOf, loose, ownerOf, wordBut}
+use Rattle.store.specs.Families.{Family, listOf, withLinks, ownerOf, wordBut}
 use Rattle.store.specs.Says.{Values}
 use Rattle.store.proofs.SetAt.{getD-set}
 use Rattle.store.proofs.KeptWords.{kept-but}
@@ -107,14 +107,14 @@ module _ {t : Forests} {h i : ℕ} (E : MayEnter t h i) (k : ℕ) where
 
   abbrev pub Enters : ℕ → Field → Type 0
   Enters n f =
-      (j : ℕ) → j < room n f → entered h i k old f j ≡ loose i 0 0 (wordBut (count t) (minimum t) between) f j
+      (j : ℕ) → j < fieldSize n f → entered h i k old f j ≡ withLinks i 0 0 (wordBut (count t) (minimum t) between) f j
 
   -- the kinds of which i has other words than a free item
   abbrev own : List Field
   own = Key ∷ FirstChild ∷ LastChild ∷ Next ∷ Prev ∷ State ∷ []
 
   pub entered-word : (n : ℕ) (f : Field) → Enters n f
-  unfolding entered loose wordBut word headOr lastOr
+  unfolding entered withLinks wordBut word headOr lastOr
   entered-word n =
       by-kinds own (Enters n)
       (λ j l. sym (getD-set (t .key) i j k 0 (omega (arith, D .keyN, E .inside))))

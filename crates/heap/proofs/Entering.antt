@@ -11,13 +11,13 @@ use Rattle.store.specs.ItemOrder.{itemKey}
 use Rattle.store.specs.Says.{Changes, Says, Values}
 use Rattle.store.specs.Siblings.{Link}
 use Rattle.store.proofs.ItemOrder.{key-says}
-use Rattle.heap.specs.Entered.{EnrollReady, enrolled}
+use Rattle.heap.specs.Entered.{CountItemReady, itemCounted}
 
-pub enroll-changes : {n : ℕ} {w w₁ w₂ : List ℕ} {h i m c l : ℕ} → EnrollReady n w h i → m ≡ look n w Minimum h
+pub count-item-changes : {n : ℕ} {w w₁ w₂ : List ℕ} {h i m c l : ℕ} → CountItemReady n w h i → m ≡ look n w Minimum h
     → c ≡ look n w Count h → l ≡ lesser (itemKey (look n w)) m i → Changes n w (setWord Count h (c + 1)) w₁
-    → Changes n w₁ (setWord Minimum h l) w₂ → Changes n w (enrolled h i) w₂
-unfolding enrolled
-enroll-changes {n} {w} {w₁} {w₂} {h} {i} {m} {c} {l} r p q e a b =
+    → Changes n w₁ (setWord Minimum h l) w₂ → Changes n w (itemCounted h i) w₂
+unfolding itemCounted
+count-item-changes {n} {w} {w₁} {w₂} {h} {i} {m} {c} {l} r p q e a b =
     record {
       sized = b .sized;
       says = λ v s.

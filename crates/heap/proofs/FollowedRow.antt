@@ -32,7 +32,7 @@ use Rattle.store.proofs.ConcatWords.{
   concat-prev,
   linkKinds,
 }
-use Rattle.store.proofs.Standing.{none-row}
+use Rattle.store.proofs.ListMembers.{none-row}
 
 -- a value at a place taken from there
 at-self : (f : ℕ → ℕ) (a g : ℕ) → cond (eqb a g) (f a) (f g) ≡ f g

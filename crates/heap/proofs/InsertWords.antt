@@ -22,8 +22,8 @@ use Rattle.store.proofs.Holds.{append-holds, holds-says, reshape}
 use Rattle.store.proofs.Ready.{append-ready}
 use Rattle.store.proofs.Says.{says-as}
 use Rattle.heap.specs.Allowed.{Allowed}
-use Rattle.heap.specs.Entered.{EnrollReady, EnterReady, enrolled, entered}
-use Rattle.heap.proofs.EnrolledKinds.{enrolled-word}
+use Rattle.heap.specs.Entered.{CountItemReady, EnterReady, itemCounted, entered}
+use Rattle.heap.proofs.CountedKinds.{itemCounted-word}
 use Rattle.heap.proofs.EnteredKinds.{MayEnter, entered-word, family, out}
 use Rattle.heap.proofs.RowLinks.{minimum-link}
 use Rattle.heap.proofs.SoundStore.{formed, items-size, says-encode, sound-holds, sound-says}
@@ -74,9 +74,9 @@ module _ {w : List ℕ} {n h i k : ℕ} (A : Allowed w n (Insert h i k)) where
           (append-holds (Row h) i held joins (enter-ready .item) (out enters k h)
           (getD-set-same (t .heap) i (suc h) 0 (ok .1)) c₂)
 
-      pub enroll-ready : EnrollReady n w₂ h i
+      pub count-item-ready : CountItemReady n w₂ h i
       unfolding wordBut
-      enroll-ready =
+      count-item-ready =
           record {
             enter = record { sized = inserted .sized; heap = ok .0; item = enter-ready .item };
             minimum = subst (Link n) (sym (inserted .says Minimum h (ok .0)))
@@ -84,8 +84,8 @@ module _ {w : List ℕ} {n h i k : ℕ} (A : Allowed w n (Insert h i k)) where
             count = omega (arith, inserted .says Count h (ok .0), count-table t h, D .small);
           }
 
-      pub insert-words : {w₃ : List ℕ} → Changes n w₂ (enrolled h i) w₃ → w₃ ≡ encode (insert h i k t)
+      pub insert-words : {w₃ : List ℕ} → Changes n w₂ (itemCounted h i) w₃ → w₃ ≡ encode (insert h i k t)
       unfolding insert
       insert-words {w₃} c₃ =
           says-encode (insert h i k t) (length-set (t .heap) i (suc h) ∙ e)
-          (says-as n w₃ _ _ (c₃ .says _ inserted) (enrolled-word enters k n))
+          (says-as n w₃ _ _ (c₃ .says _ inserted) (itemCounted-word enters k n))

@@ -12,7 +12,7 @@ use Rattle.rules.specs.declared.Field.{Field}
 use Rattle.rules.specs.declared.Field.the-variants.{Count, FirstTree, LastTree, Minimum, State}
 use Rattle.rules.specs.Order.{lesser}
 use Rattle.rules.specs.SetWord.{fieldNumber, setWord}
-use Rattle.rules.specs.Words.{look, room}
+use Rattle.rules.specs.Words.{look, fieldSize}
 use Rattle.rules.proofs.LeastOfTwo.{lesser-keys}
 use Rattle.rules.proofs.Places.{number-injective}
 use Rattle.store.specs.declared.Owner.the-variants.{Row}
@@ -25,19 +25,19 @@ use Rattle.store.proofs.Says.{says-as}
 use Rattle.store.proofs.SetAt.{cond-same}
 use Rattle.heap.specs.HeapsJoined.{
   JoinHeapsReady,
-  RehomeReady,
+  MoveItemsReady,
   heapsJoined,
   movedState,
-  poured,
-  rehomed,
-  rehomedTo,
+  rowsJoined,
+  itemsMoved,
+  itemsMovedTo,
 }
 
-pub pour-changes : {n : ℕ} {w w₁ w₂ : List ℕ} {a b x y : ℕ} → RehomeReady n w a b → x ≡ look n w FirstTree b
+pub join-rows-changes : {n : ℕ} {w w₁ w₂ : List ℕ} {a b x y : ℕ} → MoveItemsReady n w a b → x ≡ look n w FirstTree b
     → y ≡ look n w LastTree b → Changes n w (concatenated (Row a) x y) w₁ → Changes n w₁ (emptyHeap b) w₂
-    → Changes n w (poured a b) w₂
-unfolding poured
-pour-changes {n} {w} {w₁} {w₂} {a} {b} {x} {y} r p q c d =
+    → Changes n w (rowsJoined a b) w₂
+unfolding rowsJoined
+join-rows-changes {n} {w} {w₁} {w₂} {a} {b} {x} {y} r p q c d =
     record {
       sized = d .sized;
       says = λ v s.
@@ -49,20 +49,20 @@ pour-changes {n} {w} {w₁} {w₂} {a} {b} {x} {y} r p q c d =
 
 pub join-heaps-changes : {n : ℕ} {w w₁ w₂ w₃ : List ℕ} {a b c d p q l : ℕ} → JoinHeapsReady n w a b
     → c ≡ look n w Count a → d ≡ look n w Count b → p ≡ look n w Minimum a → q ≡ look n w Minimum b
-    → l ≡ lesser (itemKey (look n w)) p q → Changes n w (poured a b) w₁ → Changes n w₁ (setWord Minimum a l) w₂
+    → l ≡ lesser (itemKey (look n w)) p q → Changes n w (rowsJoined a b) w₁ → Changes n w₁ (setWord Minimum a l) w₂
     → Changes n w₂ (setWord Count a (c + d)) w₃ → Changes n w (heapsJoined a b) w₃
 unfolding heapsJoined
 join-heaps-changes {n} {w} {w₁} {w₂} {w₃} {a} {b} {c} {d} {p} {q} {l} r ec ed ep eq el x y z =
     record {
       sized = z .sized;
       says = λ v s.
-          subst (λ k. Says n w₃ (setWord Count a k (setWord Minimum a (least v) (poured a b v)))) (both v s)
-          (subst (λ m. Says n w₃ (setWord Count a (c + d) (setWord Minimum a m (poured a b v)))) (is-least v s)
+          subst (λ k. Says n w₃ (setWord Count a k (setWord Minimum a (least v) (rowsJoined a b v)))) (both v s)
+          (subst (λ m. Says n w₃ (setWord Count a (c + d) (setWord Minimum a m (rowsJoined a b v)))) (is-least v s)
           (z .says _ (y .says _ (x .says v s))));
     }
   where
-    H : RehomeReady n w a b
-    H = r .pour .heaps
+    H : MoveItemsReady n w a b
+    H = r .rows .heaps
 
     both : (v : Values) → Says n w v → c + d ≡ v Count a + v Count b
     both v s = omega (arith, s .says Count a (H .into), s .says Count b (H .from))
@@ -81,20 +81,20 @@ join-heaps-changes {n} {w} {w₁} {w₂} {w₃} {a} {b} {c} {d} {p} {q} {l} r ec
 -- ---- the pass over the state words
 
 -- no item yet, one more, and all
-pub rehome-none : (n : ℕ) (w : List ℕ) (a b : ℕ) → Sized n w → Changes n w (rehomedTo 0 a b) w
-unfolding rehomedTo
-rehome-none n w a b s =
+pub move-items-none : (n : ℕ) (w : List ℕ) (a b : ℕ) → Sized n w → Changes n w (itemsMovedTo 0 a b) w
+unfolding itemsMovedTo
+move-items-none n w a b s =
     record {
       sized = s;
       says = λ v t. says-as n w v _ t (λ f i _.
           rw (le-ltb i 0 zero-le) (sym (cond-same (eqb (fieldNumber State) (fieldNumber f)) (v f i))));
     }
 
-pub rehome-more : {n : ℕ} {w₀ w w′ : List ℕ} (i a b : ℕ) {x y : ℕ} → i < n → Changes n w₀ (rehomedTo i a b) w
+pub move-items-more : {n : ℕ} {w₀ w w′ : List ℕ} (i a b : ℕ) {x y : ℕ} → i < n → Changes n w₀ (itemsMovedTo i a b) w
     → x ≡ look n w State i → y ≡ movedState a b x → Changes n w (setWord State i y) w′
-    → Changes n w₀ (rehomedTo (i + 1) a b) w′
-unfolding rehomedTo
-rehome-more {n} {w₀} {w} {w′} i a b {x} {y} k c p q d =
+    → Changes n w₀ (itemsMovedTo (i + 1) a b) w′
+unfolding itemsMovedTo
+move-items-more {n} {w₀} {w} {w′} i a b {x} {y} k c p q d =
     record { sized = d .sized; says = λ v s. says-as n w′ _ _ (d .says _ (c .says v s)) (λ f j _. one v s f j) }
   where
     mine : (v : Values) → Says n w₀ v → y ≡ movedState a b (v State i)
@@ -117,7 +117,7 @@ rehome-more {n} {w₀} {w} {w′} i a b {x} {y} k c p q d =
             rw (le-ltb j (i + 1) (omega (arith, ltb-false j i f)))
 
     one : (v : Values) → Says n w₀ v → (f : Field) (j : ℕ)
-        → setWord State i y (rehomedTo i a b v) f j ≡ rehomedTo (i + 1) a b v f j
+        → setWord State i y (itemsMovedTo i a b v) f j ≡ itemsMovedTo (i + 1) a b v f j
     one v s f j = go (eqb (fieldNumber State) (fieldNumber f)) refl
       where
         go : (t : Bool) → eqb (fieldNumber State) (fieldNumber f) ≡ t
@@ -130,13 +130,13 @@ rehome-more {n} {w₀} {w} {w′} i a b {x} {y} k c p q d =
             (number-injective State f (eqb-true (fieldNumber State) (fieldNumber f) e)) (at-state v s j)
         go false e = refl
 
-pub rehome-all : {n : ℕ} {w w′ : List ℕ} (i a b : ℕ) → n ≤ i → Changes n w (rehomedTo i a b) w′
-    → Changes n w (rehomed a b) w′
-unfolding rehomedTo rehomed
-rehome-all {n} {w} {w′} i a b k c =
+pub move-items-all : {n : ℕ} {w w′ : List ℕ} (i a b : ℕ) → n ≤ i → Changes n w (itemsMovedTo i a b) w′
+    → Changes n w (itemsMoved a b) w′
+unfolding itemsMovedTo itemsMoved
+move-items-all {n} {w} {w′} i a b k c =
     record { sized = c .sized; says = λ v s. says-as n w′ _ _ (c .says v s) (λ f j l. one v f j l) }
   where
-    one : (v : Values) (f : Field) (j : ℕ) → j < room n f → rehomedTo i a b v f j ≡ rehomed a b v f j
+    one : (v : Values) (f : Field) (j : ℕ) → j < fieldSize n f → itemsMovedTo i a b v f j ≡ itemsMoved a b v f j
     one v f j l = go (eqb (fieldNumber State) (fieldNumber f)) refl
       where
         go : (t : Bool) → eqb (fieldNumber State) (fieldNumber f) ≡ t
@@ -144,6 +144,6 @@ rehome-all {n} {w} {w′} i a b k c =
             ≡ cond t (movedState a b (v f j)) (v f j)
         go true e =
             let g : State ≡ f = number-injective State f (eqb-true (fieldNumber State) (fieldNumber f) e) in
-            let m : j < n = subst (λ q. j < room n q) (sym g) l in
+            let m : j < n = subst (λ q. j < fieldSize n q) (sym g) l in
             rw (lt-ltb j i (omega arith))
         go false e = refl

@@ -4,7 +4,7 @@ pub mod ItemHeap
 pub mod RefusalWords
 pub mod Entering
 pub mod EnteredKinds
-pub mod EnrolledKinds
+pub mod CountedKinds
 pub mod InsertWords
 pub mod JoiningHeaps
 pub mod MovedHeaps

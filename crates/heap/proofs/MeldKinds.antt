@@ -25,7 +25,7 @@ use Rattle.rules.specs.Kinds.{Apart}
 use Rattle.rules.specs.Lists.{occurs}
 use Rattle.rules.specs.Order.{leastIn, lesser, minimum}
 use Rattle.rules.specs.WellFormed.{Disjoint}
-use Rattle.rules.specs.Words.{headOr, lastOr, nextIn, prevIn, room, siblings, stateOf, unlessFree, word}
+use Rattle.rules.specs.Words.{headOr, lastOr, nextIn, prevIn, fieldSize, siblings, stateOf, unlessFree, word}
 use Rattle.rules.proofs.ByKind.{apart-from, apart-some, by-kinds}
 use Rattle.rules.proofs.ConcatLinks.{next-behind, prev-before}
 use Rattle.rules.proofs.Counts.{count-meld}
@@ -37,8 +37,8 @@ use Rattle.store.specs.ItemOrder.{itemKey}
 use Rattle.store.proofs.ConcatWords.{linkKinds}
 use Rattle.store.proofs.Emptying.{empty-else, nones}
 use Rattle.store.proofs.ItemOrder.{key-is}
-use Rattle.store.proofs.Standing.{none-row, other-row}
-use Rattle.heap.specs.HeapsJoined.{heapsJoined, movedState, poured, rehomed}
+use Rattle.store.proofs.ListMembers.{none-row, other-row}
+use Rattle.heap.specs.HeapsJoined.{heapsJoined, movedState, rowsJoined, itemsMoved}
 use Rattle.heap.proofs.FollowedRow.{
   after,
   first-after,
@@ -159,14 +159,14 @@ module _ {t : Forests} {a b : ℕ} (H : TwoHeaps t a b) where
       ∙ ap (λ g. stateOf g (markOf t j)) (sym (heap-at H j))
 
   abbrev pub Melds : ℕ → Field → Type 0
-  Melds n f = (j : ℕ) → j < room n f → rehomed a b (heapsJoined a b (word t)) f j ≡ word new f j
+  Melds n f = (j : ℕ) → j < fieldSize n f → itemsMoved a b (heapsJoined a b (word t)) f j ≡ word new f j
 
   -- the kinds of which words change, or stay though heap fields do not
   abbrev moved : List Field
   moved = FirstTree ∷ LastTree ∷ Minimum ∷ Count ∷ FirstChild ∷ LastChild ∷ Next ∷ Prev ∷ State ∷ []
 
-  other-word : (f : Field) → Apart moved f → (j : ℕ) → rehomed a b (heapsJoined a b (word t)) f j ≡ word new f j
-  unfolding rehomed heapsJoined poured word meld
+  other-word : (f : Field) → Apart moved f → (j : ℕ) → itemsMoved a b (heapsJoined a b (word t)) f j ≡ word new f j
+  unfolding itemsMoved heapsJoined rowsJoined word meld
   other-word f p j =
       let q = apart-from moved f p in
       let plain = apart-some moved (linkKinds (Row a)) f refl p in
@@ -177,7 +177,7 @@ module _ {t : Forests} {a b : ℕ} (H : TwoHeaps t a b) where
       ∙ kept-words (children ∷ parents ∷ keys ∷ []) moved t new refl refl refl refl f p j)
 
   pub melded-word : (n : ℕ) → tableSize t ≡ n → (f : Field) → Melds n f
-  unfolding rehomed heapsJoined poured emptyHeap word meld headOr lastOr
+  unfolding itemsMoved heapsJoined rowsJoined emptyHeap word meld headOr lastOr
   melded-word n e =
       by-kinds moved (Melds n)
       (λ j l. ap (cond (eqb b j) none) (first-after t D a (rowOf t b) n₂ j) ∙ row-word (headOr none) j)

@@ -17,7 +17,7 @@ use Rattle.store.specs.Says.{Changes, Says}
 use Rattle.store.specs.Siblings.{Link}
 use Rattle.store.proofs.Says.{says-as}
 use Rattle.heap.specs.Allowed.{Allowed}
-use Rattle.heap.specs.HeapsJoined.{JoinHeapsReady, RehomeReady, heapsJoined, rehomed}
+use Rattle.heap.specs.HeapsJoined.{JoinHeapsReady, MoveItemsReady, heapsJoined, itemsMoved}
 use Rattle.heap.proofs.MeldKinds.{melded-word}
 use Rattle.heap.proofs.MeldLists.{TwoHeaps}
 use Rattle.heap.proofs.RowLinks.{first-link, last-link, minimum-link}
@@ -50,7 +50,7 @@ module _ {w : List ℕ} {n a b : ℕ} (A : Allowed w n (Meld a b)) where
   unfolding word
   join-heaps-ready =
       record {
-        pour = record {
+        rows = record {
           heaps = record { sized = S .sized; into = ok .0; from = ok .1 };
           last = link-n _ _ (S .says LastTree a (ok .0)) (last-link t D a);
           first = link-n _ _ (S .says FirstTree b (ok .1)) (first-link t D b);
@@ -64,10 +64,10 @@ module _ {w : List ℕ} {n a b : ℕ} (A : Allowed w n (Meld a b)) where
       }
 
   module _ {w₁ : List ℕ} (c₁ : Changes n w (heapsJoined a b) w₁) where
-    pub rehome-ready : RehomeReady n w₁ a b
-    rehome-ready = record { sized = c₁ .sized; into = ok .0; from = ok .1 }
+    pub move-items-ready : MoveItemsReady n w₁ a b
+    move-items-ready = record { sized = c₁ .sized; into = ok .0; from = ok .1 }
 
-    pub meld-words : {w₂ : List ℕ} → Changes n w₁ (rehomed a b) w₂ → w₂ ≡ encode (meld a b t)
+    pub meld-words : {w₂ : List ℕ} → Changes n w₁ (itemsMoved a b) w₂ → w₂ ≡ encode (meld a b t)
     unfolding meld
     meld-words {w₂} c₂ =
         says-encode (meld a b t) (length-map (t .heap) (moveHeap a b) ∙ e)

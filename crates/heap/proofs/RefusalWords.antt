@@ -13,8 +13,8 @@ use Rattle.rules.specs.Answers.{isEmpty, refusal}
 use Rattle.rules.specs.Forests.{Forests, heapOf, keyOf, markOf, none, rowOf, tableSize}
 use Rattle.rules.specs.Words.{forestsOf, headOr, look, stateOf}
 use Rattle.rules.proofs.Refusals.{delete-ok}
-use Rattle.store.proofs.Standing.{none-row}
-use Rattle.consolidate.proofs.Chains.{head-none}
+use Rattle.store.proofs.ListMembers.{none-row}
+use Rattle.consolidate.proofs.LinkedLists.{head-none}
 use Rattle.heap.specs.Allowed.{Allowed, Store}
 use Rattle.heap.proofs.ItemHeap.{item-inside}
 use Rattle.heap.proofs.SoundStore.{first-at, formed, items-size, state-at}

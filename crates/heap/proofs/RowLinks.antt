@@ -10,8 +10,8 @@ use Rattle.rules.specs.Words.{headOr, lastOr}
 use Rattle.rules.proofs.Members.{row-root}
 use Rattle.store.specs.Siblings.{Link}
 use Rattle.store.proofs.Listed.{link-in}
-use Rattle.store.proofs.Standing.{root-in}
-use Rattle.consolidate.proofs.Chains.{head-apart, last-apart}
+use Rattle.store.proofs.ListMembers.{root-in}
+use Rattle.consolidate.proofs.LinkedLists.{head-apart, last-apart}
 use Rattle.consolidate.proofs.WritingRow.{least-in}
 
 module _ (t : Forests) (D : Disjoint t) (h : ℕ) where

@@ -21,13 +21,13 @@ pub record Allowed (w : List ℕ) (n : ℕ) (c : Call) : Type 0 where
   pub done : refusal (forestsOf w) c ≡ 0
 
 -- room in the tally for the moves of one call: at most 41,000 (crate rules, proofs/ReplyBounds)
-pub record Room (t : Tally) : Type 0 where
+pub record TallyRoom (t : Tally) : Type 0 where
   pub links : t .links + 41000 ≤ 4294967295
   pub cuts : t .cuts + 41000 ≤ 4294967295
 
 pub record MayMove (w : List ℕ) (n : ℕ) (c : Call) (t : Tally) : Type 0 where
   pub allowed : Allowed w n c
-  pub room : Room t
+  pub room : TallyRoom t
 
 -- T takes the minimum
 abbrev pub extracting : ℕ → Forests → Outcome

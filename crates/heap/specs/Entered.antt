@@ -16,8 +16,8 @@ entered h i k v =
     setWord LastChild i none (setWord FirstChild i none (setWord State i (1 + 2 * h) (setWord Key i k v)))
 
 -- the heap's words: one item more, and its minimum
-unfoldable pub enrolled : ℕ → ℕ → Values → Values
-enrolled h i v =
+unfoldable pub itemCounted : ℕ → ℕ → Values → Values
+itemCounted h i v =
     setWord Minimum h (lesser (itemKey v) (v Minimum h) i) (setWord Count h (v Count h + 1) v)
 
 pub record EnterReady (n : ℕ) (w : List ℕ) (h i : ℕ) : Type 0 where
@@ -25,7 +25,7 @@ pub record EnterReady (n : ℕ) (w : List ℕ) (h i : ℕ) : Type 0 where
   pub heap : h < 8
   pub item : i < n
 
-pub record EnrollReady (n : ℕ) (w : List ℕ) (h i : ℕ) : Type 0 where
+pub record CountItemReady (n : ℕ) (w : List ℕ) (h i : ℕ) : Type 0 where
   pub enter : EnterReady n w h i
   pub minimum : Link n (look n w Minimum h)
   pub count : look n w Count h < 4294967295

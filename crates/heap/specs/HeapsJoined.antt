@@ -14,39 +14,39 @@ use Rattle.store.specs.Says.{Sized, Values}
 use Rattle.store.specs.Siblings.{Link, concatenated}
 
 -- b's row follows a's, and b is empty
-unfoldable pub poured : ℕ → ℕ → Values → Values
-poured a b v = emptyHeap b (concatenated (Row a) (v FirstTree b) (v LastTree b) v)
+unfoldable pub rowsJoined : ℕ → ℕ → Values → Values
+rowsJoined a b v = emptyHeap b (concatenated (Row a) (v FirstTree b) (v LastTree b) v)
 
 -- a has the items of both, and the lesser of their minima
 unfoldable pub heapsJoined : ℕ → ℕ → Values → Values
 heapsJoined a b v =
     setWord Count a (v Count a + v Count b)
-    (setWord Minimum a (lesser (itemKey v) (v Minimum a) (v Minimum b)) (poured a b v))
+    (setWord Minimum a (lesser (itemKey v) (v Minimum a) (v Minimum b)) (rowsJoined a b v))
 
 -- the state word of an item, once the items of heap b are heap a's
 unfoldable pub movedState : ℕ → ℕ → ℕ → ℕ
 movedState a b x = cond (eqb x (1 + 2 * b)) (1 + 2 * a) (cond (eqb x (2 + 2 * b)) (2 + 2 * a) x)
 
 -- the state words of the first k items so changed; then those of all
-unfoldable pub rehomedTo : ℕ → ℕ → ℕ → Values → Values
-rehomedTo k a b v f i =
+unfoldable pub itemsMovedTo : ℕ → ℕ → ℕ → Values → Values
+itemsMovedTo k a b v f i =
     cond (eqb (fieldNumber State) (fieldNumber f)) (cond (ltb i k) (movedState a b (v f i)) (v f i)) (v f i)
 
-unfoldable pub rehomed : ℕ → ℕ → Values → Values
-rehomed a b v f i = cond (eqb (fieldNumber State) (fieldNumber f)) (movedState a b (v f i)) (v f i)
+unfoldable pub itemsMoved : ℕ → ℕ → Values → Values
+itemsMoved a b v f i = cond (eqb (fieldNumber State) (fieldNumber f)) (movedState a b (v f i)) (v f i)
 
-pub record RehomeReady (n : ℕ) (w : List ℕ) (a b : ℕ) : Type 0 where
+pub record MoveItemsReady (n : ℕ) (w : List ℕ) (a b : ℕ) : Type 0 where
   pub sized : Sized n w
   pub into : a < 8
   pub from : b < 8
 
-pub record PourReady (n : ℕ) (w : List ℕ) (a b : ℕ) : Type 0 where
-  pub heaps : RehomeReady n w a b
+pub record JoinRowsReady (n : ℕ) (w : List ℕ) (a b : ℕ) : Type 0 where
+  pub heaps : MoveItemsReady n w a b
   pub last : Link n (look n w LastTree a)
   pub first : Link n (look n w FirstTree b)
 
 pub record JoinHeapsReady (n : ℕ) (w : List ℕ) (a b : ℕ) : Type 0 where
-  pub pour : PourReady n w a b
+  pub rows : JoinRowsReady n w a b
   pub one : Link n (look n w Minimum a)
   pub two : Link n (look n w Minimum b)
   pub count : look n w Count a + look n w Count b ≤ 4294967295

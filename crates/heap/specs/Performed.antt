@@ -1,5 +1,5 @@
 -- The contract of a call on the words, refused or done.
-use Prim.Native.Nat.{ℕ, _+_, _≤_}
+use Prim.Native.Nat.{ℕ, _+_}
 use mathlib.Core.Path.{_≡_}
 use mathlib.Core.List.{List}
 use Rattle.rules.specs.declared.Call.{Call}
@@ -8,13 +8,12 @@ use Rattle.rules.specs.Answers.{answer}
 use Rattle.rules.specs.Words.{Sound, encode, forestsOf}
 use Rattle.rules.specs.declared.Tally.{Tally}
 use Rattle.heap.specs.declared.Reply.{Reply}
+use Rattle.heap.specs.Allowed.{TallyRoom}
 
--- A sound store, and a tally with room for one call: it makes at most 41,000 links and cuts (crate rules,
--- proofs/ReplyBounds).
+-- a sound store, and a tally with room for one call
 pub record Ready (w : List ℕ) (t : Tally) : Type 0 where
   pub sound : Sound w
-  pub links : t .links + 41000 ≤ 4294967295
-  pub cuts : t .cuts + 41000 ≤ 4294967295
+  pub room : TallyRoom t
 
 -- The answer is the rules' answer, counts added to the tally, and the words are those of the rules' next forests.
 pub record Performed (w : List ℕ) (c : Call) (t : Tally) (r : Reply) (w′ : List ℕ) : Type 0 where

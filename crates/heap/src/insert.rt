@@ -6,7 +6,7 @@ ghost use Rattle.rules.specs.Order as order;
 ghost use Rattle.rules.specs.Words.{encode, forestsOf};
 ghost use Rattle.store.specs.Says.{Changes};
 ghost use Rattle.heap.specs.Allowed.{Allowed};
-ghost use Rattle.heap.specs.Entered.{entered, enrolled, EnterReady, EnrollReady};
+ghost use Rattle.heap.specs.Entered.{entered, itemCounted, EnterReady, CountItemReady};
 use rules::Field;
 use store::NONE;
 use store::Owner;
@@ -27,9 +27,9 @@ fn enter(s: &mut [u32], n: usize, h: u32, i: u32, k: u32)
 }
 
 // The heap's words: one item more, and its minimum.
-fn enroll(s: &mut [u32], n: usize, h: u32, i: u32)
-    requires { ⌜ EnrollReady n (now s) h i ⌝ }
-    ensures { λ r. ⌜ Changes n (now (s .entry)) (enrolled h i) (now (s .exit)) ⌝ }
+fn count_item(s: &mut [u32], n: usize, h: u32, i: u32)
+    requires { ⌜ CountItemReady n (now s) h i ⌝ }
+    ensures { λ r. ⌜ Changes n (now (s .entry)) (itemCounted h i) (now (s .exit)) ⌝ }
 {
     let m = get(s, n, Field::Minimum, h);
     let c = get(s, n, Field::Count, h);
@@ -45,7 +45,7 @@ pub fn insert(s: &mut [u32], n: usize, h: u32, i: u32, k: u32)
 {
     enter(s, n, h, i, k);
     append(s, n, Owner::Row(h), i);
-    enroll(s, n, h, i);
+    count_item(s, n, h, i);
 }
 
 // M: the minimum of a heap.

@@ -6,8 +6,8 @@ ghost use Rattle.rules.specs.Words.{encode, forestsOf};
 ghost use Rattle.store.specs.Says.{Changes};
 ghost use Prim.Native.Nat.{_<_};
 ghost use Rattle.heap.specs.Allowed.{Allowed};
-ghost use Rattle.heap.specs.HeapsJoined.{poured, heapsJoined, movedState, rehomed};
-ghost use Rattle.heap.specs.HeapsJoined.{PourReady, JoinHeapsReady, RehomeReady};
+ghost use Rattle.heap.specs.HeapsJoined.{rowsJoined, heapsJoined, movedState, itemsMoved};
+ghost use Rattle.heap.specs.HeapsJoined.{JoinRowsReady, JoinHeapsReady, MoveItemsReady};
 use rules::Field;
 use store::Owner;
 use store::concat;
@@ -17,9 +17,9 @@ use store::order::lesser_of;
 use store::put;
 
 // b's row follows a's, and b is empty.
-fn pour(s: &mut [u32], n: usize, a: u32, b: u32)
-    requires { ⌜ PourReady n (now s) a b ⌝ }
-    ensures { λ r. ⌜ Changes n (now (s .entry)) (poured a b) (now (s .exit)) ⌝ }
+fn join_rows(s: &mut [u32], n: usize, a: u32, b: u32)
+    requires { ⌜ JoinRowsReady n (now s) a b ⌝ }
+    ensures { λ r. ⌜ Changes n (now (s .entry)) (rowsJoined a b) (now (s .exit)) ⌝ }
 {
     let x = get(s, n, Field::FirstTree, b);
     let y = get(s, n, Field::LastTree, b);
@@ -37,7 +37,7 @@ fn join_heaps(s: &mut [u32], n: usize, a: u32, b: u32)
     let p = get(s, n, Field::Minimum, a);
     let q = get(s, n, Field::Minimum, b);
     let least = lesser_of(s, n, p, q);
-    pour(s, n, a, b);
+    join_rows(s, n, a, b);
     put(s, n, Field::Minimum, a, least);
     put(s, n, Field::Count, a, c + d);
 }
@@ -58,9 +58,9 @@ fn moved_state(x: u32, a: u32, b: u32) -> u32
 }
 
 // The state words of b's items, one pass over all.
-fn rehome(s: &mut [u32], n: usize, a: u32, b: u32)
-    requires { ⌜ RehomeReady n (now s) a b ⌝ }
-    ensures { λ r. ⌜ Changes n (now (s .entry)) (rehomed a b) (now (s .exit)) ⌝ }
+fn move_items(s: &mut [u32], n: usize, a: u32, b: u32)
+    requires { ⌜ MoveItemsReady n (now s) a b ⌝ }
+    ensures { λ r. ⌜ Changes n (now (s .entry)) (itemsMoved a b) (now (s .exit)) ⌝ }
 {
     let m = n as u32;
     for i in 0..m {
@@ -76,5 +76,5 @@ pub fn meld(s: &mut [u32], n: usize, a: u32, b: u32)
     ensures { λ r. ⌜ now (s .exit) ≡ encode (calls.meld a b (forestsOf (now (s .entry)))) ⌝ }
 {
     join_heaps(s, n, a, b);
-    rehome(s, n, a, b);
+    move_items(s, n, a, b);
 }

@@ -36,7 +36,7 @@ fn inserted(s: &mut [u32], n: usize, h: u32, i: u32, k: u32, tally: Tally) -> Re
     answer(0, i, k, tally)
 }
 
-fn shown(s: &mut [u32], n: usize, h: u32, tally: Tally) -> Reply
+fn found_min(s: &mut [u32], n: usize, h: u32, tally: Tally) -> Reply
     requires { ⌜ MayMove (now s) n (FindMin h) tally ⌝ }
     ensures { λ r. ⌜ Performed (now (s .entry)) (FindMin h) tally r (now (s .exit)) ⌝ }
 {
@@ -89,7 +89,7 @@ fn perform_allowed(s: &mut [u32], n: usize, call: Call, tally: Tally) -> Reply
 {
     match call {
         Call::Insert { heap, item, key } => inserted(s, n, heap, item, key, tally),
-        Call::FindMin { heap } => shown(s, n, heap, tally),
+        Call::FindMin { heap } => found_min(s, n, heap, tally),
         Call::ExtractMin { heap } => extracted(s, n, heap, tally),
         Call::DecreaseKey { item, key } => decreased(s, n, item, key, tally),
         Call::Delete { item } => deleted(s, n, item, tally),

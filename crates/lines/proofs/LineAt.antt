@@ -9,7 +9,7 @@ use borrow.Author.Tests.{lt-ltb}
 use Rattle.text.specs.Lines.{lineEnd}
 use Rattle.text.proofs.LineEnd.{line-short}
 use Rattle.lines.specs.declared.calls.Parsed.{Parsed}
-use Rattle.lines.specs.declared.reader.Next.the-variants.{Found}
+use Rattle.lines.specs.declared.reader.NextLine.the-variants.{Found}
 use Rattle.lines.specs.LineAt.{Parses, lineAt}
 
 -- a line is no longer than its text

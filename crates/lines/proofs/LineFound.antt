@@ -12,7 +12,7 @@ use Rattle.rules.specs.Theorems.{InRange}
 use Rattle.text.specs.Lines.{lineEnd, lineLength, lines}
 use Rattle.text.proofs.LineEnd.{end-within}
 use Rattle.text.proofs.Lines.{lines-at, lines-end}
-use Rattle.lines.specs.declared.reader.Next.the-variants.{Found, NoMore}
+use Rattle.lines.specs.declared.reader.NextLine.the-variants.{Found, NoMore}
 use Rattle.lines.specs.LineAt.{firstCall, lineAt}
 use Rattle.lines.specs.Parse.{lineOf, linesOf}
 use Rattle.lines.proofs.InRange.{line-range}

@@ -8,8 +8,8 @@ use lib.Dec.{ltb}
 use Rattle.rules.specs.declared.Line.{Line}
 use Rattle.text.specs.Lines.{lineLength, lineEnd}
 use Rattle.lines.specs.declared.calls.Parsed.{Parsed}
-use Rattle.lines.specs.declared.reader.Next.{Next}
-use Rattle.lines.specs.declared.reader.Next.the-variants.{Found, NoMore}
+use Rattle.lines.specs.declared.reader.NextLine.{NextLine}
+use Rattle.lines.specs.declared.reader.NextLine.the-variants.{Found, NoMore}
 use Rattle.lines.specs.Parse.{lineOf}
 
 -- the call of the first line of a text
@@ -21,5 +21,5 @@ pub record Parses (text : List ℕ) (r : Parsed) : Type 0 where
   pub sameLine : r .line ≡ firstCall text
   pub sameBytes : r .bytes ≡ lineLength text
 
-unfoldable pub lineAt : List ℕ → ℕ → Next
+unfoldable pub lineAt : List ℕ → ℕ → NextLine
 lineAt sheet at = cond (ltb at (length sheet)) (Found (firstCall (drop at sheet)) (lineEnd sheet at)) NoMore

@@ -11,20 +11,20 @@ pub struct LineReader<'a> {
 }
 
 // The line at a position: its call and where it ends, or that no line is left.
-pub enum Next {
+pub enum NextLine {
     Found(Line, usize),
     NoMore,
 }
 
-fn line_at(sheet: &[u8], at: usize) -> Next
+fn line_at(sheet: &[u8], at: usize) -> NextLine
     ensures { λ r. ⌜ r ≡ lineAt (now (sheet .entry)) at ⌝ }
 {
     if at < sheet.len() {
         let parsed = parse(&sheet[at..]);
         let line = parsed.line;
-        return Next::Found(line, at + parsed.bytes);
+        return NextLine::Found(line, at + parsed.bytes);
     }
-    Next::NoMore
+    NextLine::NoMore
 }
 
 // A reader of the lent bytes that stands at a position.
@@ -35,14 +35,14 @@ pub fn reader_at<'a>(sheet: &'a [u8], at: usize) -> LineReader<'a>
 }
 
 // The line that a reader stands at.
-pub fn next_line<'a>(reader: LineReader<'a>) -> Next
+pub fn next_line<'a>(reader: LineReader<'a>) -> NextLine
     ensures { λ r. ⌜ r ≡ lineAt (now (reader .entry .sheet)) (reader .entry .at) ⌝ }
 {
     line_at(reader.sheet, reader.at)
 }
 
 // With plain parameters, for the loop over the lines.
-pub fn read_line(sheet: &[u8], at: usize) -> Next
+pub fn read_line(sheet: &[u8], at: usize) -> NextLine
     ensures { λ r. ⌜ r ≡ lineAt (now (sheet .entry)) at ⌝ }
 {
     next_line(reader_at(sheet, at))

@@ -7,8 +7,8 @@ use Rattle.mapfile.specs.Lines.{numbersOf, spanFrom, isThree, allSpans, 
 use Rattle.mapfile.specs.Read.{
   firstLine,
   spanLines,
-  refusal,
-  refused,
+  refusedAnswer,
+  refusedReading,
   filled,
   countRead,
   spansOnto,
@@ -18,7 +18,7 @@ use Rattle.mapfile.specs.Read.{
 use Rattle.mapfile.specs.ByHand.{paperText, readOnto, malformed, WorkedTexts}
 
 pub workedTexts : WorkedTexts
-unfolding readOnto paperText malformed readMap headRead spansOnto countRead filled refused refusal spanLines firstLine
+unfolding readOnto paperText malformed readMap headRead spansOnto countRead filled refusedReading refusedAnswer spanLines firstLine
     column countOf allSpans isThree spanFrom numbersOf lines ahead numbersFrom twoFrom threeFrom fieldAt numberAt
     numberOf digitRun isDigit wellFormed valueFrom endsAt lineLength
 workedTexts = record { paper = refl; short = refl; uneven = refl; refusals = refl }

@@ -16,8 +16,8 @@ use Rattle.mapfile.specs.declared.Spans.the-variants.{Count, Malformed}
 use Rattle.mapfile.specs.Lines.{numbersOf, countOf, column}
 use Rattle.mapfile.specs.Read.{
   Reading,
-  refusal,
-  refused,
+  refusedAnswer,
+  refusedReading,
   done,
   filled,
   countRead,
@@ -36,7 +36,7 @@ pub record SpansFit (w : Reading) : Type 0 where
 module _ (from to loss : List ℕ) where
   filled-fits : (places start n : ℕ) (ls : List (List ℕ)) → (filled places start n ls from to loss) .answer .code ≡ 0
       → SpansFit (filled places start n ls from to loss)
-  unfolding filled refused refusal
+  unfolding filled refusedReading refusedAnswer
   filled-fits places start n ls =
       go (eqb (length to) (length from)) (eqb (length loss) (length from)) (leb n (length from)) refl refl refl
     where
@@ -44,8 +44,8 @@ module _ (from to loss : List ℕ) where
       full = done places start n ls from to loss
 
       go : (a b c : Bool) → eqb (length to) (length from) ≡ a → eqb (length loss) (length from) ≡ b
-          → leb n (length from) ≡ c → (cond (not (a && b && c)) (refused 16 from to loss) full) .answer .code ≡ 0
-          → SpansFit (cond (not (a && b && c)) (refused 16 from to loss) full)
+          → leb n (length from) ≡ c → (cond (not (a && b && c)) (refusedReading 16 from to loss) full) .answer .code ≡ 0
+          → SpansFit (cond (not (a && b && c)) (refusedReading 16 from to loss) full)
       go true true true ea eb ec z =
           let h = leb-true n (length from) ec in
           let i = eqb-true (length to) (length from) ea in
@@ -62,13 +62,13 @@ module _ (from to loss : List ℕ) where
   count-fits : (places start : ℕ) (ls : List (List ℕ)) (c : Spans)
       → (countRead c places start ls from to loss) .answer .code ≡ 0
       → SpansFit (countRead c places start ls from to loss)
-  unfolding countRead refused refusal
+  unfolding countRead refusedReading refusedAnswer
   count-fits places start ls (Count n) z = filled-fits places start n ls z
   count-fits places start ls Malformed z = absurd (omega (arith, z))
 
   head-fits : (ls : List (List ℕ)) (n : Numbers) → (headRead n ls from to loss) .answer .code ≡ 0
       → SpansFit (headRead n ls from to loss)
-  unfolding headRead spansOnto refused refusal
+  unfolding headRead spansOnto refusedReading refusedAnswer
   head-fits ls (One x) z = absurd (omega (arith, z))
   head-fits ls (Two places start) z = count-fits places start ls (countOf ls) z
   head-fits ls (Three x y w) z = absurd (omega (arith, z))
@@ -76,13 +76,13 @@ module _ (from to loss : List ℕ) where
 
   pub read-fits : (text : List ℕ) → (readMap text from to loss) .answer .code ≡ 0
       → SpansFit (readMap text from to loss)
-  unfolding readMap refused refusal
+  unfolding readMap refusedReading refusedAnswer
   read-fits text = go (ltb 60000 (length text))
     where
       rest : Reading
       rest = headRead (numbersOf (firstLine (lines text))) (spanLines (lines text)) from to loss
 
-      go : (t : Bool) → (cond t (refused 21 from to loss) rest) .answer .code ≡ 0
-          → SpansFit (cond t (refused 21 from to loss) rest)
+      go : (t : Bool) → (cond t (refusedReading 21 from to loss) rest) .answer .code ≡ 0
+          → SpansFit (cond t (refusedReading 21 from to loss) rest)
       go true z = absurd (omega (arith, z))
       go false z = head-fits (spanLines (lines text)) (numbersOf (firstLine (lines text))) z

@@ -12,7 +12,7 @@ use Rattle.text.specs.declared.Numbers.{Numbers}
 use Rattle.text.specs.declared.Numbers.the-variants.{One, Two, Three, Other}
 use Rattle.mapfile.specs.declared.Span.{Span}
 use Rattle.mapfile.specs.Lines.{isThree, spanFrom}
-use Rattle.mapfile.specs.Read.{refused, headRead}
+use Rattle.mapfile.specs.Read.{refusedReading, headRead}
 
 none-of : (x : ℕ) → x ≡ 2 → OneOf (0 ∷ 1 ∷ 3 ∷ []) x → ⊥
 none-of x e (inl h) = omega arith
@@ -35,7 +35,7 @@ no-span (Three x y z) h = absurd (none-of 2 refl h)
 no-span Other h = refl
 
 pub not-two : (n : Numbers) (ls : List (List ℕ)) (from to loss : List ℕ) → OneOf (0 ∷ 2 ∷ 3 ∷ []) (tagOf the-type n)
-    → headRead n ls from to loss ≡ refused 21 from to loss
+    → headRead n ls from to loss ≡ refusedReading 21 from to loss
 unfolding headRead
 not-two (One x) ls from to loss h = refl
 not-two (Two x y) ls from to loss (inl h) = absurd (omega arith)

@@ -19,15 +19,15 @@ use Rattle.mapfile.specs.Lines.{numbersOf, allSpans, countOf}
 use Rattle.mapfile.specs.Read.{
   firstLine,
   spanLines,
-  refusal,
-  refused,
+  refusedAnswer,
+  refusedReading,
   filled,
   countRead,
   spansOnto,
   headRead,
   readMap,
   Reading,
-  Room,
+  SpansFit,
   Fills,
   Reads,
 }
@@ -62,9 +62,9 @@ counts ls n e = go (allSpans ls) e
     go false e = let z : _≡_ {A = ℕ} 0 1 = cc in absurd (omega arith)
 
 -- a refusal leaves the lists as they are
-pub refuses : {w : Reading} {r : MapRead} {from to loss : List ℕ} (code : ℕ) → w ≡ refused code from to loss
-    → r ≡ refusal code → Reads w r from to loss
-unfolding refused
+pub refuses : {w : Reading} {r : MapRead} {from to loss : List ℕ} (code : ℕ) → w ≡ refusedReading code from to loss
+    → r ≡ refusedAnswer code → Reads w r from to loss
+unfolding refusedReading
 refuses code e q = rw e (record { answer-is = q; from-is = refl; to-is = refl; loss-is = refl })
 
 pub as-read : {v w : Reading} {r : MapRead} {from to loss : List ℕ} → w ≡ v → Reads v r from to loss
@@ -74,28 +74,28 @@ as-read e R = rw e R
 -- ---- the spans
 
 pub has-room : (ls : List (List ℕ)) (from to loss : List ℕ) (n : ℕ) → Count n ≡ countOf ls → length to ≡ length from
-    → length loss ≡ length from → n ≤ length from → Room ls from to loss
+    → length loss ≡ length from → n ≤ length from → SpansFit ls from to loss
 has-room ls from to loss n ec et el h =
     let c = counts ls n ec in
     record { inFrom = omega arith; inTo = omega arith; inLoss = omega arith }
 
 module _ (ls : List (List ℕ)) (places start : ℕ) (from to loss : List ℕ) where
-  pub bad-spans : Malformed ≡ countOf ls → spansOnto ls places start from to loss ≡ refused 21 from to loss
+  pub bad-spans : Malformed ≡ countOf ls → spansOnto ls places start from to loss ≡ refusedReading 21 from to loss
   unfolding spansOnto countRead
   bad-spans e = rw (← e)
 
   module _ (n : ℕ) (ec : Count n ≡ countOf ls) where
-    pub to-differs : length to ≢ length from → spansOnto ls places start from to loss ≡ refused 16 from to loss
+    pub to-differs : length to ≢ length from → spansOnto ls places start from to loss ≡ refusedReading 16 from to loss
     unfolding spansOnto countRead filled
     to-differs x = rw (← ec, ne-eqb (length to) (length from) x)
 
     module _ (et : length to ≡ length from) where
-      pub loss-differs : length loss ≢ length from → spansOnto ls places start from to loss ≡ refused 16 from to loss
+      pub loss-differs : length loss ≢ length from → spansOnto ls places start from to loss ≡ refusedReading 16 from to loss
       unfolding spansOnto countRead filled
       loss-differs x = rw (← ec, eq-eqb (length to) (length from) et, ne-eqb (length loss) (length from) x)
 
       module _ (el : length loss ≡ length from) where
-        pub no-room : length from < n → spansOnto ls places start from to loss ≡ refused 16 from to loss
+        pub no-room : length from < n → spansOnto ls places start from to loss ≡ refusedReading 16 from to loss
         unfolding spansOnto countRead filled
         no-room h =
             rw (
@@ -121,7 +121,7 @@ module _ (ls : List (List ℕ)) (places start : ℕ) (from to loss : List ℕ) w
 -- ---- the text
 
 module _ (text from to loss : List ℕ) where
-  pub too-long : 60000 < length text → readMap text from to loss ≡ refused 21 from to loss
+  pub too-long : 60000 < length text → readMap text from to loss ≡ refusedReading 21 from to loss
   unfolding readMap
   too-long h = rw (lt-ltb 60000 (length text) h)
 
@@ -132,7 +132,7 @@ module _ (text from to loss : List ℕ) where
     after-head = rw (le-ltb 60000 (length text) short, first-line text end q, later-lines text end q)
 
     pub bad-head : (n : Numbers) → n ≡ numbersOf (take (end - 0) (drop 0 text))
-        → OneOf (0 ∷ 2 ∷ 3 ∷ []) (tagOf the-type n) → readMap text from to loss ≡ refused 21 from to loss
+        → OneOf (0 ∷ 2 ∷ 3 ∷ []) (tagOf the-type n) → readMap text from to loss ≡ refusedReading 21 from to loss
     bad-head n e h = after-head ∙ rw (← e) (not-two n (lines (drop (end + 1) text)) from to loss h)
 
     pub good-head : (places start : ℕ) (n : Numbers) → n ≡ numbersOf (take (end - 0) (drop 0 text))

@@ -3,7 +3,7 @@ use Prim.Native.Nat.{ℕ}
 use mathlib.Core.Path.{_≡_}
 use mathlib.Core.List.{List, [], _∷_, _++_, map}
 use lib.ListN.{replicate}
-use Rattle.mapfile.specs.Read.{Reading, refused, readMap}
+use Rattle.mapfile.specs.Read.{Reading, refusedReading, readMap}
 
 -- `3,0` `0,1,7` `0,2,20` `1,2,5`, each with LF
 unfoldable pub paperText : List ℕ
@@ -32,9 +32,9 @@ pub record WorkedTexts : Type 0 where
         loss = 7 ∷ 20 ∷ 5 ∷ 9 ∷ [];
       }
   -- no room for the third span
-  pub short : readOnto 2 paperText ≡ refused 16 (9 ∷ 9 ∷ []) (9 ∷ 9 ∷ []) (9 ∷ 9 ∷ [])
+  pub short : readOnto 2 paperText ≡ refusedReading 16 (9 ∷ 9 ∷ []) (9 ∷ 9 ∷ []) (9 ∷ 9 ∷ [])
   pub uneven :
       readMap paperText (9 ∷ 9 ∷ 9 ∷ []) (9 ∷ []) (9 ∷ 9 ∷ 9 ∷ [])
-      ≡ refused 16 (9 ∷ 9 ∷ 9 ∷ []) (9 ∷ []) (9 ∷ 9 ∷ 9 ∷ [])
+      ≡ refusedReading 16 (9 ∷ 9 ∷ 9 ∷ []) (9 ∷ []) (9 ∷ 9 ∷ 9 ∷ [])
   -- 21 comes before 16
-  pub refusals : map (readOnto 0) malformed ≡ replicate 5 (refused 21 [] [] [])
+  pub refusals : map (readOnto 0) malformed ≡ replicate 5 (refusedReading 21 [] [] [])

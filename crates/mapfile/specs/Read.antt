@@ -31,11 +31,11 @@ pub record Reading : Type 0 where
   pub loss : List ℕ
 
 -- A refusal gives its code and three zeros, and changes nothing.
-unfoldable pub refusal : ℕ → MapRead
-refusal code = record { code = code; places = 0; start = 0; spans = 0 }
+unfoldable pub refusedAnswer : ℕ → MapRead
+refusedAnswer code = record { code = code; places = 0; start = 0; spans = 0 }
 
-unfoldable pub refused : ℕ → List ℕ → List ℕ → List ℕ → Reading
-refused code from to loss = record { answer = refusal code; from = from; to = to; loss = loss }
+unfoldable pub refusedReading : ℕ → List ℕ → List ℕ → List ℕ → Reading
+refusedReading code from to loss = record { answer = refusedAnswer code; from = from; to = to; loss = loss }
 
 -- The spans of the lines ls go to the beginning of the three lists.
 abbrev pub done : ℕ → ℕ → ℕ → List (List ℕ) → List ℕ → List ℕ → List ℕ → Reading
@@ -51,30 +51,30 @@ done places start n ls from to loss =
 unfoldable pub filled : ℕ → ℕ → ℕ → List (List ℕ) → List ℕ → List ℕ → List ℕ → Reading
 filled places start n ls from to loss =
     cond (not (eqb (length to) (length from) && eqb (length loss) (length from) && leb n (length from)))
-    (refused 16 from to loss) (done places start n ls from to loss)
+    (refusedReading 16 from to loss) (done places start n ls from to loss)
 
 -- The first line has places and start, and each other is a span, or the text is malformed.
 unfoldable pub countRead : Spans → ℕ → ℕ → List (List ℕ) → List ℕ → List ℕ → List ℕ → Reading
 countRead (Count n) places start ls from to loss = filled places start n ls from to loss
-countRead Malformed places start ls from to loss = refused 21 from to loss
+countRead Malformed places start ls from to loss = refusedReading 21 from to loss
 
 unfoldable pub spansOnto : List (List ℕ) → ℕ → ℕ → List ℕ → List ℕ → List ℕ → Reading
 spansOnto ls places start from to loss = countRead (countOf ls) places start ls from to loss
 
 unfoldable pub headRead : Numbers → List (List ℕ) → List ℕ → List ℕ → List ℕ → Reading
-headRead (One x) ls from to loss = refused 21 from to loss
+headRead (One x) ls from to loss = refusedReading 21 from to loss
 headRead (Two places start) ls from to loss = spansOnto ls places start from to loss
-headRead (Three x y z) ls from to loss = refused 21 from to loss
-headRead Other ls from to loss = refused 21 from to loss
+headRead (Three x y z) ls from to loss = refusedReading 21 from to loss
+headRead Other ls from to loss = refusedReading 21 from to loss
 
 -- from, to and loss as they are lent
 unfoldable pub readMap : List ℕ → List ℕ → List ℕ → List ℕ → Reading
 readMap text from to loss =
-    cond (ltb 60000 (length text)) (refused 21 from to loss)
+    cond (ltb 60000 (length text)) (refusedReading 21 from to loss)
     (headRead (numbersOf (firstLine (lines text))) (spanLines (lines text)) from to loss)
 
 -- Three lists have room for a span of each line; and three others are those with the spans stored.
-pub record Room (ls : List (List ℕ)) (from to loss : List ℕ) : Type 0 where
+pub record SpansFit (ls : List (List ℕ)) (from to loss : List ℕ) : Type 0 where
   pub inFrom : length ls ≤ length from
   pub inTo : length ls ≤ length to
   pub inLoss : length ls ≤ length loss

@@ -4,7 +4,7 @@ ghost use Prim.Native.Nat.{_≤_};
 ghost use lib.ListN.{length, drop};
 ghost use Rattle.text.specs.Lines.{lines};
 ghost use Rattle.mapfile.specs.Lines.{numbersOf, isThree, spanFrom, countOf};
-ghost use Rattle.mapfile.specs.Read.{refusal, spansOnto, readMap, Room, Fills, Reads};
+ghost use Rattle.mapfile.specs.Read.{refusedAnswer, spansOnto, readMap, SpansFit, Fills, Reads};
 use text::Numbers;
 use text::line_end;
 use text::number_at;
@@ -88,7 +88,7 @@ fn count_spans(text: &[u8], first: usize) -> Spans
 
 // The spans of the lines from a position on go to the beginning of the three lists.
 fn fill(text: &[u8], first: usize, from: &mut [u32], to: &mut [u32], loss: &mut [u32])
-    requires { ⌜ Room (lines (drop first (now text))) (now from) (now to) (now loss) ⌝ }
+    requires { ⌜ SpansFit (lines (drop first (now text))) (now from) (now to) (now loss) ⌝ }
     ensures { λ _. ⌜ Fills (lines (drop first (now (text .entry))))
         (now (from .entry)) (now (to .entry)) (now (loss .entry))
         (now (from .exit)) (now (to .exit)) (now (loss .exit)) ⌝ }
@@ -107,7 +107,7 @@ fn fill(text: &[u8], first: usize, from: &mut [u32], to: &mut [u32], loss: &mut 
 }
 
 fn refuse(code: u32) -> MapRead
-    ensures { λ r. ⌜ r ≡ refusal code ⌝ }
+    ensures { λ r. ⌜ r ≡ refusedAnswer code ⌝ }
 {
     MapRead {
         code: code,

@@ -2,13 +2,13 @@
 use mathlib.Core.Path.{refl}
 use Rattle.rules.specs.Lists.{sumBy, without, setAll}
 use Rattle.rules.specs.Order.{comesBefore, leastOf, leastIn, minimum}
-use Rattle.rules.specs.Cut.{cut, standing, cascadingCut, cutWithin, cutOut, cutIf}
+use Rattle.rules.specs.Cut.{cut, nodeKind, cascadingCut, cutWithin, cutOut, cutIf}
 use Rattle.rules.specs.Consolidate.{link, isFree, climb, linkTrees, occupied, consolidateWithin, consolidate}
 use Rattle.rules.specs.Calls.{insert, release, setFree, removeRoot, extract, hasParent, decreaseKey, perform}
 use Rattle.rules.specs.Words.{storeSize}
 use Rattle.rules.specs.Answers.{isEmpty, refusal, refused, unlessRefused, answer, answers}
 use Rattle.paths.specs.Queue.{waiting, nextOf, next}
-use Rattle.paths.specs.Search.{judge, update, offer, try, tried, visit, turn, begin, turns, search}
+use Rattle.paths.specs.Search.{judge, update, offer, try, tried, visit, step, begin, steps, search}
 use Rattle.paths.specs.Codes.{fault, previous, spanCode, codeBelow, feedCode}
 use Rattle.paths.specs.Feed.{linksOf, cutsOf, feedAs, feedResult}
 use Rattle.paths.specs.ByHand.{
@@ -23,8 +23,8 @@ use Rattle.paths.specs.ByHand.{
 
 pub workedMaps : WorkedMaps
 unfolding onThree doneThree refusedThree paperMap tieMap refusedMaps feedResult feedAs linksOf cutsOf feedCode storeSize
-    codeBelow spanCode previous fault search turns begin turn visit tried try offer update judge next nextOf
+    codeBelow spanCode previous fault search steps begin step visit tried try offer update judge next nextOf
     waiting answers answer unlessRefused refused refusal isEmpty perform decreaseKey hasParent extract
     removeRoot setFree release insert consolidate consolidateWithin occupied linkTrees climb isFree link cutIf
-    cutOut cutWithin cascadingCut standing cut minimum leastIn leastOf comesBefore setAll without sumBy
+    cutOut cutWithin cascadingCut nodeKind cut minimum leastIn leastOf comesBefore setAll without sumBy
 workedMaps = record { calls = refl; paper = refl; tie = refl; refusals = refl }

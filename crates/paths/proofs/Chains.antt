@@ -139,8 +139,8 @@ module _
     pub leads-met : (c : List ℕ) → Chain m c p → Met best p
     leads-met c h = covers (chainLoss m c) (above (chainLoss m c)) c p h (le-refl _) .is .1
 
-    pub shown : Entry m p (getD best p none) (getD last p none)
-    shown = go (eqb (getD best p none) none) refl
+    pub entryShown : Entry m p (getD best p none) (getD last p none)
+    entryShown = go (eqb (getD best p none) none) refl
       where
         go : (t : Bool) → eqb (getD best p none) none ≡ t → Entry m p (getD best p none) (getD last p none)
         go true q =

@@ -38,7 +38,7 @@ use Rattle.paths.specs.Theorems.{forestsAfter}
 use Rattle.paths.proofs.Invariant.{isNone, isNone-no, isNone-yes, unsettled}
 use Rattle.paths.proofs.Begin.{sum-zeros, all-unsettled}
 use Rattle.paths.proofs.Offers.{TryingOf, Case, at-unmet, at-smaller, sum-fits, update-trying}
-use Rattle.paths.proofs.Turns.{Between, Kept, extracted-rest}
+use Rattle.paths.proofs.Steps.{Between, Kept, extracted-rest}
 use Rattle.paths.proofs.Served.{ServedOf, served, update-served}
 use Rattle.paths.proofs.Log.{allowed-snoc}
 

@@ -28,7 +28,7 @@ use Rattle.paths.specs.Theorems.{isReached, Moment, CountsFit, Ceiling}
 use Rattle.paths.proofs.Waiting.{sum-none}
 use Rattle.paths.proofs.Invariant.{isNone, unsettled}
 use Rattle.paths.proofs.Begin.{sum-zeros}
-use Rattle.paths.proofs.Turns.{turns-keep, moments-keep, search-between}
+use Rattle.paths.proofs.Steps.{steps-keep, moments-keep, search-between}
 use Rattle.paths.proofs.Table.{none-waits}
 use Rattle.paths.proofs.Examined.{examinedAtMost}
 use Rattle.paths.proofs.Costs.{Costs, costs}
@@ -98,7 +98,7 @@ pub ceiling : Ceiling
 unfolding search unsettled
 ceiling m A =
     let s : Search = find m in
-    let C = turns-keep never m A (Costs m) (costs never m A) (m .places) in
+    let C = steps-keep never m A (Costs m) (costs never m A) (m .places) in
     let B = search-between never m A in
     let p : ℕ = sumBy isReached (s .best) in
     let in-p : C .entered ≡ p = omega (arith, C .entered-is, reached-or-none (s .best), B .invariant .bestN) in

@@ -13,7 +13,7 @@ use Rattle.rules.specs.Lists.{sumTo, delta}
 use Rattle.rules.proofs.Occurs.{byItem, delta-self, delta-other}
 use Rattle.rules.proofs.SumTo.{sumTo-le, sumTo-cong, sumTo-add, sumTo-zero}
 use Rattle.paths.specs.Map.{Map, spans, fromOf, toOf, lossOf, Accepted}
-use Rattle.paths.specs.Queue.{Stop, Next, halts, takes, next}
+use Rattle.paths.specs.Queue.{Stop, NextPlace, halts, takes, next}
 use Rattle.paths.specs.Search.{
   Search,
   Verdict,
@@ -29,9 +29,9 @@ use Rattle.paths.specs.Search.{
   examine,
   extracted,
   visit,
-  turn,
+  step,
   begin,
-  turns,
+  steps,
   never,
   search,
   bestAt,
@@ -41,7 +41,7 @@ use Rattle.paths.specs.Theorems.{between, trying, leavingReached, Examin
 use Rattle.paths.proofs.Waiting.{next-takes, waits-below}
 use Rattle.paths.proofs.Begin.{none-settled}
 use Rattle.paths.proofs.Tried.{tried-keeps}
-use Rattle.paths.proofs.Turns.{Between, extracted-trying, turns-between}
+use Rattle.paths.proofs.Steps.{Between, extracted-trying, steps-between}
 use Rattle.paths.proofs.Table.{none-waits}
 use Rattle.paths.proofs.Settling.{
   isSettled,
@@ -101,7 +101,7 @@ abbrev Exact : Map → Search → Type 0
 Exact m s = s .examined ≡ sumTo (spans m) (λ e. settledAt s (fromOf m e))
 
 module _ (stop : Stop) (m : Map) (A : Accepted m) where
-  -- the place u is taken after k turns
+  -- the place u is taken after k steps
   module _ (k : ℕ) (s : Search) (B : Between stop m k s) (u : ℕ) (n : next stop (s .queue) ≡ takes u) where
     one-more : (q : ℕ) → settledAt (extracted u s) q ≡ settledAt s q + delta u q
     one-more =
@@ -151,19 +151,19 @@ module _ (stop : Stop) (m : Map) (A : Accepted m) where
           ones (spans m),
         )
 
-  turns-exact : (k : ℕ) → Exact m (turns stop m k)
-  unfolding turns turn begin
-  turns-exact zero =
+  steps-exact : (k : ℕ) → Exact m (steps stop m k)
+  unfolding steps step begin
+  steps-exact zero =
       sym (sumTo-cong (spans m) _ (λ _. 0) (λ e _. not-settled _ _ (none-settled m A (fromOf m e)))
       ∙ sumTo-zero (spans m))
-  turns-exact (suc k) = go (next stop ((turns stop m k) .queue)) refl (turns-exact k)
+  steps-exact (suc k) = go (next stop ((steps stop m k) .queue)) refl (steps-exact k)
     where
       s : Search
-      s = turns stop m k
+      s = steps stop m k
 
-      go : (x : Next) → next stop (s .queue) ≡ x → Exact m s → Exact m (turn m x s)
+      go : (x : NextPlace) → next stop (s .queue) ≡ x → Exact m s → Exact m (step m x s)
       go halts e h = h
-      go (takes u) e h = visit-exact k s (turns-between stop m A k) u e h
+      go (takes u) e h = visit-exact k s (steps-between stop m A k) u e h
 
   most : (s : Search) → Exact m s → s .examined ≤ spans m
   most s h =
@@ -174,10 +174,10 @@ module _ (stop : Stop) (m : Map) (A : Accepted m) where
 pub examinedExact : ExaminedExact
 unfolding leavingReached isSettled search
 examinedExact m A =
-    turns-exact never m A (m .places)
+    steps-exact never m A (m .places)
     ∙ sumTo-cong (spans m) _ _ (λ e _. rw (none-waits m A (fromOf m e)))
 
 pub examinedAtMost : ExaminedAtMost
-examinedAtMost stop m A s (between k) = most stop m A (turns stop m k) (turns-exact stop m A k)
+examinedAtMost stop m A s (between k) = most stop m A (steps stop m k) (steps-exact stop m A k)
 examinedAtMost stop m A s (trying k u e n l) =
-    trying-most stop m A k (turns stop m k) (turns-between stop m A k) u n (turns-exact stop m A k) e l
+    trying-most stop m A k (steps stop m k) (steps-between stop m A k) u n (steps-exact stop m A k) e l

@@ -9,7 +9,7 @@ pub mod Judge
 pub mod Offers
 pub mod Tried
 pub mod Begin
-pub mod Turns
+pub mod Steps
 pub mod Chains
 pub mod Table
 pub mod Calls

@@ -27,7 +27,7 @@ use Rattle.paths.specs.Search.{
   update,
   examine,
   begin,
-  turns,
+  steps,
   never,
   search,
   find,
@@ -35,11 +35,11 @@ use Rattle.paths.specs.Search.{
 use Rattle.paths.specs.Theorems.{forestsAfter, ViewAgrees, TakesMinimum, AllDone, CallsDone, EndsEmpty}
 use Rattle.paths.proofs.Waiting.{next-takes}
 use Rattle.paths.proofs.Offers.{TryingOf, Case, at-unmet, at-smaller, sum-fits}
-use Rattle.paths.proofs.Turns.{
+use Rattle.paths.proofs.Steps.{
   Between,
   Kept,
-  turns-between,
-  turns-keep,
+  steps-between,
+  steps-keep,
   moments-keep,
   search-between,
 }
@@ -146,16 +146,16 @@ callsDone stop m A s M = moments-keep stop m A (ServedOf m) (served stop m A) s 
 
 pub takesMinimum : TakesMinimum
 takesMinimum stop m A k u e =
-    let s : Search = turns stop m k in
-    let B : Between stop m k s = turns-between stop m A k in
-    let D = take-does stop m A k s B u e (turns-keep stop m A (ServedOf m) (served stop m A) k) in
+    let s : Search = steps stop m k in
+    let B : Between stop m k s = steps-between stop m A k in
+    let D = take-does stop m A k s B u e (steps-keep stop m A (ServedOf m) (served stop m A) k) in
     (D .which, D .told ∙ B .invariant .keyed u (next-takes stop (s .queue) u e .inside))
 
 pub endsEmpty : EndsEmpty
 unfolding search
 endsEmpty m A =
     let s : Search = find m in
-    let S = turns-keep never m A (ServedOf m) (served never m A) (m .places) in
+    let S = steps-keep never m A (ServedOf m) (served never m A) (m .places) in
     let B = search-between never m A in
     all-free (forestsAfter m s) (m .places) (S .formed .disjoint) (ap length (S .waits) ∙ B .invariant .waitsN)
     (λ x. ap (λ l. getD l x 0) (S .waits) ∙ none-waits m A x)

@@ -12,8 +12,8 @@ use Rattle.paths.specs.Table.{Reached, Entry, atStart, reached, unreache
 use Rattle.paths.specs.Search.{Search, never, find}
 use Rattle.paths.specs.Theorems.{FinderTable, TableUnique, NoneUnreached}
 use Rattle.paths.proofs.Waiting.{halts-empty}
-use Rattle.paths.proofs.Chains.{shown, leads-met, met-small}
-use Rattle.paths.proofs.Turns.{search-halts, search-between}
+use Rattle.paths.proofs.Chains.{entryShown, leads-met, met-small}
+use Rattle.paths.proofs.Steps.{search-halts, search-between}
 
 -- in the end no place waits
 pub none-waits : (m : Map) → Accepted m → (q : ℕ) → getD ((find m) .queue .waits) q 0 ≡ 0
@@ -29,7 +29,7 @@ finderTable m A =
       lastN = I .lastN;
       entries =
           λ p _.
-          shown m A (B .lastTaken) (B .reach) (s .queue .waits) (s .queue .key) (s .best) (s .last) I
+          entryShown m A (B .lastTaken) (B .reach) (s .queue .waits) (s .queue .key) (s .best) (s .last) I
           (none-waits m A) p;
     }
 

@@ -14,7 +14,7 @@ use Rattle.rules.specs.Order.{precedes, leastOf}
 use Rattle.rules.proofs.Minimum.{leastOf-in}
 use Rattle.rules.proofs.Occurs.{byItem, delta-self, delta-other}
 use Rattle.rules.proofs.Order.{is-precedes, not-precedes}
-use Rattle.paths.specs.Queue.{Queue, Stop, Next, halts, takes, waiting, nextOf, next}
+use Rattle.paths.specs.Queue.{Queue, Stop, NextPlace, halts, takes, waiting, nextOf, next}
 use Rattle.paths.specs.Search.{never}
 
 -- ---- the list of those that wait
@@ -168,14 +168,14 @@ module _ (q : Queue) where
   pub some-next : sumBy (λ h. h) (q .waits) ≢ 0 → (u : ℕ) × (next never q ≡ takes u)
   some-next n = go (next never q) refl
     where
-      go : (x : Next) → next never q ≡ x → (u : ℕ) × (next never q ≡ takes u)
+      go : (x : NextPlace) → next never q ≡ x → (u : ℕ) × (next never q ≡ takes u)
       go (takes u) e = (u, e)
       go halts e = absurd (n (sum-none (q .waits) (halts-empty q e)))
 
   pub none-next : sumBy (λ h. h) (q .waits) ≡ 0 → next never q ≡ halts
   none-next n = go (next never q) refl
     where
-      go : (x : Next) → next never q ≡ x → next never q ≡ halts
+      go : (x : NextPlace) → next never q ≡ x → next never q ≡ halts
       go halts e = e
       go (takes u) e =
           let w : getD (q .waits) u 0 ≢ 0 = next-takes never q u e .inside in

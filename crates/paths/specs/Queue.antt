@@ -29,18 +29,18 @@ waiting i [] = []
 waiting i (w ∷ ws) = cond (eqb w 0) (waiting (suc i) ws) (i ∷ waiting (suc i) ws)
 
 -- what comes next: a place is taken, or the finder halts
-pub data Next : Type 0 where
-  halts : Next
-  takes : ℕ → Next
+pub data NextPlace : Type 0 where
+  halts : NextPlace
+  takes : ℕ → NextPlace
 
 -- The stopping rule, a value: the keys at which the finder halts though a place waits.
 abbrev pub Stop : Type 0
 Stop = ℕ → Bool
 
 -- Of those that wait the least is taken, by key, then by number, unless the stopping rule says no.
-unfoldable pub nextOf : Stop → List ℕ → List ℕ → Next
+unfoldable pub nextOf : Stop → List ℕ → List ℕ → NextPlace
 nextOf stop key [] = halts
 nextOf stop key (x ∷ xs) = let u = leastOf key x xs in cond (stop (getD key u 0)) halts (takes u)
 
-unfoldable pub next : Stop → Queue → Next
+unfoldable pub next : Stop → Queue → NextPlace
 next stop q = nextOf stop (q .key) (waiting 0 (q .waits))

@@ -9,7 +9,7 @@ use Rattle.rules.specs.declared.Line.{Line}
 use Rattle.rules.specs.declared.Line.the-variants.{Yields}
 use Rattle.rules.specs.Forests.{none}
 use Rattle.paths.specs.Map.{Map, spans, fromOf, toOf, lossOf}
-use Rattle.paths.specs.Queue.{Queue, Stop, Next, halts, takes, noneWait, enter, lower, leave, next}
+use Rattle.paths.specs.Queue.{Queue, Stop, NextPlace, halts, takes, noneWait, enter, lower, leave, next}
 
 -- the queue, the table so far, the queue calls made, and the number of spans examined
 pub record Search : Type 0 where
@@ -103,9 +103,9 @@ extracted u s =
 unfoldable pub visit : Map → ℕ → Search → Search
 visit m u s = tried m u (bestAt s u) (spans m) (extracted u s)
 
-unfoldable pub turn : Map → Next → Search → Search
-turn m halts s = s
-turn m (takes u) s = visit m u s
+unfoldable pub step : Map → NextPlace → Search → Search
+step m halts s = s
+step m (takes u) s = visit m u s
 
 -- The start is inserted with key 0.
 unfoldable pub begin : Map → Search
@@ -118,14 +118,14 @@ begin m =
       examined = 0;
     }
 
--- after k turns
-unfoldable pub turns : Stop → Map → ℕ → Search
-turns stop m zero = begin m
-turns stop m (suc k) = turn m (next stop ((turns stop m k) .queue)) (turns stop m k)
+-- after k steps
+unfoldable pub steps : Stop → Map → ℕ → Search
+steps stop m zero = begin m
+steps stop m (suc k) = step m (next stop ((steps stop m k) .queue)) (steps stop m k)
 
--- Each turn takes a place, so there are no more turns than places: `SearchHalts` says so.
+-- Each step takes a place, so there are no more steps than places: `SearchHalts` says so.
 unfoldable pub search : Stop → Map → Search
-search stop m = turns stop m (m .places)
+search stop m = steps stop m (m .places)
 
 -- the full feed call goes on until no place waits
 abbrev pub never : Stop

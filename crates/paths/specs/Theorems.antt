@@ -18,7 +18,7 @@ use Rattle.paths.specs.Map.{Map, spans, fromOf, Accepted}
 use Rattle.paths.specs.Chains.{Chain}
 use Rattle.paths.specs.Table.{Table}
 use Rattle.paths.specs.Queue.{Stop, halts, takes, next}
-use Rattle.paths.specs.Search.{Search, tried, extracted, turns, search, bestAt, find}
+use Rattle.paths.specs.Search.{Search, tried, extracted, steps, search, bestAt, find}
 use Rattle.paths.specs.Codes.{feedCode}
 use Rattle.paths.specs.Feed.{linksOf, cutsOf, Feed, feedResult}
 
@@ -41,15 +41,15 @@ NoneUnreached =
 
 -- ---- the queue
 
--- After as many turns as places nothing is left to take.
+-- After as many steps as places nothing is left to take.
 abbrev pub SearchHalts : Type 0
 SearchHalts = (stop : Stop) (m : Map) → Accepted m → next stop ((search stop m) .queue) ≡ halts
 
 -- The moments of a search: before each taking, and after each span of the place taken.
 pub data Moment (stop : Stop) (m : Map) : Search → Type 0 where
-  between : (k : ℕ) → Moment stop m (turns stop m k)
-  trying : (k u e : ℕ) → next stop ((turns stop m k) .queue) ≡ takes u → e ≤ spans m
-      → Moment stop m (tried m u (bestAt (turns stop m k) u) e (extracted u (turns stop m k)))
+  between : (k : ℕ) → Moment stop m (steps stop m k)
+  trying : (k u e : ℕ) → next stop ((steps stop m k) .queue) ≡ takes u → e ≤ spans m
+      → Moment stop m (tried m u (bestAt (steps stop m k) u) e (extracted u (steps stop m k)))
 
 -- the forests that the calls of a search leave
 abbrev pub forestsAfter : Map → Search → Forests
@@ -66,9 +66,9 @@ ViewAgrees = (stop : Stop) (m : Map) → Accepted m → (s : Search) → Moment 
 -- Each taking answers the place that the search takes, and its loss.
 abbrev pub TakesMinimum : Type 0
 TakesMinimum =
-    (stop : Stop) (m : Map) → Accepted m → (k u : ℕ) → next stop ((turns stop m k) .queue) ≡ takes u →
-    let a : Answer = (answer (forestsAfter m (turns stop m k)) (Yields (ExtractMin 0))) .reply in
-    (a .item ≡ u) × (a .key ≡ bestAt (turns stop m k) u)
+    (stop : Stop) (m : Map) → Accepted m → (k u : ℕ) → next stop ((steps stop m k) .queue) ≡ takes u →
+    let a : Answer = (answer (forestsAfter m (steps stop m k)) (Yields (ExtractMin 0))) .reply in
+    (a .item ≡ u) × (a .key ≡ bestAt (steps stop m k) u)
 
 -- No call is refused, and those of a full feed call leave the forests empty.
 abbrev pub AllDone : List Answer → Type 0

@@ -15,7 +15,7 @@ use Rattle.sheet.specs.declared.Ran.{Ran}
 use Rattle.sheet.specs.Runs.{Leaves, freshRun}
 use Rattle.sheet.proofs.FreshRuns.{fresh-code, fresh-length, fresh-room}
 use Rattle.sheet.proofs.Limits.{limit-le}
-use Rattle.queue.specs.Shown.{Shows, shown}
+use Rattle.queue.specs.Shown.{Shows, runText}
 
 module _ (store sheet out : List ℕ) {store′ out′ : List ℕ} {r : Ran}
     (L : Leaves (freshRun store sheet out) r store′ out′) where
@@ -23,7 +23,7 @@ module _ (store sheet out : List ℕ) {store′ out′ : List ℕ} {r : Ran}
   out-length = ap length (L .sameOut) ∙ fresh-length store sheet out
 
   pub answers-shown : r .code ≡ 0 → Shows (freshRun store sheet out) (r .bytes) out′
-  unfolding shown
+  unfolding runText
   answers-shown z =
       let c : (freshRun store sheet out) .code ≡ 0 = sym (L .sameCode) ∙ z in
       record {
@@ -41,7 +41,7 @@ module _ (store sheet out : List ℕ) {store′ out′ : List ℕ} {r : Ran}
 
     pub code-shown : (r .code ≡ 0 → ⊥) → {out″ : List ℕ} {n : ℕ} → Wrote out′ 0 (field (r .code) lineFeed) out″ n
         → Shows (freshRun store sheet out) n out″
-    unfolding shown
+    unfolding runText
     code-shown z {out″} {n} w =
         let e : n ≡ length (field (r .code) lineFeed) = omega (arith, w .next) in
         record {

@@ -9,10 +9,10 @@ use Rattle.text.specs.Decimal.{field}
 use Rattle.text.specs.Lines.{lineFeed}
 use Rattle.sheet.specs.Runs.{Run}
 
-unfoldable pub shown : Run → List ℕ
-shown run = cond (eqb (run .code) 0) (take (run .bytes) (run .out)) (field (run .code) lineFeed)
+unfoldable pub runText : Run → List ℕ
+runText run = cond (eqb (run .code) 0) (take (run .bytes) (run .out)) (field (run .code) lineFeed)
 
 -- the first r bytes of the output are what is printed
 pub record Shows (run : Run) (r : ℕ) (out : List ℕ) : Type 0 where
-  pub bytes : take r out ≡ shown run
+  pub bytes : take r out ≡ runText run
   pub within : r ≤ length out

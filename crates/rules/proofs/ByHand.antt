@@ -5,7 +5,7 @@ use Rattle.rules.specs.ByHand.{
   WorkedRuns,
   byRules,
   familiesFrom,
-  lastOf,
+  lastAnswer,
   linesB,
   linesE,
   linesF,
@@ -44,7 +44,7 @@ use Rattle.rules.specs.Calls.{
   setFree,
 }
 use Rattle.rules.specs.Consolidate.{climb, consolidate, consolidateWithin, isFree, link, linkTrees, occupied}
-use Rattle.rules.specs.Cut.{cascadingCut, cut, cutIf, cutOut, cutWithin, standing}
+use Rattle.rules.specs.Cut.{cascadingCut, cut, cutIf, cutOut, cutWithin, nodeKind}
 use Rattle.rules.specs.Fibonacci.{R, lastFrom}
 use Rattle.rules.specs.Forests.{count, marks, potential, trees}
 use Rattle.rules.specs.Ledger.{allowance, allowed, ifDone, moves, price}
@@ -53,9 +53,9 @@ use Rattle.rules.specs.Order.{comesBefore, leastIn, leastOf, minimum}
 
 pub workedRuns : WorkedRuns
 unfolding table runB runC runD runE runF1 runF2 runF runG runH runTie runRelease linesB linesE linesF1
-    linesF2 linesF linesG byRules seen sees reply markedFrom familiesFrom lastOf allowed moves allowance price ifDone R
+    linesF2 linesF linesG byRules seen sees reply markedFrom familiesFrom lastAnswer allowed moves allowance price ifDone R
     lastFrom after answers answer unlessRefused refused refusal isEmpty perform meld moveHeap delete deleteAs
     decreaseKey hasParent extract removeRoot setFree release insert consolidate consolidateWithin occupied linkTrees
-    climb isFree link cutIf cutOut cutWithin cascadingCut standing cut minimum leastIn leastOf comesBefore potential
+    climb isFree link cutIf cutOut cutWithin cascadingCut nodeKind cut minimum leastIn leastOf comesBefore potential
     marks trees count setAll without sumBy
 workedRuns = refl

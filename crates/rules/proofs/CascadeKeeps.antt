@@ -7,7 +7,7 @@ use native.Mathlib.Nat.{le-refl}
 use native.Mathlib.Omega.{arith}
 use lib.ListN.{length, getD, set, length-set}
 use lib.Seq.{getD-set-same, getD-set-other}
-use Rattle.rules.specs.Cut.{Standing, cascadingCut, cut, cutOut, cutWithin, marked, root, standing, unmarked}
+use Rattle.rules.specs.Cut.{NodeKind, cascadingCut, cut, cutOut, cutWithin, marked, root, nodeKind, unmarked}
 use Rattle.rules.specs.Forests.{Forests, childrenOf, heapOf, markOf, marks, none, parentOf, setMark}
 use Rattle.rules.specs.Lists.{delta, occurs, sumBy}
 use Rattle.rules.specs.WellFormed.{Disjoint}
@@ -16,12 +16,12 @@ use Rattle.rules.proofs.Excused.{Formed, FormedBut, OrderedBut, RankedB
 use Rattle.rules.proofs.Members.{heap-in, not-none, root-child}
 use Rattle.rules.proofs.Occurs.{byItem, delta-other, delta-self}
 use Rattle.rules.proofs.CutPotential.{cut-marks}
-use Rattle.rules.proofs.Standing.{
+use Rattle.rules.proofs.NodeKind.{
   marked-child,
-  standing-child,
-  standing-marked,
-  standing-root,
-  standing-unmarked,
+  nodeKind-child,
+  nodeKind-marked,
+  nodeKind-root,
+  nodeKind-unmarked,
   unmarked-child,
 }
 
@@ -60,7 +60,7 @@ module _ (s : Forests) (p h : ℕ) (S : Disjoint s) (hp : heapOf s p ≡ suc h) 
     up = S .up;
     free = byItem p (λ e. absurd (live e)) (λ y n. rw (getD-set-other (s .mark) p y) (S .free y));
     bit = byItem p (rw mark-p (le-refl 1)) (λ y n. rw (getD-set-other (s .mark) p y) (S .bit y));
-    bare = byItem p (λ e. absurd (c e)) (λ y n. rw (getD-set-other (s .mark) p y) (S .bare y));
+    rootsUnmarked = byItem p (λ e. absurd (c e)) (λ y n. rw (getD-set-other (s .mark) p y) (S .rootsUnmarked y));
   }
 
   mark-ranked : RankedBut (delta p) s → RankedBut exact (setMark p 1 s)
@@ -84,7 +84,7 @@ ranked-but s x K =
     λ q k. ranks-mono exact (delta x) (s .children) (s .children) (s .mark) (s .mark) 0 (childrenOf s q)
     (λ c _. omega arith) (K q k)
 
-pub cascade-formed : (d : ℕ) (f : Standing) (h p : ℕ) (s : Forests) → standing s p ≡ f → FormedBut none (delta p) s
+pub cascade-formed : (d : ℕ) (f : NodeKind) (h p : ℕ) (s : Forests) → nodeKind s p ≡ f → FormedBut none (delta p) s
     → heapOf s p ≡ suc h → marks s < d
     → Formed ((cascadingCut d f h p s) .forests)
 unfolding cascadingCut OrderedBut cut
@@ -94,11 +94,11 @@ cascade-formed (suc d) root h p s e S hp k =
       disjoint = S .disjoint;
       ordered = S .ordered;
       ranked = root-ranked s p (S .disjoint)
-          (standing-root s p e) (S .ranked);
+          (nodeKind-root s p e) (S .ranked);
     }
 cascade-formed (suc d) unmarked h p s e S hp k =
-    let n = standing-child s p unmarked unmarked-child e in
-    let m = standing-unmarked s p e in
+    let n = nodeKind-child s p unmarked unmarked-child e in
+    let m = nodeKind-unmarked s p e in
     record {
       disjoint = mark-disjoint s p h (S .disjoint) hp n m;
       ordered = S .ordered;
@@ -106,16 +106,16 @@ cascade-formed (suc d) unmarked h p s e S hp k =
           (S .disjoint) hp n m (S .ranked);
     }
 cascade-formed (suc d) marked h p s e S hp k =
-    let n = standing-child s p marked marked-child e in
+    let n = nodeKind-child s p marked marked-child e in
     let t : Forests = cut h p s in
-    cascade-formed d (standing t (parentOf s p)) h (parentOf s p) t refl
+    cascade-formed d (nodeKind t (parentOf s p)) h (parentOf s p) t refl
     (record {
       disjoint = cut-disjoint s (S .disjoint) h p hp n;
       ordered = cut-ordered s (S .disjoint) h p hp n
           (ordered-but s p (S .disjoint) (S .ordered));
       ranked = cut-ranked s (S .disjoint) h p hp n (S .ranked);
     })
-    (S .disjoint .up p (λ z. omega (arith, hp)) n .1 ∙ hp) (omega (arith, cut-marks h p s, standing-marked s p e))
+    (S .disjoint .up p (λ z. omega (arith, hp)) n .1 ∙ hp) (omega (arith, cut-marks h p s, nodeKind-marked s p e))
 
 sum-bits : (l : List ℕ) → ((i : ℕ) → getD l i 0 ≤ 1) → sumBy (λ m. m) l ≤ length l
 unfolding sumBy
@@ -131,7 +131,7 @@ pub cutOut-formed : (h x : ℕ) (s : Forests) → FormedBut x exact s → heapOf
 unfolding cutOut cutWithin cut
 cutOut-formed h x s S hx px =
     let t : Forests = cut h x s in
-    cascade-formed (suc (length (s .heap))) (standing t (parentOf s x)) h (parentOf s x) t refl
+    cascade-formed (suc (length (s .heap))) (nodeKind t (parentOf s x)) h (parentOf s x) t refl
     (record {
       disjoint = cut-disjoint s (S .disjoint) h x hx px;
       ordered = cut-ordered s (S .disjoint) h x hx px

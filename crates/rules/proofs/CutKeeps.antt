@@ -107,8 +107,8 @@ module _ (s : Forests) (S : Disjoint s) (h x : ℕ) (hx : heapOf s x ≡ suc h) 
     up = byItem x (λ l n. absurd (n parent-x)) (λ y n. rw (getD-set-other (s .parent) x y) (S .up y));
     free = byItem x (λ e. absurd (live e))
         (λ y n. rw (getD-set-other (s .parent) x y, getD-set-other (s .mark) x y) (S .free y));
-    bare = byItem x (λ e. mark-x)
-        (λ y n. rw (getD-set-other (s .parent) x y, getD-set-other (s .mark) x y) (S .bare y));
+    rootsUnmarked = byItem x (λ e. mark-x)
+        (λ y n. rw (getD-set-other (s .parent) x y, getD-set-other (s .mark) x y) (S .rootsUnmarked y));
     bit = byItem x (rw mark-x zero-le) (λ y n. rw (getD-set-other (s .mark) x y) (S .bit y));
   }
 

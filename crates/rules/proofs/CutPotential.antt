@@ -4,10 +4,10 @@ use mathlib.Core.Path.{_≡_, refl}
 use mathlib.Core.List.{List, [], _∷_, _++_}
 use native.Mathlib.Omega.{arith}
 use lib.ListN.{length, getD, set, length-append}
-use Rattle.rules.specs.Cut.{Standing, cascadingCut, cut, cutOut, cutWithin, marked, root, standing, unmarked}
+use Rattle.rules.specs.Cut.{NodeKind, cascadingCut, cut, cutOut, cutWithin, marked, root, nodeKind, unmarked}
 use Rattle.rules.specs.Forests.{Forests, markOf, marks, parentOf, potential, rowOf, setMark, tableSize, trees}
 use Rattle.rules.specs.Lists.{sumBy}
-use Rattle.rules.proofs.Standing.{standing-marked}
+use Rattle.rules.proofs.NodeKind.{nodeKind-marked}
 use Rattle.rules.proofs.Sums.{sumBy-set-le}
 
 -- a mark that is taken away
@@ -35,7 +35,7 @@ unfolding marks cut
 cut-marks h x s = clear (s .mark) x
 
 -- cuts that follow cost nothing: each takes a mark away. The last parent may be marked.
-cascade-potential : (d : ℕ) (f : Standing) (h p : ℕ) (s : Forests) → standing s p ≡ f
+cascade-potential : (d : ℕ) (f : NodeKind) (h p : ℕ) (s : Forests) → nodeKind s p ≡ f
     → (cascadingCut d f h p s) .cuts + potential ((cascadingCut d f h p s) .forests) ≤ potential s + 2
 unfolding cascadingCut
 cascade-potential zero f h p s e = omega arith
@@ -44,10 +44,10 @@ cascade-potential (suc d) unmarked h p s e = omega (arith, mark-potential p s)
 cascade-potential (suc d) marked h p s e =
     omega (
       arith,
-      standing-marked s p e,
+      nodeKind-marked s p e,
       cut-potential h p s,
       cascade-potential d
-          (standing (cut h p s) (parentOf s p)) h (parentOf s p) (cut h p s) refl,
+          (nodeKind (cut h p s) (parentOf s p)) h (parentOf s p) (cut h p s) refl,
     )
 
 pub cutOut-potential : (h x : ℕ) (s : Forests)
@@ -56,4 +56,4 @@ unfolding cutOut cutWithin
 cutOut-potential h x s =
     let t : Forests = cut h x s in
     let p : ℕ = parentOf s x in
-    omega (arith, cut-potential h x s, cascade-potential (suc (tableSize s)) (standing t p) h p t refl)
+    omega (arith, cut-potential h x s, cascade-potential (suc (tableSize s)) (nodeKind t p) h p t refl)

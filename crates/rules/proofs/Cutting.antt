@@ -6,7 +6,7 @@ use mathlib.Core.Bool.{Bool, true, false}
 use native.Mathlib.Omega.{arith}
 use lib.Seq.{getD-set-same}
 use Rattle.rules.specs.Cut.{
-  Standing,
+  NodeKind,
   cascadingCut,
   cut,
   cutIf,
@@ -14,7 +14,7 @@ use Rattle.rules.specs.Cut.{
   cutWithin,
   marked,
   root,
-  standing,
+  nodeKind,
   unmarked,
 }
 use Rattle.rules.specs.Forests.{Forests, heapOf, marks, none, parentOf, setMark, tableSize}
@@ -24,18 +24,18 @@ use Rattle.rules.proofs.SetAll.{keep}
 
 module _ (P : Forests → Type 0) (h : ℕ) (cuts : (x : ℕ) (t : Forests) → P t → P (cut h x t))
     (marks : (p : ℕ) (t : Forests) → P t → P (setMark p 1 t)) where
-  cascade-keeps : (d : ℕ) (st : Standing) (p : ℕ) (s : Forests) → P s → P ((cascadingCut d st h p s) .forests)
+  cascade-keeps : (d : ℕ) (st : NodeKind) (p : ℕ) (s : Forests) → P s → P ((cascadingCut d st h p s) .forests)
   unfolding cascadingCut
   cascade-keeps zero st p s k = k
   cascade-keeps (suc d) root p s k = k
   cascade-keeps (suc d) unmarked p s k = marks p s k
   cascade-keeps (suc d) marked p s k =
-      cascade-keeps d (standing (cut h p s) (parentOf s p)) (parentOf s p) (cut h p s) (cuts p s k)
+      cascade-keeps d (nodeKind (cut h p s) (parentOf s p)) (parentOf s p) (cut h p s) (cuts p s k)
 
   pub cutOut-keeps : (x : ℕ) (s : Forests) → P (cut h x s) → P ((cutOut h x s) .forests)
   unfolding cutOut cutWithin
   cutOut-keeps x s k =
-      cascade-keeps (suc (tableSize s)) (standing (cut h x s) (parentOf s x)) (parentOf s x) (cut h x s) k
+      cascade-keeps (suc (tableSize s)) (nodeKind (cut h x s) (parentOf s x)) (parentOf s x) (cut h x s) k
 
 -- cuts change neither heaps nor keys, and a root stays a root
 pub cutOut-heap : (h x : ℕ) (s : Forests) → (cutOut h x s) .forests .heap ≡ s .heap

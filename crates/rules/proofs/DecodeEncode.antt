@@ -20,7 +20,7 @@ use Rattle.rules.specs.Words.{
   headOr,
   listFrom,
   look,
-  room,
+  fieldSize,
   siblings,
   stateHeap,
   stateMark,
@@ -57,7 +57,7 @@ pub encodeLength : EncodeLength
 encodeLength = encode-length
 
 module _ (s : Forests) (D : Disjoint s) where
-  looks : (f : Field) (i : ℕ) → i < room (tableSize s) f → look (tableSize s) (encode s) f i ≡ word s f i
+  looks : (f : Field) (i : ℕ) → i < fieldSize (tableSize s) f → look (tableSize s) (encode s) f i ≡ word s f i
   unfolding encode
   looks f i h = look-wordsOf (tableSize s) (word s) f i h
 

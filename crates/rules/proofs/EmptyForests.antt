@@ -30,7 +30,7 @@ emptyWellFormed n k = record {
     up = λ x l. absurd (l (getD-all n x 0));
     free = λ x _. (getD-all n x 0, getD-all n x 0, getD-all n x 0);
     bit = λ x. rw (getD-all n x) zero-le;
-    bare = λ x _. getD-all n x 0;
+    rootsUnmarked = λ x _. getD-all n x 0;
   };
   ordered = λ x l. absurd (l (getD-all n x 0));
   ranked = λ p _. rw (getD-all n p) tt;

@@ -84,7 +84,7 @@ module _ (s : Forests) (S : Disjoint s) (h i k : ℕ) (hh : h < 8) (i-in : i < l
     free = byItem i (λ e. absurd (omega (arith, heap-i, e)))
         (λ y n. rw (heap-o y n, parent-o y n, getD-set-other (s .key) i y) (S .free y));
     bit = S .bit;
-    bare = byItem i (λ e. S .free i fr .2) (λ y n. rw (parent-o y n) (S .bare y));
+    rootsUnmarked = byItem i (λ e. S .free i fr .2) (λ y n. rw (parent-o y n) (S .rootsUnmarked y));
   }
 
   insert-ordered : OrderedBut none s → OrderedBut none (insert h i k s)

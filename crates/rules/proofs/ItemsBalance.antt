@@ -18,7 +18,7 @@ use Rattle.rules.specs.Forests.{Forests, count, heapNumber, heapOf, item
 use Rattle.rules.specs.Ledger.{ifDone}
 use Rattle.rules.specs.Lists.{delta, sumBy, sumTo}
 use Rattle.rules.specs.Order.{minimum}
-use Rattle.rules.specs.Theorems.{ItemsBalance, inserted, removed, total}
+use Rattle.rules.specs.Theorems.{ItemsBalance, itemsInserted, itemsRemoved, total}
 use Rattle.rules.specs.WellFormed.{Disjoint}
 use Rattle.rules.proofs.CallsKeep.{answer-kept, perform-kept}
 use Rattle.rules.proofs.Counts.{in-free, in-heap, inHeap}
@@ -89,12 +89,12 @@ meld-live s a b = sumBy-map live (moveHeap a b) (s .heap) ∙ all (s .heap)
     all (v ∷ l) = omega (arith, each v, all l)
 
 perform-items : (s : Forests) → Formed s → (c : Call) → refusal s c ≡ 0
-    → items ((perform s c) .next) + removed c ≡ items s + inserted c
-unfolding perform removed inserted delete insert meld
+    → items ((perform s c) .next) + itemsRemoved c ≡ items s + itemsInserted c
+unfolding perform itemsRemoved itemsInserted delete insert meld
 perform-items s S c e = go c e (S .disjoint) (perform-kept s S c e .formed .disjoint)
   where
     go : (c : Call) → refusal s c ≡ 0 → Disjoint s → Disjoint ((perform s c) .next)
-        → items ((perform s c) .next) + removed c ≡ items s + inserted c
+        → items ((perform s c) .next) + itemsRemoved c ≡ items s + itemsInserted c
     go (Insert h i k) e D T = let o =
         insert-ok s h i k e in omega (arith, items-entered s (insert h i k s) h i D T (o .1) (o .2) refl)
     go (FindMin h) e D T = omega arith
@@ -110,18 +110,18 @@ perform-items s S c e = go c e (S .disjoint) (perform-kept s S c e .formed .disj
     go (Meld a b) e D T = omega (arith, items-same s (meld a b s) D T (meld-live s a b))
 
 answer-items : (s : Forests) → Formed s → (l : Line)
-    → items ((answer s l) .next) + ifDone removed s l ≡ items s + ifDone inserted s l
+    → items ((answer s l) .next) + ifDone itemsRemoved s l ≡ items s + ifDone itemsInserted s l
 unfolding answer unlessRefused refused ifDone
 answer-items s S NoCall = omega arith
 answer-items s S (Yields c) = go (refusal s c) refl
   where
     go : (r : ℕ) → refusal s c ≡ r
-        → items ((unlessRefused r s c) .next) + cond (eqb r 0) (removed c) 0 ≡ items s + cond (eqb r 0) (inserted c) 0
+        → items ((unlessRefused r s c) .next) + cond (eqb r 0) (itemsRemoved c) 0 ≡ items s + cond (eqb r 0) (itemsInserted c) 0
     go zero e = perform-items s S c e
     go (suc r) e = rw (ne-eqb (suc r) 0 (λ z. omega arith)) (omega arith)
 
 all-items : (s : Forests) → Formed s → (ls : List Line)
-    → items (after s ls) + total removed s ls ≡ items s + total inserted s ls
+    → items (after s ls) + total itemsRemoved s ls ≡ items s + total itemsInserted s ls
 unfolding after total
 all-items s S [] = omega arith
 all-items s S (l ∷ ls) =

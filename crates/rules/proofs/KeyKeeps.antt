@@ -32,7 +32,7 @@ module _ (s : Forests) (S : Disjoint s) (i k : ℕ) (li : heapOf s i ≢ 0) (low
     up = S .up;
     free = byItem i (λ e. absurd (li e)) (λ y n. rw (getD-set-other (s .key) i y) (S .free y));
     bit = S .bit;
-    bare = S .bare;
+    rootsUnmarked = S .rootsUnmarked;
   }
 
   key-ordered : OrderedBut none s → OrderedBut i (setKey i k s)

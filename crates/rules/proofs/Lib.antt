@@ -12,7 +12,7 @@ pub mod Fibonacci
 pub mod RankBound
 pub mod RankSixteen
 pub mod Cutting
-pub mod Standing
+pub mod NodeKind
 pub mod CutPotential
 pub mod CutKeeps
 pub mod CascadeKeeps

@@ -44,7 +44,7 @@ re-disjoint s h r S hh e = record {
   up = S .up;
   free = S .free;
   bit = S .bit;
-  bare = S .bare;
+  rootsUnmarked = S .rootsUnmarked;
 }
 
 pub re-row : (s : Forests) (h : ℕ) (r : List ℕ) → Formed s → h < 8 → ((z : ℕ) → occurs z r ≡ occurs z (rowOf s h))
@@ -154,7 +154,7 @@ module _ (s : Forests) (h : ℕ) (ρ : List ℕ) (S : Formed (setRow h ρ s)) (h
       free = byItem l (λ e. absurd (omega (arith, e, in-row l il .0)))
           (λ y n. rw (parent-o y n, getD-set-other (s .mark) l y) (S .disjoint .free y));
       bit = byItem l (rw mark-l zero-le) (λ y n. rw (getD-set-other (s .mark) l y) (S .disjoint .bit y));
-      bare = byItem l (λ _. mark-l) (λ y n. rw (parent-o y n, getD-set-other (s .mark) l y) (S .disjoint .bare y));
+      rootsUnmarked = byItem l (λ _. mark-l) (λ y n. rw (parent-o y n, getD-set-other (s .mark) l y) (S .disjoint .rootsUnmarked y));
     }
 
     link-ordered : OrderedBut none (setRow h r (link a l s))

@@ -94,7 +94,7 @@ module _ (s : Forests) (S : Disjoint s) (a b : ℕ) (aa : a < 8) (bb : b < 8) (a
         (λ l m. let u = S .up y (λ e. l (stays y e)) m in (u .0, heap-t (parentOf s y) ∙ ap (moveHeap a b) (u .1)));
     free = λ y. rw (heap-t y) (λ e. S .free y (move-back a b (heapOf s y) e));
     bit = S .bit;
-    bare = S .bare;
+    rootsUnmarked = S .rootsUnmarked;
   }
 
   pub meld-formed : OrderedBut none s → RankedBut exact s → Formed (meld a b s)

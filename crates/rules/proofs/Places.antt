@@ -27,7 +27,7 @@ use Rattle.rules.specs.declared.Field.the-variants.{
 }
 use Rattle.rules.specs.Lists.{tabulateFrom, tabulate}
 use Rattle.rules.specs.SetWord.{fieldNumber}
-use Rattle.rules.specs.Words.{storeSize, room, at, fields}
+use Rattle.rules.specs.Words.{storeSize, fieldSize, at, fields}
 use Rattle.rules.proofs.Tabulate.{getD-tabulate}
 
 pub field-number : (f : Field) → getD fields (fieldNumber f) State ≡ f
@@ -57,8 +57,8 @@ number-onto k h =
 
 -- where a kind lies: among the words of the heaps, or as a column of words of the items
 data Lies (n : ℕ) (f : Field) : Type 0 where
-  ofHeaps : fieldNumber f < 4 → room n f ≡ 8 → ((i : ℕ) → at n f i ≡ 4 * i + fieldNumber f) → Lies n f
-  ofItems : (c : ℕ) → fieldNumber f ≡ 4 + c → c < 8 → room n f ≡ n → ((i : ℕ) → at n f i ≡ 32 + (c * n + i)) → Lies n f
+  ofHeaps : fieldNumber f < 4 → fieldSize n f ≡ 8 → ((i : ℕ) → at n f i ≡ 4 * i + fieldNumber f) → Lies n f
+  ofItems : (c : ℕ) → fieldNumber f ≡ 4 + c → c < 8 → fieldSize n f ≡ n → ((i : ℕ) → at n f i ≡ 32 + (c * n + i)) → Lies n f
 
 lies : (n : ℕ) (f : Field) → Lies n f
 lies n FirstTree = ofHeaps (omega arith) refl (λ i. omega arith)
@@ -81,14 +81,14 @@ number-bound f = go (lies 0 f)
     go (ofHeaps a r e) = omega arith
     go (ofItems c a b r e) = omega arith
 
-pub room-small : (n : ℕ) (f : Field) → n ≤ 4096 → room n f ≤ 4096
-room-small n f h = go (lies n f)
+pub fieldSize-small : (n : ℕ) (f : Field) → n ≤ 4096 → fieldSize n f ≤ 4096
+fieldSize-small n f h = go (lies n f)
   where
-    go : Lies n f → room n f ≤ 4096
+    go : Lies n f → fieldSize n f ≤ 4096
     go (ofHeaps a r e) = omega arith
     go (ofItems c a b r e) = omega arith
 
-pub at-bound : (n : ℕ) (f : Field) (i : ℕ) → i < room n f → at n f i < storeSize n
+pub at-bound : (n : ℕ) (f : Field) (i : ℕ) → i < fieldSize n f → at n f i < storeSize n
 unfolding storeSize
 at-bound n f i h = go (lies n f)
   where
@@ -99,7 +99,7 @@ at-bound n f i h = go (lies n f)
         omega (arith, e i, digits-lt {q = c} {m = 8} {r = i} {c = n} b k)
 
 -- two places are one only where kind and number are
-one-place : (n : ℕ) (f g : Field) (i j : ℕ) → Lies n f → Lies n g → i < room n f → j < room n g → at n f i ≡ at n g j
+one-place : (n : ℕ) (f g : Field) (i j : ℕ) → Lies n f → Lies n g → i < fieldSize n f → j < fieldSize n g → at n f i ≡ at n g j
     → (fieldNumber f ≡ fieldNumber g) × (i ≡ j)
 one-place n f g i j (ofHeaps a r e) (ofHeaps a′ r′ e′) hi hj h = omega (arith, e i, e′ j)
 one-place n f g i j (ofHeaps a r e) (ofItems c p q r′ e′) hi hj h = absurd (omega (arith, e i, e′ j))
@@ -112,7 +112,7 @@ one-place n f g i j (ofItems c p q r e) (ofItems d p′ q′ r′ e′) hi hj h 
     let w : c * n ≡ d * n = ap (λ (x : ℕ). x * n) v in
     (omega arith, omega arith)
 
-pub at-injective : (n : ℕ) (f g : Field) (i j : ℕ) → i < room n f → j < room n g → at n f i ≡ at n g j
+pub at-injective : (n : ℕ) (f g : Field) (i j : ℕ) → i < fieldSize n f → j < fieldSize n g → at n f i ≡ at n g j
     → (f ≡ g) × (i ≡ j)
 at-injective n f g i j hi hj h =
     let b = one-place n f g i j (lies n f) (lies n g) hi hj h in
@@ -122,7 +122,7 @@ at-injective n f g i j hi hj h =
 pub record Place (n p : ℕ) : Type 0 where
   pub field : Field
   pub index : ℕ
-  pub inside : index < room n field
+  pub inside : index < fieldSize n field
   pub there : at n field index ≡ p
 
 of-heaps : (n p : ℕ) → p < 32 → Place n p

@@ -113,10 +113,10 @@ pub rankSixteen : RankSixteen
 rankSixteen s S x = go (heapOf s x) refl
   where
     go : (v : ℕ) → heapOf s x ≡ v → rankOf s x ≤ 16
-    go zero e = rw (bare (ltb x (tableSize s)) refl e) zero-le
+    go zero e = rw (childless (ltb x (tableSize s)) refl e) zero-le
       where
-        bare : (t : Bool) → ltb x (tableSize s) ≡ t → heapOf s x ≡ 0 → childrenOf s x ≡ []
-        bare true q e = free-children s (S .disjoint) x (ltb-true _ _ q) e
-        bare false q e =
+        childless : (t : Bool) → ltb x (tableSize s) ≡ t → heapOf s x ≡ 0 → childrenOf s x ≡ []
+        childless true q e = free-children s (S .disjoint) x (ltb-true _ _ q) e
+        childless false q e =
             List·getD-eq-default (s .children) [] (omega (arith, S .disjoint .childrenN, ltb-false x (tableSize s) q))
     go (suc h) e = omega (arith, any-rank s (to-formed s S) h x e, R-sixteen s (S .disjoint) h)

@@ -171,8 +171,8 @@ module _ (s : Forests) (S : Disjoint s) (h x : ℕ) (hx : heapOf s x ≡ suc h) 
         (λ y n k. rw (heap-o y n, parent-o y n k, mark-o y n k, getD-set-other (s .key) x y) (S .free y));
     bit = byChild (rw mark-x zero-le) (λ y n k e u. rw (mark-children y n k e) zero-le)
         (λ y n k. rw (mark-o y n k) (S .bit y));
-    bare = byChild (λ _. mark-x) (λ y n k e u _. mark-children y n k e)
-        (λ y n k. rw (mark-o y n k, parent-o y n k) (S .bare y));
+    rootsUnmarked = byChild (λ _. mark-x) (λ y n k e u _. mark-children y n k e)
+        (λ y n k. rw (mark-o y n k, parent-o y n k) (S .rootsUnmarked y));
   }
 
   pub remove-ordered : OrderedBut none s → OrderedBut none (removeRoot h x s)

@@ -12,7 +12,7 @@ use borrow.Author.Tests.{eqb-true, eqb-false, eq-eqb}
 use Rattle.rules.specs.declared.Field.{Field}
 use Rattle.rules.specs.declared.Field.the-variants.{State}
 use Rattle.rules.specs.SetWord.{fieldNumber, setWord}
-use Rattle.rules.specs.Words.{storeSize, room, at, look, fields, storeField, storeFields, wordsOf}
+use Rattle.rules.specs.Words.{storeSize, fieldSize, at, look, fields, storeField, storeFields, wordsOf}
 use Rattle.rules.proofs.Places.{
   field-number,
   number-bound,
@@ -59,8 +59,8 @@ setWord-own v f i g j = go (same-word f g i j)
     go (other h) = setWord-other v f i (v f i) g j h
 
 -- The law of one store: that word has the new value, all others are as before.
-pub look-set : (n : ℕ) (w : List ℕ) (f : Field) (i x : ℕ) (g : Field) (j : ℕ) → length w ≡ storeSize n → i < room n f
-    → j < room n g → look n (set w (at n f i) x) g j ≡ setWord f i x (look n w) g j
+pub look-set : (n : ℕ) (w : List ℕ) (f : Field) (i x : ℕ) (g : Field) (j : ℕ) → length w ≡ storeSize n → i < fieldSize n f
+    → j < fieldSize n g → look n (set w (at n f i) x) g j ≡ setWord f i x (look n w) g j
 look-set n w f i x g j l hi hj = go (same-word f g i j)
   where
     go : Same f g i j → look n (set w (at n f i) x) g j ≡ setWord f i x (look n w) g j
@@ -86,7 +86,7 @@ length-storeFields : (n : ℕ) (v : Field → ℕ → ℕ) (fs : List Field) (w 
 unfolding storeFields
 length-storeFields n v [] w = refl
 length-storeFields n v (f ∷ fs) w =
-    length-storeFields n v fs (storeField n v f (room n f) w) ∙ length-storeField n v f (room n f) w
+    length-storeFields n v fs (storeField n v f (fieldSize n f) w) ∙ length-storeField n v f (fieldSize n f) w
 
 pub length-wordsOf : (n : ℕ) (v : Field → ℕ → ℕ) → length (wordsOf n v) ≡ storeSize n
 unfolding wordsOf
@@ -98,7 +98,7 @@ Agrees n v w g j = look n w g j ≡ v g j
 
 -- A store of the value that v has: its own word agrees then, and what agreed before still does.
 set-keeps : (n : ℕ) (v : Field → ℕ → ℕ) (w : List ℕ) (f : Field) (i : ℕ) (g : Field) (j : ℕ) → length w ≡ storeSize n
-    → i < room n f → j < room n g → Agrees n v w g j → Agrees n v (set w (at n f i) (v f i)) g j
+    → i < fieldSize n f → j < fieldSize n g → Agrees n v w g j → Agrees n v (set w (at n f i) (v f i)) g j
 set-keeps n v w f i g j l hi hj a = look-set n w f i (v f i) g j l hi hj ∙ go (same-word f g i j)
   where
     go : Same f g i j → setWord f i (v f i) (look n w) g j ≡ v g j
@@ -106,15 +106,15 @@ set-keeps n v w f i g j l hi hj a = look-set n w f i (v f i) g j l hi hj ∙ go 
     go (other h) = setWord-other (look n w) f i (v f i) g j h ∙ a
 
 module _ (n : ℕ) (v : Field → ℕ → ℕ) where
-  field-keeps : (f : Field) (k : ℕ) (w : List ℕ) (g : Field) (j : ℕ) → length w ≡ storeSize n → k ≤ room n f
-      → j < room n g → Agrees n v w g j → Agrees n v (storeField n v f k w) g j
+  field-keeps : (f : Field) (k : ℕ) (w : List ℕ) (g : Field) (j : ℕ) → length w ≡ storeSize n → k ≤ fieldSize n f
+      → j < fieldSize n g → Agrees n v w g j → Agrees n v (storeField n v f k w) g j
   unfolding storeField
   field-keeps f zero w g j l hk hj a = a
   field-keeps f (suc k) w g j l hk hj a =
       set-keeps n v (storeField n v f k w) f k g j (length-storeField n v f k w ∙ l) (omega arith) hj
       (field-keeps f k w g j l (omega arith) hj a)
 
-  field-says : (f : Field) (k : ℕ) (w : List ℕ) (j : ℕ) → length w ≡ storeSize n → k ≤ room n f → j < k
+  field-says : (f : Field) (k : ℕ) (w : List ℕ) (j : ℕ) → length w ≡ storeSize n → k ≤ fieldSize n f → j < k
       → Agrees n v (storeField n v f k w) f j
   unfolding storeField
   field-says f zero w j l hk hj = absurd (omega arith)
@@ -132,26 +132,26 @@ module _ (n : ℕ) (v : Field → ℕ → ℕ) where
           let d : j ≢ k = eqb-false j k e in
           set-keeps n v (storeField n v f k w) f k f j m (omega arith) (omega arith) (ih (omega arith))
 
-  fields-keep : (fs : List Field) (w : List ℕ) (g : Field) (j : ℕ) → length w ≡ storeSize n → j < room n g
+  fields-keep : (fs : List Field) (w : List ℕ) (g : Field) (j : ℕ) → length w ≡ storeSize n → j < fieldSize n g
       → Agrees n v w g j → Agrees n v (storeFields n v fs w) g j
   unfolding storeFields
   fields-keep [] w g j l hj a = a
   fields-keep (f ∷ fs) w g j l hj a =
-      fields-keep fs (storeField n v f (room n f) w) g j (length-storeField n v f (room n f) w ∙ l) hj
-      (field-keeps f (room n f) w g j l (omega arith) hj a)
+      fields-keep fs (storeField n v f (fieldSize n f) w) g j (length-storeField n v f (fieldSize n f) w ∙ l) hj
+      (field-keeps f (fieldSize n f) w g j l (omega arith) hj a)
 
   fields-say : (fs : List Field) (w : List ℕ) (k : ℕ) (j : ℕ) → length w ≡ storeSize n → k < length fs
-      → j < room n (getD fs k State) → Agrees n v (storeFields n v fs w) (getD fs k State) j
+      → j < fieldSize n (getD fs k State) → Agrees n v (storeFields n v fs w) (getD fs k State) j
   unfolding storeFields
   fields-say [] w k j l h hj = absurd (omega arith)
   fields-say (f ∷ fs) w zero j l h hj =
-      fields-keep fs (storeField n v f (room n f) w) f j (length-storeField n v f (room n f) w ∙ l) hj
-      (field-says f (room n f) w j l (omega arith) hj)
+      fields-keep fs (storeField n v f (fieldSize n f) w) f j (length-storeField n v f (fieldSize n f) w ∙ l) hj
+      (field-says f (fieldSize n f) w j l (omega arith) hj)
   fields-say (f ∷ fs) w (suc k) j l h hj =
-      fields-say fs (storeField n v f (room n f) w) k j (length-storeField n v f (room n f) w ∙ l) (omega arith) hj
+      fields-say fs (storeField n v f (fieldSize n f) w) k j (length-storeField n v f (fieldSize n f) w ∙ l) (omega arith) hj
 
   -- the words of v say v
-  pub look-wordsOf : (f : Field) (i : ℕ) → i < room n f → look n (wordsOf n v) f i ≡ v f i
+  pub look-wordsOf : (f : Field) (i : ℕ) → i < fieldSize n f → look n (wordsOf n v) f i ≡ v f i
   unfolding wordsOf
   look-wordsOf f i h =
       let e = field-number f in
@@ -160,7 +160,7 @@ module _ (n : ℕ) (v : Field → ℕ → ℕ) where
       (number-bound f) (rw e h))
 
   -- and no other words do
-  pub words-equal : (w : List ℕ) → length w ≡ storeSize n → ((f : Field) (i : ℕ) → i < room n f → look n w f i ≡ v f i)
+  pub words-equal : (w : List ℕ) → length w ≡ storeSize n → ((f : Field) (i : ℕ) → i < fieldSize n f → look n w f i ≡ v f i)
       → w ≡ wordsOf n v
   words-equal w l h = ext-getD 0 w (wordsOf n v) (l ∙ sym (length-wordsOf n v)) (λ p k.
       let b : Place n p = at-onto n p (omega arith) in

@@ -25,9 +25,9 @@ pub record Seen : Type 0 where
   pub moved : ℕ
   pub may : ℕ
 
-unfoldable pub lastOf : Answer → List Answer → Answer
-lastOf a [] = a
-lastOf a (b ∷ bs) = lastOf b bs
+unfoldable pub lastAnswer : Answer → List Answer → Answer
+lastAnswer a [] = a
+lastAnswer a (b ∷ bs) = lastAnswer b bs
 
 unfoldable pub familiesFrom : ℕ → List (List ℕ) → List (ℕ × List ℕ)
 familiesFrom i [] = []
@@ -55,7 +55,7 @@ sees last row families marked left moved may =
 unfoldable pub seen : List Line → Seen
 seen ls =
     let s = after (empty 9) ls in
-    sees (lastOf (reply 0 0 0 0 0) (answers (empty 9) ls)) (rowOf s 0) (familiesFrom 0 (s .children))
+    sees (lastAnswer (reply 0 0 0 0 0) (answers (empty 9) ls)) (rowOf s 0) (familiesFrom 0 (s .children))
     (markedFrom 0 (s .mark)) (potential s) (moves (empty 9) ls) (allowed (empty 9) ls)
 
 -- A row of the table: R at n is k, or a run and what is seen after it.

@@ -25,13 +25,13 @@ cut h x s =
     setRow h (rowOf s h ++ (x ∷ [])) (setMark x 0 (setParent x none (setChildren p (without x (childrenOf s p)) s)))
 
 -- What a parent that lost a child is.
-pub data Standing : Type 0 where
-  root : Standing
-  unmarked : Standing
-  marked : Standing
+pub data NodeKind : Type 0 where
+  root : NodeKind
+  unmarked : NodeKind
+  marked : NodeKind
 
-unfoldable pub standing : Forests → ℕ → Standing
-standing s p = cond (eqb (parentOf s p) none) root (cond (eqb (markOf s p) 0) unmarked marked)
+unfoldable pub nodeKind : Forests → ℕ → NodeKind
+nodeKind s p = cond (eqb (parentOf s p) none) root (cond (eqb (markOf s p) 0) unmarked marked)
 
 -- the cuts made, and the forests they leave
 pub record Cuts : Type 0 where
@@ -40,14 +40,14 @@ pub record Cuts : Type 0 where
 
 -- The item p lost a child: a root stays as it is, an unmarked child is marked, a marked one is cut likewise.
 -- The first argument bounds the cuts; `CascadeBound` says that it changes nothing.
-unfoldable pub cascadingCut : ℕ → Standing → ℕ → ℕ → Forests → Cuts
+unfoldable pub cascadingCut : ℕ → NodeKind → ℕ → ℕ → Forests → Cuts
 cascadingCut zero st h p s = record { cuts = 0; forests = s }
 cascadingCut (suc d) root h p s = record { cuts = 0; forests = s }
 cascadingCut (suc d) unmarked h p s = record { cuts = 0; forests = setMark p 1 s }
 cascadingCut (suc d) marked h p s =
     let t = cut h p s in
     let q = parentOf s p in
-    let c = cascadingCut d (standing t q) h q t in
+    let c = cascadingCut d (nodeKind t q) h q t in
     record { cuts = suc (c .cuts); forests = c .forests }
 
 -- x is cut, and its parent is then treated as one that lost a child.
@@ -55,7 +55,7 @@ unfoldable pub cutWithin : ℕ → ℕ → ℕ → Forests → Cuts
 cutWithin d h x s =
     let t = cut h x s in
     let p = parentOf s x in
-    let c = cascadingCut d (standing t p) h p t in
+    let c = cascadingCut d (nodeKind t p) h p t in
     record { cuts = suc (c .cuts); forests = c .forests }
 
 unfoldable pub cutOut : ℕ → ℕ → Forests → Cuts

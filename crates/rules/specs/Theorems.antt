@@ -103,21 +103,21 @@ MinimumUnique =
     (s : Forests) → WellFormed s → (h m : ℕ) → IsMinimum s h m → minimum s h ≡ m
 
 -- The items in all heaps are those at the start and those inserted, less those taken and deleted.
-unfoldable pub inserted : Call → ℕ
-inserted (Insert h i k) = 1
-inserted (FindMin h) = 0
-inserted (ExtractMin h) = 0
-inserted (DecreaseKey i k) = 0
-inserted (Delete i) = 0
-inserted (Meld a b) = 0
+unfoldable pub itemsInserted : Call → ℕ
+itemsInserted (Insert h i k) = 1
+itemsInserted (FindMin h) = 0
+itemsInserted (ExtractMin h) = 0
+itemsInserted (DecreaseKey i k) = 0
+itemsInserted (Delete i) = 0
+itemsInserted (Meld a b) = 0
 
-unfoldable pub removed : Call → ℕ
-removed (Insert h i k) = 0
-removed (FindMin h) = 0
-removed (ExtractMin h) = 1
-removed (DecreaseKey i k) = 0
-removed (Delete i) = 1
-removed (Meld a b) = 0
+unfoldable pub itemsRemoved : Call → ℕ
+itemsRemoved (Insert h i k) = 0
+itemsRemoved (FindMin h) = 0
+itemsRemoved (ExtractMin h) = 1
+itemsRemoved (DecreaseKey i k) = 0
+itemsRemoved (Delete i) = 1
+itemsRemoved (Meld a b) = 0
 
 unfoldable pub total : (Call → ℕ) → Forests → List Line → ℕ
 total f s [] = 0
@@ -126,7 +126,7 @@ total f s (l ∷ ls) = ifDone f s l + total f ((answer s l) .next) ls
 abbrev pub ItemsBalance : Type 0
 ItemsBalance =
     (s : Forests) → WellFormed s → (ls : List Line)
-    → items (after s ls) + total removed s ls ≡ items s + total inserted s ls
+    → items (after s ls) + total itemsRemoved s ls ≡ items s + total itemsInserted s ls
 
 -- The words settle the forests.
 abbrev pub EncodeLength : Type 0

@@ -44,7 +44,7 @@ pub record Disjoint (s : Forests) : Type 0 where
   pub free : (x : ℕ) → heapOf s x ≡ 0 → (keyOf s x ≡ 0) × (parentOf s x ≡ 0) × (markOf s x ≡ 0)
   pub bit : (x : ℕ) → markOf s x ≤ 1
   -- no root is marked
-  pub bare : (x : ℕ) → parentOf s x ≡ none → markOf s x ≡ 0
+  pub rootsUnmarked : (x : ℕ) → parentOf s x ≡ none → markOf s x ≡ 0
 
 -- Each parent comes before its child. (Only that no child comes before its parent would let an item be its own.)
 unfoldable pub HeapOrdered : Forests → Type 0

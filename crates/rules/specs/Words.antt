@@ -54,19 +54,19 @@ unfoldable pub isStore : List ℕ → Bool
 isStore w = eqb (length w) (storeSize (itemsIn w)) && leb (itemsIn w) 4096
 
 -- how many words of a kind there are: one for each heap, or one for each item
-abbrev pub room : ℕ → Field → ℕ
-room n FirstTree = 8
-room n LastTree = 8
-room n Minimum = 8
-room n Count = 8
-room n Key = n
-room n Parent = n
-room n FirstChild = n
-room n LastChild = n
-room n Next = n
-room n Prev = n
-room n Rank = n
-room n State = n
+abbrev pub fieldSize : ℕ → Field → ℕ
+fieldSize n FirstTree = 8
+fieldSize n LastTree = 8
+fieldSize n Minimum = 8
+fieldSize n Count = 8
+fieldSize n Key = n
+fieldSize n Parent = n
+fieldSize n FirstChild = n
+fieldSize n LastChild = n
+fieldSize n Next = n
+fieldSize n Prev = n
+fieldSize n Rank = n
+fieldSize n State = n
 
 -- the place of word i of a kind
 abbrev pub at : ℕ → Field → ℕ → ℕ
@@ -154,7 +154,7 @@ storeField n v f (suc k) w = set (storeField n v f k w) (at n f k) (v f k)
 
 unfoldable pub storeFields : ℕ → (Field → ℕ → ℕ) → List Field → List ℕ → List ℕ
 storeFields n v [] w = w
-storeFields n v (f ∷ fs) w = storeFields n v fs (storeField n v f (room n f) w)
+storeFields n v (f ∷ fs) w = storeFields n v fs (storeField n v f (fieldSize n f) w)
 
 -- the words that say v: v f i at the place of word i of kind f
 unfoldable pub wordsOf : ℕ → (Field → ℕ → ℕ) → List ℕ

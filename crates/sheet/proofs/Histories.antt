@@ -17,7 +17,7 @@ use Rattle.lines.specs.Parse.{linesOf}
 use Rattle.lines.specs.Print.{printed}
 use Rattle.lines.proofs.InRange.{lines-range}
 use Rattle.lines.proofs.Printed.{printed-after}
-use Rattle.sheet.specs.Histories.{historyLines, linesIf, shown, storeAfter}
+use Rattle.sheet.specs.Histories.{historyLines, linesIf, writtenBy, storeAfter}
 use Rattle.sheet.specs.Runs.{Run, doneRun, keptRun, limitCode, refusedRun, unlessLimit}
 use Rattle.sheet.specs.Theorems.{FreshIsKept, HistoryLedger, HistoryOneList}
 use Rattle.sheet.proofs.Accepted.{sound-accepted}
@@ -96,7 +96,7 @@ module _ (store : List ℕ) (S : Sound store) (run : Run) (first : List Line) (K
     shown-both = rw (next-forests, K .shows) (sym (printed-after s first rest))
 
 pub historyOneList : HistoryOneList
-unfolding storeAfter shown historyLines after answers printed
+unfolding storeAfter writtenBy historyLines after answers printed
 historyOneList store S [] = record { sound = S; words = sound-words store S; forests = refl; answers = refl }
 historyOneList store S (l ∷ runs) =
     let run : Run = keptRun store (l .sheet) (l .out) in

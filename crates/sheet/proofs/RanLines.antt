@@ -13,7 +13,7 @@ use Rattle.rules.proofs.ReplyBounds.{answer-small}
 use Rattle.rules.proofs.SoundWords.{sound-forests, sound-words}
 use Rattle.text.specs.Output.{Wrote}
 use Rattle.text.proofs.Wrote.{wrote-length, wrote-none, wrote-then}
-use Rattle.lines.specs.declared.reader.Next.the-variants.{Found, NoMore}
+use Rattle.lines.specs.declared.reader.NextLine.the-variants.{Found, NoMore}
 use Rattle.lines.specs.LineAt.{lineAt}
 use Rattle.lines.specs.Parse.{linesOf}
 use Rattle.lines.specs.Print.{answerRow, printed}
@@ -28,7 +28,7 @@ pub record Going (w₀ sheet out₀ w out : List ℕ) (at to : ℕ) : Type 0 whe
   pub done : List ℕ
   pub wrote : Wrote out₀ 0 done out to
   pub forests : after (forestsOf w₀) (linesOf sheet) ≡ after (forestsOf w) (linesOf (drop at sheet))
-  pub shown : printed (answers (forestsOf w₀) (linesOf sheet))
+  pub writtenBy : printed (answers (forestsOf w₀) (linesOf sheet))
       ≡ done ++ printed (answers (forestsOf w) (linesOf (drop at sheet)))
   pub room : to + 32 * length (linesOf (drop at sheet)) ≤ length out₀
   pub same-length : length w ≡ length w₀
@@ -40,7 +40,7 @@ none-done {w} {sheet} {out} R =
       done = [];
       wrote = wrote-none out 0;
       forests = refl;
-      shown = refl;
+      writtenBy = refl;
       room = omega (arith, R .room, lines-length sheet);
       same-length = refl;
     }
@@ -75,7 +75,7 @@ module _ {w₀ sheet out₀ w out : List ℕ} {at to : ℕ} (G : Going w₀ shee
         done = G .done ++ answerRow ((answer s l) .reply);
         wrote = wrote-then (G .wrote) (A .wrote);
         forests = G .forests ∙ rw (F .rest, t);
-        shown = G .shown ∙ rw (F .rest, t, append-assoc);
+        writtenBy = G .writtenBy ∙ rw (F .rest, t, append-assoc);
         room = omega (arith, G .room, A .wrote .next, short, ap length (F .rest));
         same-length = k ∙ G .same-length;
       }
@@ -87,5 +87,5 @@ unfolding after answers printed
 all-done {w₀} {sheet} {out₀} {w} {out} {at} {to} G q =
     let e : linesOf (drop at sheet) ≡ [] = no-line sheet at q in
     let f : after (forestsOf w₀) (linesOf sheet) ≡ forestsOf w = G .forests ∙ rw e in
-    let p : printed (answers (forestsOf w₀) (linesOf sheet)) ≡ G .done = G .shown ∙ rw (e, append-nil) in
+    let p : printed (answers (forestsOf w₀) (linesOf sheet)) ≡ G .done = G .writtenBy ∙ rw (e, append-nil) in
     record { words = sound-words w (G .sound) ∙ ap encode (sym f); wrote = rw p (G .wrote) }

@@ -17,11 +17,11 @@ storeAfter store [] = store
 storeAfter store (l ∷ ls) = storeAfter ((keptRun store (l .sheet) (l .out)) .store) ls
 
 -- all that the runs wrote
-unfoldable pub shown : List ℕ → List Lent → List ℕ
-shown store [] = []
-shown store (l ∷ ls) =
+unfoldable pub writtenBy : List ℕ → List Lent → List ℕ
+writtenBy store [] = []
+writtenBy store (l ∷ ls) =
     let r = keptRun store (l .sheet) (l .out) in
-    take (r .bytes) (r .out) ++ shown (r .store) ls
+    take (r .bytes) (r .out) ++ writtenBy (r .store) ls
 
 -- the lines of a run that was done; a refused run has none
 unfoldable pub linesIf : ℕ → List ℕ → List Line

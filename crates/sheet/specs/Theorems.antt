@@ -12,7 +12,7 @@ use Rattle.rules.specs.Words.{Sound, encode, itemsIn, forestsOf}
 use Rattle.text.specs.Lines.{closed}
 use Rattle.lines.specs.Print.{printed}
 use Rattle.sheet.specs.Runs.{Run, limitCode, freshRun, keptRun}
-use Rattle.sheet.specs.Histories.{Lent, storeAfter, shown, historyLines}
+use Rattle.sheet.specs.Histories.{Lent, storeAfter, writtenBy, historyLines}
 
 -- Two runs, the second on the store that the first left, did what a third did alone.
 pub record SameAs (first second whole : Run) : Type 0 where
@@ -53,7 +53,7 @@ pub record OneList (store : List ℕ) (runs : List Lent) : Type 0 where
   pub sound : Sound (storeAfter store runs)
   pub words : storeAfter store runs ≡ encode (after (forestsOf store) (historyLines store runs))
   pub forests : forestsOf (storeAfter store runs) ≡ after (forestsOf store) (historyLines store runs)
-  pub answers : shown store runs ≡ printed (answers (forestsOf store) (historyLines store runs))
+  pub answers : writtenBy store runs ≡ printed (answers (forestsOf store) (historyLines store runs))
 
 abbrev pub HistoryOneList : Type 0
 HistoryOneList = (store : List ℕ) → Sound store → (runs : List Lent) → OneList store runs

@@ -5,7 +5,7 @@ ghost use Rattle.sheet.specs.Runs.{freshRun, keptRun, Leaves, resultNumb
 use audit::sound;
 use heap::perform::perform;
 use lines::answers::put_answer;
-use lines::reader::Next;
+use lines::reader::NextLine;
 use lines::reader::read_line;
 use rules::Answer;
 use rules::Line;
@@ -56,7 +56,7 @@ fn run_lines(store: &mut [u32], sheet: &[u8], out: &mut [u8]) -> usize
     let mut at = 0;
     let mut to = 0;
     loop {
-        let Next::Found(line, end) = read_line(sheet, at) else {
+        let NextLine::Found(line, end) = read_line(sheet, at) else {
             break;
         };
         to = answer_line(store, out, to, line);
@@ -117,7 +117,7 @@ fn check_limits(store: &[u32], sheet: &[u8], out: &[u8]) -> Checked
 }
 
 // A run that is refused under a code.
-fn refused(code: u8) -> Ran
+fn refused_run(code: u8) -> Ran
     ensures { λ r. ⌜ Refuses code r ⌝ }
 {
     Ran {
@@ -135,7 +135,7 @@ pub fn run_fresh(store: &mut [u32], sheet: &[u8], out: &mut [u8]) -> Ran
     let within = check_limits(store, sheet, out);
     let code = within.code;
     if code != 0 {
-        return refused(code);
+        return refused_run(code);
     }
     make_empty(store, within.items);
     let bytes = run_lines(store, sheet, out);
@@ -154,10 +154,10 @@ pub fn run_kept(store: &mut [u32], sheet: &[u8], out: &mut [u8]) -> Ran
     let within = check_limits(store, sheet, out);
     let code = within.code;
     if code != 0 {
-        return refused(code);
+        return refused_run(code);
     }
     if !sound(store) {
-        return refused(5);
+        return refused_run(5);
     }
     let bytes = run_lines(store, sheet, out);
     Ran {

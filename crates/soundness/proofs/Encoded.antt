@@ -21,7 +21,7 @@ use Rattle.rules.specs.Lists.{occurs}
 use Rattle.rules.specs.Forests.{Forests, none, rowOf, childrenOf, parentOf, markOf, heapOf, tableSize, count}
 use Rattle.rules.specs.Order.{comesBefore, precedes}
 use Rattle.rules.specs.WellFormed.{Disjoint, RankRule, WellFormed}
-use Rattle.rules.specs.Words.{room, look, headOr, lastOr, siblings, unlessFree, word, encode, decode}
+use Rattle.rules.specs.Words.{fieldSize, look, headOr, lastOr, siblings, unlessFree, word, encode, decode}
 use Rattle.rules.proofs.DecodeEncode.{decode-encode}
 use Rattle.rules.proofs.Follow.{once-short}
 use Rattle.rules.proofs.Members.{heap-in, row-root, child-parent}
@@ -40,7 +40,7 @@ use Rattle.soundness.specs.Check.{
 }
 use Rattle.soundness.proofs.Decoded.{heap-at, mark-at, precedes-at, count-at}
 use Rattle.soundness.proofs.Links.{Places, ranks-places}
-use Rattle.soundness.proofs.Lists.{shown, listed-length}
+use Rattle.soundness.proofs.Lists.{markedRank, listed-length}
 
 module _ (s : Forests) (W : WellFormed s) where
   abbrev n : ℕ
@@ -52,7 +52,7 @@ module _ (s : Forests) (W : WellFormed s) where
   abbrev D : Disjoint s
   D = W .disjoint
 
-  pub says : (f : Field) (i : ℕ) → i < room n f → look n w f i ≡ word s f i
+  pub says : (f : Field) (i : ℕ) → i < fieldSize n f → look n w f i ≡ word s f i
   unfolding encode
   says f i k = look-wordsOf n (word s) f i k
 
@@ -72,7 +72,7 @@ module _ (s : Forests) (W : WellFormed s) where
   count-is h = sym (count-at n w h) ∙ ap (λ t. count t h) back
 
   -- the word of an item in a heap
-  member-word : (f : Field) (v i : ℕ) → i < room n f → word s f i ≡ unlessFree s i v → heapOf s i ≢ 0 → look n w f i ≡ v
+  member-word : (f : Field) (v i : ℕ) → i < fieldSize n f → word s f i ≡ unlessFree s i v → heapOf s i ≢ 0 → look n w f i ≡ v
   unfolding unlessFree
   member-word f v i k e m = says f i k ∙ e ∙ rw (ne-eqb (heapOf s i) 0 m)
 
@@ -82,7 +82,7 @@ module _ (s : Forests) (W : WellFormed s) where
   list-passes : (l : Siblings) (xs : List ℕ) → Once xs
       → ((x : ℕ) → 1 ≤ occurs x xs → (heapOf s x ≢ 0) × (siblings s x ≡ xs))
       → ((x : ℕ) → 1 ≤ occurs x xs → (heapOf s x ≡ l .heap) × (parentOf s x ≡ l .parent))
-      → headOr none xs ≡ l .first → lastOr none xs ≡ l .last → (l .parent ≢ none → Places (shown n w) 0 xs)
+      → headOr none xs ≡ l .first → lastOr none xs ≡ l .last → (l .parent ≢ none → Places (markedRank n w) 0 xs)
       → listLength n w l ≡ suc (length xs)
   unfolding word unlessFree listLength
   list-passes l xs o sb ow hd la pl =
@@ -114,7 +114,7 @@ module _ (s : Forests) (W : WellFormed s) where
       (sym (member-word FirstChild (headOr none (childrenOf s i)) i k refl m))
       (sym (member-word LastChild (lastOr none (childrenOf s i)) i k refl m))
       (λ _.
-      ranks-places (shown n w) (s .children) (s .mark) 0 (childrenOf s i)
+      ranks-places (markedRank n w) (s .children) (s .mark) 0 (childrenOf s i)
       (λ c t.
       let d = heap-in s c (child-parent s D i c k t .0) in
       omega (arith, says Rank c d, mark-is c d))

@@ -87,7 +87,7 @@ module _ (s : Forests) (W : WellFormed s) where
       let j : minimum s h < n = heap-in s (minimum s h) (λ z. omega (arith, d .0, z)) in
       subst (λ g. Root n w i (look n w Minimum g)) q
       (record {
-        bare = mark-is s W i k ∙ D .bare i p;
+        unmarked = mark-is s W i k ∙ D .rootsUnmarked i p;
         inside = rw v j;
         order = rw v (precedes-is s W i (minimum s h) k j ∙ none-before s (to-formed s W) h i hh);
       })

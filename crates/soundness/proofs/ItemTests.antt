@@ -47,7 +47,7 @@ module _ (n : ℕ) (w : List ℕ) where
     pub rank : look n w Rank i ≡ 0
 
   pub record Root (i least : ℕ) : Type 0 where
-    pub bare : markAt n w i ≡ 0
+    pub unmarked : markAt n w i ≡ 0
     pub inside : least < n
     pub order : comesBefore (itemKey (look n w)) i least ≡ false
 
@@ -91,7 +91,7 @@ module _ (n : ℕ) (w : List ℕ) where
       let a = and-split (eqb (markAt n w i) 0) _ e in
       let b = and-split (ltb least n) _ (a .1) in
       record {
-        bare = eqb-true (markAt n w i) 0 (a .0);
+        unmarked = eqb-true (markAt n w i) 0 (a .0);
         inside = ltb-true least n (b .0);
         order = not-true (comesBefore (itemKey (look n w)) i least) (b .1);
       }
@@ -148,7 +148,7 @@ module _ (n : ℕ) (w : List ℕ) where
           ≡ true
       go true e =
           let a = r .root (eqb-true (look n w Parent i) none e) in
-          rw (a .bare, a .order, lt-ltb (look n w Minimum (heapAt n w i - 1)) n (a .inside))
+          rw (a .unmarked, a .order, lt-ltb (look n w Minimum (heapAt n w i - 1)) n (a .inside))
       go false e =
           let a = r .child (eqb-false (look n w Parent i) none e) in
           rw (

@@ -19,8 +19,8 @@ use Rattle.soundness.specs.Check.{heapAt, markAt, linkOk, lengthFrom}
 use Rattle.soundness.proofs.Links.{Prevs, Places}
 
 -- what an item shows against its place among children
-abbrev pub shown : ℕ → List ℕ → ℕ → ℕ
-shown n w x = look n w Rank x + markAt n w x
+abbrev pub markedRank : ℕ → List ℕ → ℕ → ℕ
+markedRank n w x = look n w Rank x + markAt n w x
 
 module _ (n : ℕ) (w : List ℕ) (small : n ≤ 4096) (l : Siblings) where
   -- the item's words say that it belongs to the list
@@ -37,7 +37,7 @@ module _ (n : ℕ) (w : List ℕ) (small : n ≤ 4096) (l : Siblings) where
     pub next : (y : ℕ) → 1 ≤ occurs y xs → nextIn y xs ≡ look n w Next y
     pub head : headOr none xs ≡ x
     pub last : lastOr prev xs ≡ l .last
-    pub places : l .parent ≢ none → Places (shown n w) j xs
+    pub places : l .parent ≢ none → Places (markedRank n w) j xs
 
   nil : (prev j x m : ℕ) → x ≡ none → prev ≡ l .last → j ≡ m → Listed prev j x m []
   unfolding occurs sumBy headOr lastOr
@@ -85,10 +85,10 @@ module _ (n : ℕ) (w : List ℕ) (small : n ≤ 4096) (l : Siblings) where
       after y true f i = r .head ∙ ap (look n w Next) (eqb-true x y f)
       after y false f i = r .next y (tail-in y x xs f i)
 
-      rank : (t : Bool) → eqb (l .parent) none ≡ t → l .parent ≢ none → (t || leb j (shown n w x)) ≡ true
-          → j ≤ shown n w x
+      rank : (t : Bool) → eqb (l .parent) none ≡ t → l .parent ≢ none → (t || leb j (markedRank n w x)) ≡ true
+          → j ≤ markedRank n w x
       rank true f g u = absurd (g (eqb-true (l .parent) none f))
-      rank false f g u = leb-true j (shown n w x) u
+      rank false f g u = leb-true j (markedRank n w x) u
 
   -- a walk that ends well has followed such a list
   pub length-listed : (d prev j x m : ℕ) → lengthFrom n w l d prev j x ≡ suc m
@@ -121,7 +121,7 @@ module _ (n : ℕ) (w : List ℕ) (small : n ≤ 4096) (l : Siblings) where
       → ((y : ℕ) → 1 ≤ occurs y xs → Owned y)
       → ((y : ℕ) → 1 ≤ occurs y xs → look n w Prev y ≡ prevIn prev y xs)
       → ((y : ℕ) → 1 ≤ occurs y xs → look n w Next y ≡ nextIn y xs)
-      → headOr none xs ≡ x → lastOr prev xs ≡ l .last → (l .parent ≢ none → Places (shown n w) j xs)
+      → headOr none xs ≡ x → lastOr prev xs ≡ l .last → (l .parent ≢ none → Places (markedRank n w) j xs)
       → lengthFrom n w l d prev j x ≡ suc (j + length xs)
   unfolding lengthFrom linkOk occurs sumBy headOr lastOr prevIn nextIn
   listed-length zero prev j x [] s o own pv nx hd la pl =
@@ -152,6 +152,6 @@ module _ (n : ℕ) (w : List ℕ) (small : n ≤ 4096) (l : Siblings) where
       (λ f. pl f .1)
       ∙ omega arith)
     where
-      place : (t : Bool) → eqb (l .parent) none ≡ t → (t || leb j (shown n w y)) ≡ true
+      place : (t : Bool) → eqb (l .parent) none ≡ t → (t || leb j (markedRank n w y)) ≡ true
       place true e = refl
-      place false e = le-leb j (shown n w y) (pl (eqb-false (l .parent) none e) .0)
+      place false e = le-leb j (markedRank n w y) (pl (eqb-false (l .parent) none e) .0)

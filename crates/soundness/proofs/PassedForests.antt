@@ -37,7 +37,7 @@ use Rattle.soundness.proofs.Decoded.{
 }
 use Rattle.soundness.proofs.ItemTests.{Child}
 use Rattle.soundness.proofs.Links.{places-ranks}
-use Rattle.soundness.proofs.Lists.{shown}
+use Rattle.soundness.proofs.Lists.{markedRank}
 use Rattle.soundness.proofs.States.{heap-zero, zero-mark, mark-low}
 
 module _ (n : ℕ) (w : List ℕ) (A : Passed n w) where
@@ -69,12 +69,12 @@ module _ (n : ℕ) (w : List ℕ) (A : Passed n w) where
   unfolding markAt
   bit x = byPlace n x (λ i. rw (mark-at n w x i) (mark-low (look n w State x))) (λ o. rw (out-mark n w x o) zero-le)
 
-  bare : (x : ℕ) → parentOf s x ≡ none → markOf s x ≡ 0
-  bare x e =
+  rootsUnmarked : (x : ℕ) → parentOf s x ≡ none → markOf s x ≡ 0
+  rootsUnmarked x e =
       byPlace n x
       (λ i.
       byZero (heapAt n w x) (λ h. free x (heap-at n w x i ∙ h) .2)
-      (λ m. mark-at n w x i ∙ A .member x i m .root (sym (parent-at n w x i) ∙ e) .bare))
+      (λ m. mark-at n w x i ∙ A .member x i m .root (sym (parent-at n w x i) ∙ e) .unmarked))
       (λ o. out-mark n w x o)
 
   pub disjoint : Disjoint s
@@ -104,7 +104,7 @@ module _ (n : ℕ) (w : List ℕ) (A : Passed n w) where
             (u .inside, u .heap);
         free = free;
         bit = bit;
-        bare = bare;
+        rootsUnmarked = rootsUnmarked;
       }
 
   ordered : HeapOrdered s
@@ -120,7 +120,7 @@ module _ (n : ℕ) (w : List ℕ) (A : Passed n w) where
       let i : p < n = rw (length-heap n w) at k in
       byZero (heapAt n w p) (λ e. rw (no-children n w A p i e) tt) (λ m.
       let r = children-list n w A p i m in
-      places-ranks (shown n w) (s .children) (s .mark) 0 (childrenOf s p) (λ c j.
+      places-ranks (markedRank n w) (s .children) (s .mark) 0 (childrenOf s p) (λ c j.
       let o = r .own c j in
       omega (arith, rank-is n w A c (o .inside), mark-at n w c (o .inside)))
       (r .places (λ z. omega (arith, A .small))))

@@ -23,7 +23,7 @@ use Rattle.rules.specs.Forests.{Forests, none, rowOf, childrenOf, parentOf, hea
 use Rattle.rules.specs.Order.{comesBefore, leastIn, minimum}
 use Rattle.rules.specs.Words.{
   storeSize,
-  room,
+  fieldSize,
   look,
   headOr,
   lastOr,
@@ -139,16 +139,16 @@ module _ (n : ℕ) (w : List ℕ) (A : Passed n w) where
 
   -- ---- every word
 
-  heap-says : (f : Field) → ofHeap f ≡ true → (h : ℕ) → h < room n f → look n w f h ≡ word s f h
+  heap-says : (f : Field) → ofHeap f ≡ true → (h : ℕ) → h < fieldSize n f → look n w f h ≡ word s f h
   heap-says f o h k =
       let j : h < 8 = rw (room-heap n f o) at k in
       let r = row-list n w A h j in
       rw (word-heap s h f o, r .head, r .last, minimum-at h j, count-at n w h) (A .heap h j .words f o)
 
-  says : (f : Field) (i : ℕ) → i < room n f → look n w f i ≡ word s f i
+  says : (f : Field) (i : ℕ) → i < fieldSize n f → look n w f i ≡ word s f i
   unfolding word heapAt markAt
   says =
-      by-heaps (λ f. (i : ℕ) → i < room n f → look n w f i ≡ word s f i)
+      by-heaps (λ f. (i : ℕ) → i < fieldSize n f → look n w f i ≡ word s f i)
       heap-says
       (λ i k. sym (key-at n w i k))
       (λ i k. sym (parent-at n w i k))

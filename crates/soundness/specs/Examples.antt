@@ -21,13 +21,13 @@ use Rattle.rules.specs.Words.{at, encode}
 use Rattle.soundness.specs.Check.{soundWords}
 
 pub data Example : Type 0 where
-  accepted : List ℕ → Example
-  refused : List ℕ → Example
+  passes : List ℕ → Example
+  fails : List ℕ → Example
 
 -- an example as the check has it
 unfoldable pub byCheck : Example → Example
-byCheck (accepted w) = cond (soundWords w) (accepted w) (refused w)
-byCheck (refused w) = cond (soundWords w) (accepted w) (refused w)
+byCheck (passes w) = cond (soundWords w) (passes w) (fails w)
+byCheck (fails w) = cond (soundWords w) (passes w) (fails w)
 
 -- a store for six items with another value for word i of a kind
 unfoldable pub but : Field → ℕ → ℕ → List ℕ → List ℕ
@@ -81,43 +81,43 @@ threeTrees =
 unfoldable pub examples : List Example
 examples =
     -- lengths: none, 33 words, no items
-    refused []
-    ∷ refused (replicate 33 0)
-    ∷ accepted (encode (empty 0))
+    fails []
+    ∷ fails (replicate 33 0)
+    ∷ passes (encode (empty 0))
     -- all free; an item count of 1 then; a free item with a stray word
-    ∷ accepted (encode (empty 6))
-    ∷ refused (but Count 0 1 (encode (empty 6)))
-    ∷ refused (but Rank 3 1 (encode (empty 6)))
-    ∷ refused (but Key 3 7 (encode (empty 6)))
+    ∷ passes (encode (empty 6))
+    ∷ fails (but Count 0 1 (encode (empty 6)))
+    ∷ fails (but Rank 3 1 (encode (empty 6)))
+    ∷ fails (but Key 3 7 (encode (empty 6)))
     -- the sample; keys that are equal or at the limit; a child that comes before its parent; a key of 33 bits
-    ∷ accepted full
-    ∷ accepted (but Key 1 10 full)
-    ∷ accepted (but Key 4 4294967295 full)
-    ∷ refused (but Key 1 9 full)
-    ∷ refused (but Key 4 4294967296 full)
+    ∷ passes full
+    ∷ passes (but Key 1 10 full)
+    ∷ passes (but Key 4 4294967295 full)
+    ∷ fails (but Key 1 9 full)
+    ∷ fails (but Key 4 4294967296 full)
     -- the heap's words: a count off by one, a minimum that is not the least root, none, or no root, another last tree
-    ∷ refused (but Count 0 4 full)
-    ∷ refused (but Count 0 6 full)
-    ∷ refused (but Minimum 0 4 full)
-    ∷ refused (but Minimum 0 none full)
-    ∷ refused (but Minimum 0 1 full)
-    ∷ refused (but LastTree 0 4 full)
+    ∷ fails (but Count 0 4 full)
+    ∷ fails (but Count 0 6 full)
+    ∷ fails (but Minimum 0 4 full)
+    ∷ fails (but Minimum 0 none full)
+    ∷ fails (but Minimum 0 1 full)
+    ∷ fails (but LastTree 0 4 full)
     -- states: a marked root, heap 8, a child in another heap than its parent
-    ∷ refused (but State 4 2 full)
-    ∷ refused (but State 4 17 full)
-    ∷ refused (but State 3 3 full)
+    ∷ fails (but State 4 2 full)
+    ∷ fails (but State 4 17 full)
+    ∷ fails (but State 3 3 full)
     -- links: a wrong previous, a wrong rank, a row that runs in a circle
-    ∷ refused (but Prev 2 none full)
-    ∷ refused (but Rank 2 0 full)
-    ∷ refused (but Next 0 4 full)
+    ∷ fails (but Prev 2 none full)
+    ∷ fails (but Rank 2 0 full)
+    ∷ fails (but Next 0 4 full)
     -- a second child of rank 0, its rank word right: too small, unless it is marked
-    ∷ refused small
-    ∷ accepted (but State 2 2 small)
+    ∷ fails small
+    ∷ passes (but State 2 2 small)
     -- an item that is its own parent
-    ∷ refused (encode ownParent)
+    ∷ fails (encode ownParent)
     -- trees 1 and 2 in a circle that the row does not reach
-    ∷ accepted (encode threeTrees)
-    ∷ refused (but LastTree 0 0 (but Next 0 none (but Prev 1 2 (but Next 2 1 (encode threeTrees)))))
+    ∷ passes (encode threeTrees)
+    ∷ fails (but LastTree 0 0 (but Next 0 none (but Prev 1 2 (but Next 2 1 (encode threeTrees)))))
     ∷ []
 
 unfoldable pub ExamplesHold : Type 0

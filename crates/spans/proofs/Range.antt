@@ -9,7 +9,7 @@ use lib.ListN.{length, getD, set}
 use lib.Dec.{ltb}
 use lib.Seq.{getD-set-same, getD-set-other}
 use borrow.Author.Tests.{ltb-true, ltb-false}
-use Rattle.spans.specs.Range.{Sorted, FirstSpan, Index}
+use Rattle.spans.specs.Range.{Sorted, FirstSpan, IsIndex}
 
 sorted-by : (from : List ℕ) → Sorted from → (a n b : ℕ) → b ≡ a + n → b < length from → getD from a 0 ≤ getD from b 0
 sorted-by from S a zero b q h = let z : b ≡ a = omega arith in rw z (le-refl _)
@@ -39,12 +39,12 @@ first-none from =
       above = λ e k h. omega arith;
     }
 
-pub index-none : (from index : List ℕ) → 0 < length index → Index 0 from (set index 0 0)
+pub index-none : (from index : List ℕ) → 0 < length index → IsIndex 0 from (set index 0 0)
 index-none from index h =
     record { first = λ u k. let z : u ≡ 0 = omega arith in rw (z, getD-set-same index 0 0 0 h) (first-none from) }
 
-pub index-more : {from index : List ℕ} {u e : ℕ} → Index u from index → FirstSpan from (u + 1) e
-    → u + 1 < length index → Index (u + 1) from (set index (u + 1) e)
+pub index-more : {from index : List ℕ} {u e : ℕ} → IsIndex u from index → FirstSpan from (u + 1) e
+    → u + 1 < length index → IsIndex (u + 1) from (set index (u + 1) e)
 index-more {from} {index} {u} {e} I F h = record { first = λ v k. go v k (ltb v (u + 1)) refl }
   where
     go : (v : ℕ) → v ≤ u + 1 → (t : Bool) → ltb v (u + 1) ≡ t → FirstSpan from v (getD (set index (u + 1) e) v 0)

@@ -14,7 +14,7 @@ pub record FirstSpan (from : List ℕ) (u r : ℕ) : Type 0 where
   pub above : (e : ℕ) → r ≤ e → e < length from → u ≤ getD from e 0
 
 -- The spans of place u are those from word u of the index up to, and not with, word u + 1.
-pub record Index (places : ℕ) (from index : List ℕ) : Type 0 where
+pub record IsIndex (places : ℕ) (from index : List ℕ) : Type 0 where
   pub first : (u : ℕ) → u ≤ places → FirstSpan from u (getD index u 0)
 
 -- An index can be made: spans are sorted, a word holds each number of a span, and there are words enough.

@@ -1,6 +1,6 @@
 // The spans of each place as a range of span numbers, found once for a whole search.
 ghost use Prim.Native.Nat.{_+_};
-ghost use Rattle.spans.specs.Range.{Sorted, FirstSpan, Indexable, Index};
+ghost use Rattle.spans.specs.Range.{Sorted, FirstSpan, Indexable, IsIndex};
 
 // A word for each of at most 4,096 places, and one that ends the spans of the last.
 pub type Index = [u32; 4097];
@@ -24,7 +24,7 @@ fn pass_spans(from: &[u32], u: u32, first: usize) -> usize
 // For each place u, and for u = places, the number of the first span that leaves place u or a higher one.
 pub fn index_spans(places: u32, from: &[u32], index: &mut Index)
     requires { ⌜ Indexable places (now from) (now index) ⌝ }
-    ensures { λ _. ⌜ Index places (now (from .entry)) (now (index .exit)) ⌝ }
+    ensures { λ _. ⌜ IsIndex places (now (from .entry)) (now (index .exit)) ⌝ }
 {
     index[0] = 0;
     let mut u = 0;

@@ -85,7 +85,7 @@ module _ (n : ℕ) (t : Forests) (o : Owner) (x : ℕ) (S : Shape n t) (F : Fami
   last-apart : (j : ℕ) → j < n → occurs j (listOf t o) ≡ 0 → lastOr none (listOf t o) ≢ j
   last-apart j h a = at-end (lastOr none (listOf t o)) j (listOf t o) (last-in none (listOf t o)) (not-none S j h) a
 
-  -- the next word of any item j; l is the last of the list before, and the links of x were loose
+  -- the next word of any item j; l is the last of the list before, and the links of x were open
   pub next-law : (l a j : ℕ) → l ≡ lastOr none (listOf t o) → j < n
       → cond (eqb l j) x (cond (eqb x j) none (cond (eqb x j) a (word t Next j))) ≡ word (appendTo o x t) Next j
   unfolding word

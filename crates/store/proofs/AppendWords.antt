@@ -18,14 +18,14 @@ use Rattle.rules.specs.declared.Field.the-variants.{
 }
 use Rattle.rules.specs.Lists.{occurs}
 use Rattle.rules.specs.Forests.{Forests, none, rowOf, childrenOf, heapOf}
-use Rattle.rules.specs.Words.{room, headOr, lastOr, unlessFree, word}
+use Rattle.rules.specs.Words.{fieldSize, headOr, lastOr, unlessFree, word}
 use Rattle.rules.proofs.ByKind.{apart-from, by-kinds}
 use Rattle.rules.proofs.Parts.{rows, children, keys, marks, heaps}
 use Rattle.rules.proofs.Relinks.{head-appended, last-appended}
 use Rattle.store.specs.declared.Owner.{Owner}
 use Rattle.store.specs.declared.Owner.the-variants.{Row, Children}
 use Rattle.store.specs.Siblings.{parentIn, firstOf, lastOf, setFirst, setLast, setNext, addRank, joined, appended}
-use Rattle.store.specs.Families.{listOf, appendTo, wordBut, loose, Shape, Family, MayJoin}
+use Rattle.store.specs.Families.{listOf, appendTo, wordBut, withLinks, Shape, Family, MayJoin}
 use Rattle.store.proofs.AppendLinks.{next-law, prev-law}
 use Rattle.store.proofs.KeptWords.{kept-but}
 use Rattle.store.proofs.Listed.{none-out}
@@ -35,8 +35,8 @@ module _ (n : ℕ) (counts minima : ℕ → ℕ) (t : Forests) (x a b : ℕ) (S 
   -- the words of kind f after the append are those of the forests after it
   abbrev pub Appends : Owner → Field → Type 0
   Appends o f =
-      (j : ℕ) → j < room n f
-      → appended o x (loose x a b (wordBut counts minima t)) f j ≡ wordBut counts minima (appendTo o x t) f j
+      (j : ℕ) → j < fieldSize n f
+      → appended o x (withLinks x a b (wordBut counts minima t)) f j ≡ wordBut counts minima (appendTo o x t) f j
 
   -- the kinds of which words change where x joins a row, or the children of an item
   abbrev rowKinds : List Field
@@ -47,7 +47,7 @@ module _ (n : ℕ) (counts minima : ℕ → ℕ) (t : Forests) (x a b : ℕ) (S 
 
   row-word : (h : ℕ) → Family n t (Row h) → occurs x (listOf t (Row h)) ≡ 0 → MayJoin t (Row h) x → (f : Field)
       → Appends (Row h) f
-  unfolding appended joined setLast setFirst setNext firstOf lastOf addRank parentIn loose wordBut appendTo listOf word
+  unfolding appended joined setLast setFirst setNext firstOf lastOf addRank parentIn withLinks wordBut appendTo listOf word
       unlessFree
   row-word h F out J =
       by-kinds rowKinds (Appends (Row h))
@@ -66,7 +66,7 @@ module _ (n : ℕ) (counts minima : ℕ → ℕ) (t : Forests) (x a b : ℕ) (S 
 
   children-word : (p : ℕ) → Family n t (Children p) → occurs x (listOf t (Children p)) ≡ 0 → MayJoin t (Children p) x
       → (f : Field) → Appends (Children p) f
-  unfolding appended joined setLast setFirst setNext firstOf lastOf addRank parentIn loose wordBut appendTo listOf word
+  unfolding appended joined setLast setFirst setNext firstOf lastOf addRank parentIn withLinks wordBut appendTo listOf word
       unlessFree
   children-word p F out J =
       let live = ne-eqb (heapOf t p) 0 (F .present .1) in

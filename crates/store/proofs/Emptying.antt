@@ -26,7 +26,7 @@ use Rattle.rules.specs.Kinds.{isOneOf, Apart}
 use Rattle.rules.specs.Lists.{sumBy}
 use Rattle.rules.specs.Forests.{Forests, none, empty, count}
 use Rattle.rules.specs.Order.{leastIn, minimum}
-use Rattle.rules.specs.Words.{room, at, headOr, lastOr, stateOf, unlessFree, word, wordsOf, encode}
+use Rattle.rules.specs.Words.{fieldSize, at, headOr, lastOr, stateOf, unlessFree, word, wordsOf, encode}
 use Rattle.rules.proofs.ByKind.{apart-from, by-kinds}
 use Rattle.rules.proofs.EmptyForests.{getD-all}
 use Rattle.rules.proofs.Words.{words-equal}
@@ -82,7 +82,7 @@ count-empty zero h = refl
 count-empty (suc n) h = rw (eqb·zero-suc h) (omega (arith, count-empty n h))
 
 -- eight empty heaps over free items: the words of the empty forests
-emptied-all : (n : ℕ) (f : Field) (i : ℕ) → i < room n f → emptied 8 f i ≡ word (empty n) f i
+emptied-all : (n : ℕ) (f : Field) (i : ℕ) → i < fieldSize n f → emptied 8 f i ≡ word (empty n) f i
 unfolding word headOr lastOr minimum leastIn unlessFree stateOf
 emptied-all n FirstTree i k = rw (lt-ltb i 8 k, getD-all 8 i)
 emptied-all n LastTree i k = rw (lt-ltb i 8 k, getD-all 8 i)

@@ -11,7 +11,7 @@ use Rattle.rules.specs.Forests.{Forests, none, heapOf, tableSize, count}
 use Rattle.rules.specs.Order.{minimum}
 use Rattle.rules.specs.Kinds.{Apart}
 use Rattle.rules.specs.WellFormed.{Disjoint}
-use Rattle.rules.specs.Words.{room, word, wordsOf, encode}
+use Rattle.rules.specs.Words.{fieldSize, word, wordsOf, encode}
 use Rattle.rules.proofs.ByKind.{apart-from, by-kinds, by-others}
 use Rattle.rules.proofs.Members.{heap-in, not-none, row-root, child-parent}
 use Rattle.rules.proofs.SiblingLists.{once-row, once-children}
@@ -23,10 +23,10 @@ use Rattle.store.proofs.Holds.{says-holds, holds-says}
 -- the true counts are those of `word`, and so are the true minima
 module _ (n : ℕ) (counts minima : ℕ → ℕ) (t : Forests) (c : (h : ℕ) → h < 8 → counts h ≡ count t h) where
   abbrev Agree : Field → Type 0
-  Agree f = (i : ℕ) → i < room n f → wordBut counts minima t f i ≡ word t f i
+  Agree f = (i : ℕ) → i < fieldSize n f → wordBut counts minima t f i ≡ word t f i
 
   -- where the counts are the true ones only the minima may differ
-  pub but-minima : (f : Field) → Apart (Minimum ∷ []) f → (i : ℕ) → i < room n f
+  pub but-minima : (f : Field) → Apart (Minimum ∷ []) f → (i : ℕ) → i < fieldSize n f
       → wordBut counts minima t f i ≡ word t f i
   unfolding wordBut word
   but-minima =

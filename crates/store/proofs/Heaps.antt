@@ -24,7 +24,7 @@ use Rattle.rules.specs.Forests.{Forests, none, rowOf, count}
 use Rattle.rules.specs.Kinds.{isOneOf}
 use Rattle.rules.specs.Order.{minimum}
 use Rattle.rules.specs.SetWord.{fieldNumber}
-use Rattle.rules.specs.Words.{room, look, headOr, lastOr, word}
+use Rattle.rules.specs.Words.{fieldSize, look, headOr, lastOr, word}
 use Rattle.rules.proofs.ByKind.{by-kinds}
 use Rattle.rules.proofs.Occurs.{and-split, and-true, eqb-self}
 use Rattle.rules.proofs.Places.{number-injective}
@@ -47,9 +47,9 @@ by-heaps P h key parent first last next prev rank state Rank = rank
 by-heaps P h key parent first last next prev rank state State = state
 
 -- there are eight words of each of these kinds
-pub room-heap : (n : ℕ) (f : Field) → ofHeap f ≡ true → room n f ≡ 8
+pub room-heap : (n : ℕ) (f : Field) → ofHeap f ≡ true → fieldSize n f ≡ 8
 room-heap n =
-    by-kinds heapKinds (λ f. ofHeap f ≡ true → room n f ≡ 8)
+    by-kinds heapKinds (λ f. ofHeap f ≡ true → fieldSize n f ≡ 8)
     (λ e. refl) (λ e. refl) (λ e. refl) (λ e. refl) (λ f o e. absurd (true≢false (sym e ∙ o)))
 
 -- the words of a heap of forests

@@ -9,14 +9,14 @@ use Rattle.rules.specs.declared.Field.the-variants.{Next, Prev}
 use Rattle.rules.specs.Lists.{occurs, without}
 use Rattle.rules.specs.Forests.{Forests, none, rowOf, childrenOf}
 use Rattle.rules.specs.SetWord.{setWord}
-use Rattle.rules.specs.Words.{room, word}
-use Rattle.rules.proofs.Places.{room-small}
+use Rattle.rules.specs.Words.{fieldSize, word}
+use Rattle.rules.proofs.Places.{fieldSize-small}
 use Rattle.rules.proofs.Words.{setWord-other}
 use Rattle.store.specs.declared.Owner.{Owner}
 use Rattle.store.specs.declared.Owner.the-variants.{Row, Children}
 use Rattle.store.specs.Says.{Values, Says, Changes}
 use Rattle.store.specs.Siblings.{appended, removed}
-use Rattle.store.specs.Families.{listOf, appendTo, removeFrom, wordBut, loose, Shape, Family, MayJoin, Holds}
+use Rattle.store.specs.Families.{listOf, appendTo, removeFrom, wordBut, withLinks, Shape, Family, MayJoin, Holds}
 use Rattle.store.proofs.Says.{says-as}
 use Rattle.store.proofs.AppendWords.{append-word}
 use Rattle.store.proofs.RemoveWords.{remove-word}
@@ -57,11 +57,11 @@ remove-shape n t (Children p) x S =
     refl
 
 -- the links of `none` are in no word
-loose-none : (n : ℕ) (v : Values) (a b : ℕ) → n ≤ 4096 → (f : Field) (i : ℕ) → i < room n f
-    → loose none a b v f i ≡ v f i
-unfolding loose
-loose-none n v a b h f i k =
-    let m : none ≡ i → ⊥ = λ e. omega (arith, e, room-small n f h) in
+withLinks-none : (n : ℕ) (v : Values) (a b : ℕ) → n ≤ 4096 → (f : Field) (i : ℕ) → i < fieldSize n f
+    → withLinks none a b v f i ≡ v f i
+unfolding withLinks
+withLinks-none n v a b h f i k =
+    let m : none ≡ i → ⊥ = λ e. omega (arith, e, fieldSize-small n f h) in
     setWord-other (setWord Prev none b v) Next none a f i (λ _. m) ∙ setWord-other v Prev none b f i (λ _. m)
 
 module _ {n : ℕ} {w : List ℕ} {counts minima : ℕ → ℕ} {t : Forests} where
@@ -71,14 +71,14 @@ module _ {n : ℕ} {w : List ℕ} {counts minima : ℕ → ℕ} {t : Forests} wh
       record {
         next = 0;
         prev = 0;
-        says = says-as n w _ _ s (λ f i k. sym (loose-none n (wordBut counts minima t) 0 0 (S .small) f i k));
+        says = says-as n w _ _ s (λ f i k. sym (withLinks-none n (wordBut counts minima t) 0 0 (S .small) f i k));
         shape = S;
       }
 
   pub holds-says : Holds n w counts minima t none → Says n w (wordBut counts minima t)
   holds-says H =
       says-as n w _ _ (H .says) (λ f i k.
-      loose-none n (wordBut counts minima t) (H .next) (H .prev) (H .shape .small) f i k)
+      withLinks-none n (wordBut counts minima t) (H .next) (H .prev) (H .shape .small) f i k)
 
 module _ {n : ℕ} {w w′ : List ℕ} {counts minima : ℕ → ℕ} {t : Forests} where
   -- the moves

@@ -13,7 +13,7 @@ use Rattle.rules.specs.Order.{lesser}
 use Rattle.rules.specs.Words.{look, word}
 use Rattle.rules.proofs.LeastOfTwo.{lesser-two}
 use Rattle.rules.proofs.Order.{before-number}
-use Rattle.store.specs.Families.{Holds, loose, wordBut}
+use Rattle.store.specs.Families.{Holds, withLinks, wordBut}
 use Rattle.store.specs.ItemOrder.{itemKey}
 use Rattle.store.specs.Says.{Says, Values}
 
@@ -31,7 +31,7 @@ key-is v t i e = e
 
 pub key-held : {n : ℕ} {w : List ℕ} {c m : ℕ → ℕ} {t : Forests} {x : ℕ} → Holds n w c m t x → (i : ℕ) → i < n
     → itemKey (look n w) i ≡ keyOf t i
-unfolding loose wordBut word
+unfolding withLinks wordBut word
 key-held {t = t} H i k = key-says (H .says) i k ∙ key-is _ t i refl
 
 -- ---- numbers

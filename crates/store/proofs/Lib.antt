@@ -5,7 +5,7 @@ pub mod Owners
 pub mod Moves
 pub mod SetAt
 pub mod Families
-pub mod Standing
+pub mod ListMembers
 pub mod Listed
 pub mod KeptWords
 pub mod AppendLinks

@@ -9,8 +9,8 @@ use Rattle.rules.specs.declared.Field.{Field}
 use Rattle.rules.specs.declared.Field.the-variants.{FirstTree, LastTree, FirstChild, LastChild, Next, Prev}
 use Rattle.rules.specs.Forests.{none}
 use Rattle.rules.specs.SetWord.{setWord}
-use Rattle.rules.specs.Words.{room}
-use Rattle.rules.proofs.Places.{room-small}
+use Rattle.rules.specs.Words.{fieldSize}
+use Rattle.rules.proofs.Places.{fieldSize-small}
 use Rattle.rules.proofs.Words.{setWord-other, setWord-own}
 use Rattle.store.specs.declared.Owner.{Owner}
 use Rattle.store.specs.declared.Owner.the-variants.{Row, Children}
@@ -18,13 +18,13 @@ use Rattle.store.specs.Says.{Within, Values, Says, Changes}
 use Rattle.store.specs.Siblings.{Inside, OwnerReady, firstOf, lastOf, setFirst, setLast, setNext, setPrev}
 use Rattle.store.proofs.Says.{says-as}
 
-pub row-within : {n : ℕ} {w : List ℕ} {o : Owner} {h : ℕ} (f : Field) → room n f ≡ 8 → o ≡ Row h → OwnerReady n w o
+pub row-within : {n : ℕ} {w : List ℕ} {o : Owner} {h : ℕ} (f : Field) → fieldSize n f ≡ 8 → o ≡ Row h → OwnerReady n w o
     → Within n w f h
 row-within {n} {w} {o} {h} f r e p =
     let k : h < 8 = subst (Inside n) e (p .inside) in
     record { sized = p .sized; inside = omega arith }
 
-pub children-within : {n : ℕ} {w : List ℕ} {o : Owner} {i : ℕ} (f : Field) → room n f ≡ n → o ≡ Children i
+pub children-within : {n : ℕ} {w : List ℕ} {o : Owner} {i : ℕ} (f : Field) → fieldSize n f ≡ n → o ≡ Children i
     → OwnerReady n w o → Within n w f i
 children-within {n} {w} {o} {i} f r e p =
     let k : i < n = subst (Inside n) e (p .inside) in
@@ -33,10 +33,10 @@ children-within {n} {w} {o} {i} f r e p =
 -- ---- a link stored: the word of an item, or an end of the list
 
 -- there is no word of `none`
-no-word : {n : ℕ} {w : List ℕ} {v : Values} (f g : Field) (x : ℕ) → Says n w v → (i : ℕ) → i < room n g
+no-word : {n : ℕ} {w : List ℕ} {v : Values} (f g : Field) (x : ℕ) → Says n w v → (i : ℕ) → i < fieldSize n g
     → setWord f none x v g i ≡ v g i
 no-word {n} {w} {v} f g x s i k =
-    setWord-other v f none x g i (λ _ e. omega (arith, e, room-small n g (s .sized .small)))
+    setWord-other v f none x g i (λ _ e. omega (arith, e, fieldSize-small n g (s .sized .small)))
 
 -- the end of a list stored as it is
 first-own : (o : Owner) (v : Values) (f : Field) (i : ℕ) → v f i ≡ setFirst o (firstOf o v) v f i

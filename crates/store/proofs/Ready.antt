@@ -18,7 +18,7 @@ use Rattle.rules.proofs.Follow.{once-short}
 use Rattle.store.specs.declared.Owner.{Owner}
 use Rattle.store.specs.declared.Owner.the-variants.{Row, Children}
 use Rattle.store.specs.Siblings.{Inside, Link, lastOf, OwnerReady, RankRises, RankFalls, AppendReady, RemoveReady}
-use Rattle.store.specs.Families.{listOf, wordBut, loose, Shape, Present, Family, Holds}
+use Rattle.store.specs.Families.{listOf, wordBut, withLinks, Shape, Present, Family, Holds}
 use Rattle.store.proofs.Listed.{link-in, not-in}
 use Rattle.store.proofs.Moves.{last-says}
 use Rattle.store.proofs.RemoveWords.{next-of, prev-of}
@@ -63,15 +63,15 @@ module _ (n : ℕ) (t : Forests) (o : Owner) (S : Shape n t) (F : Family n t o) 
 
 -- the last word of a list whose words are those of the forests
 last-word : (n : ℕ) (counts minima : ℕ → ℕ) (t : Forests) (o : Owner) → Present n t o → (x a b : ℕ)
-    → lastOf o (loose x a b (wordBut counts minima t)) ≡ lastOr none (listOf t o)
-unfolding lastOf loose wordBut word listOf unlessFree
+    → lastOf o (withLinks x a b (wordBut counts minima t)) ≡ lastOr none (listOf t o)
+unfolding lastOf withLinks wordBut word listOf unlessFree
 last-word n counts minima t (Row h) p x a b = refl
 last-word n counts minima t (Children q) p x a b = rw (ne-eqb (heapOf t q) 0 (p .1))
 
 module _ {n : ℕ} {w : List ℕ} {counts minima : ℕ → ℕ} {t : Forests} {x : ℕ} (H : Holds n w counts minima t x) where
   -- the rank of an owner can rise, since its list is short, and fall, where it has a member
   rank-word : (p : ℕ) → p < n → look n w Rank p ≡ rankOf t p
-  unfolding loose wordBut word
+  unfolding withLinks wordBut word
   rank-word p k = H .says .says Rank p k
 
   rank-rises : (o : Owner) → Family n t o → RankRises o (look n w)
@@ -102,11 +102,11 @@ module _ {n : ℕ} {w : List ℕ} {counts minima : ℕ → ℕ} {t : Forests} {x
 
   -- the links of an item other than x
   next-word : (y : ℕ) → y < n → y ≢ x → look n w Next y ≡ word t Next y
-  unfolding loose wordBut
+  unfolding withLinks wordBut
   next-word y k m = H .says .says Next y k ∙ rw (ne-eqb x y (λ e. m (sym e)))
 
   prev-word : (y : ℕ) → y < n → y ≢ x → look n w Prev y ≡ word t Prev y
-  unfolding loose wordBut
+  unfolding withLinks wordBut
   prev-word y k m = H .says .says Prev y k ∙ rw (ne-eqb x y (λ e. m (sym e)))
 
   pub remove-ready : (o : Owner) → Family n t o → (y : ℕ) → 1 ≤ occurs y (listOf t o) → y ≢ x → RemoveReady n w o y

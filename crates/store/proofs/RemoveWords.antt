@@ -12,7 +12,7 @@ use Rattle.rules.specs.declared.Field.{Field}
 use Rattle.rules.specs.declared.Field.the-variants.{FirstTree, LastTree, FirstChild, LastChild, Next, Prev, Rank}
 use Rattle.rules.specs.Lists.{occurs, without}
 use Rattle.rules.specs.Forests.{Forests, none, rowOf, childrenOf, heapOf}
-use Rattle.rules.specs.Words.{room, headOr, lastOr, nextIn, prevIn, unlessFree, word}
+use Rattle.rules.specs.Words.{fieldSize, headOr, lastOr, nextIn, prevIn, unlessFree, word}
 use Rattle.rules.proofs.ByKind.{apart-from, by-kinds}
 use Rattle.rules.proofs.Parts.{rows, children, parents, keys, marks, heaps}
 use Rattle.rules.proofs.RemoveLinks.{prev-in, last-without, next-out}
@@ -21,7 +21,7 @@ use Rattle.rules.proofs.Relinks.{at-end, head-removed, next-removed, prev-remov
 use Rattle.store.specs.declared.Owner.{Owner}
 use Rattle.store.specs.declared.Owner.the-variants.{Row, Children}
 use Rattle.store.specs.Siblings.{firstOf, lastOf, setFirst, setLast, setNext, setPrev, dropRank, removed}
-use Rattle.store.specs.Families.{listOf, removeFrom, wordBut, loose, Shape, Present, Family}
+use Rattle.store.specs.Families.{listOf, removeFrom, wordBut, withLinks, Shape, Present, Family}
 use Rattle.store.proofs.Families.{
   Relisted,
   Stand,
@@ -119,9 +119,9 @@ module _ (n : ℕ) (counts minima : ℕ → ℕ) (t : Forests) (x : ℕ) (S : Sh
   -- the words of kind f after the removal are those of the forests after it, but for the links of x
   abbrev pub Removes : Owner → Field → Type 0
   Removes o f =
-      (j : ℕ) → j < room n f
+      (j : ℕ) → j < fieldSize n f
       → removed o x (wordBut counts minima t) f j
-      ≡ loose x (word t Next x) (word t Prev x) (wordBut counts minima (removeFrom o x t)) f j
+      ≡ withLinks x (word t Next x) (word t Prev x) (wordBut counts minima (removeFrom o x t)) f j
 
   -- the kinds of which words change where x leaves a row, or the children of an item
   abbrev rowKinds : List Field
@@ -131,7 +131,7 @@ module _ (n : ℕ) (counts minima : ℕ → ℕ) (t : Forests) (x : ℕ) (S : Sh
   childKinds = FirstChild ∷ LastChild ∷ Next ∷ Prev ∷ Rank ∷ []
 
   row-word : (h : ℕ) → Family n t (Row h) → 1 ≤ occurs x (listOf t (Row h)) → (f : Field) → Removes (Row h) f
-  unfolding removed setLast setFirst setNext setPrev firstOf lastOf dropRank loose wordBut removeFrom listOf word
+  unfolding removed setLast setFirst setNext setPrev firstOf lastOf dropRank withLinks wordBut removeFrom listOf word
       unlessFree
   row-word h F k =
       by-kinds rowKinds (Removes (Row h))
@@ -149,7 +149,7 @@ module _ (n : ℕ) (counts minima : ℕ → ℕ) (t : Forests) (x : ℕ) (S : Sh
 
   children-word : (p : ℕ) → Family n t (Children p) → 1 ≤ occurs x (listOf t (Children p)) → (f : Field)
       → Removes (Children p) f
-  unfolding removed setLast setFirst setNext setPrev firstOf lastOf dropRank loose wordBut removeFrom listOf word
+  unfolding removed setLast setFirst setNext setPrev firstOf lastOf dropRank withLinks wordBut removeFrom listOf word
       unlessFree
   children-word p F k =
       let live = ne-eqb (heapOf t p) 0 (F .present .1) in

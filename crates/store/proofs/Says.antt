@@ -8,8 +8,8 @@ use lib.ListN.{length, set, length-set}
 use lib.Dec.{eqb}
 use Rattle.rules.specs.declared.Field.{Field}
 use Rattle.rules.specs.SetWord.{fieldNumber, setWord}
-use Rattle.rules.specs.Words.{room, at, look}
-use Rattle.rules.proofs.Places.{room-small, at-bound}
+use Rattle.rules.specs.Words.{fieldSize, at, look}
+use Rattle.rules.proofs.Places.{fieldSize-small, at-bound}
 use Rattle.rules.proofs.Words.{look-set}
 use Rattle.store.specs.Says.{Sized, Within, Values, Says, Changes}
 
@@ -19,12 +19,12 @@ says-look n w s = record { sized = s; says = λ f i h. refl }
 
 -- values that agree in the store are said alike
 pub says-as : (n : ℕ) (w : List ℕ) (u v : Values) → Says n w u
-    → ((f : Field) (i : ℕ) → i < room n f → u f i ≡ v f i) → Says n w v
+    → ((f : Field) (i : ℕ) → i < fieldSize n f → u f i ≡ v f i) → Says n w v
 says-as n w u v s e = record { sized = s .sized; says = λ f i h. s .says f i h ∙ e f i h }
 
 -- a word of the store is at a place of the slice
 pub within-small : {n : ℕ} {w : List ℕ} {f : Field} {i : ℕ} → Within n w f i → i ≤ 4096
-within-small {n} {w} {f} {i} h = omega (arith, h .inside, room-small n f (h .sized .small))
+within-small {n} {w} {f} {i} h = omega (arith, h .inside, fieldSize-small n f (h .sized .small))
 
 pub within-slice : {n : ℕ} {w : List ℕ} {f : Field} {i : ℕ} → Within n w f i → at n f i < length w
 within-slice {n} {w} {f} {i} h = omega (arith, h .sized .size, at-bound n f i (h .inside))
@@ -47,7 +47,7 @@ set-changes n w f i x h =
     kept : Sized n (set w (at n f i) x)
     kept = record { size = length-set w (at n f i) x ∙ h .sized .size; small = h .sized .small }
 
-    at-word : (v : Values) → Says n w v → (g : Field) (j : ℕ) → j < room n g
+    at-word : (v : Values) → Says n w v → (g : Field) (j : ℕ) → j < fieldSize n g
         → look n (set w (at n f i) x) g j ≡ setWord f i x v g j
     at-word v s g j k =
         look-set n w f i x g j (h .sized .size) (h .inside) k

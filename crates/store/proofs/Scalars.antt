@@ -15,7 +15,7 @@ use Rattle.rules.specs.Words.{stateOf, word}
 use Rattle.rules.proofs.ByKind.{apart-from, by-kinds}
 use Rattle.rules.proofs.Parts.{rows, children, parents, keys, marks, heaps}
 use Rattle.store.specs.Says.{Changes, Values}
-use Rattle.store.specs.Families.{wordBut, loose, Shape, Holds}
+use Rattle.store.specs.Families.{wordBut, withLinks, Shape, Holds}
 use Rattle.store.proofs.Says.{says-as}
 use Rattle.store.proofs.Holds.{reshape}
 use Rattle.store.proofs.KeptWords.{kept-but}
@@ -27,12 +27,12 @@ instead g h v i = cond (eqb h i) v (g i)
 
 module _ (n : ℕ) (counts minima : ℕ → ℕ) (t : Forests) (x a b : ℕ) (S : Shape n t) where
   abbrev words : (ℕ → ℕ) → (ℕ → ℕ) → Forests → Values
-  words c m s = loose x a b (wordBut c m s)
+  words c m s = withLinks x a b (wordBut c m s)
 
   -- a key, a mark or a minimum stored: the words of the forests with that change
   key-word : (i k : ℕ) → i < n → (f : Field) (j : ℕ)
       → setWord Key i k (words counts minima t) f j ≡ words counts minima (setKey i k t) f j
-  unfolding loose wordBut word
+  unfolding withLinks wordBut word
   key-word i k l =
       by-kinds (Key ∷ [])
       (λ f. (j : ℕ) → setWord Key i k (words counts minima t) f j ≡ words counts minima (setKey i k t) f j)
@@ -45,7 +45,7 @@ module _ (n : ℕ) (counts minima : ℕ → ℕ) (t : Forests) (x a b : ℕ) (S 
 
   mark-word : (i m : ℕ) → i < n → (f : Field) (j : ℕ)
       → setWord State i (stateOf (heapOf t i) m) (words counts minima t) f j ≡ words counts minima (setMark i m t) f j
-  unfolding loose wordBut word
+  unfolding withLinks wordBut word
   mark-word i m l =
       by-kinds (State ∷ [])
       (λ f. (j : ℕ) → setWord State i (stateOf (heapOf t i) m) (words counts minima t) f j
@@ -65,7 +65,7 @@ module _ (n : ℕ) (counts minima : ℕ → ℕ) (t : Forests) (x a b : ℕ) (S 
 
   minimum-word : (h v : ℕ) (f : Field) (j : ℕ)
       → setWord Minimum h v (words counts minima t) f j ≡ words counts (instead minima h v) t f j
-  unfolding loose wordBut
+  unfolding withLinks wordBut
   minimum-word h v =
       by-kinds (Minimum ∷ [])
       (λ f. (j : ℕ) → setWord Minimum h v (words counts minima t) f j ≡ words counts (instead minima h v) t f j)

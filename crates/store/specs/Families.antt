@@ -51,8 +51,8 @@ wordBut counts minima t f i =
     (cond (eqb (fieldNumber Minimum) (fieldNumber f)) (minima i) (word t f i))
 
 -- The links of x are a and b, whatever the forests say.
-unfoldable pub loose : ℕ → ℕ → ℕ → Values → Values
-loose x a b v = setWord Next x a (setWord Prev x b v)
+unfoldable pub withLinks : ℕ → ℕ → ℕ → Values → Values
+withLinks x a b v = setWord Next x a (setWord Prev x b v)
 
 -- ---- what the moves require of the forests
 
@@ -87,5 +87,5 @@ MayJoin t (Children p) x = heapOf t x ≢ 0
 pub record Holds (n : ℕ) (w : List ℕ) (counts minima : ℕ → ℕ) (t : Forests) (x : ℕ) : Type 0 where
   pub next : ℕ
   pub prev : ℕ
-  pub says : Says n w (loose x next prev (wordBut counts minima t))
+  pub says : Says n w (withLinks x next prev (wordBut counts minima t))
   pub shape : Shape n t

@@ -4,7 +4,7 @@ use mathlib.Core.Path.{_≡_}
 use mathlib.Core.List.{List}
 use lib.ListN.{length}
 use Rattle.rules.specs.declared.Field.{Field}
-use Rattle.rules.specs.Words.{storeSize, room, look}
+use Rattle.rules.specs.Words.{storeSize, fieldSize, look}
 
 -- a store for n items
 pub record Sized (n : ℕ) (w : List ℕ) : Type 0 where
@@ -14,7 +14,7 @@ pub record Sized (n : ℕ) (w : List ℕ) : Type 0 where
 -- word i of a kind is in the store
 pub record Within (n : ℕ) (w : List ℕ) (f : Field) (i : ℕ) : Type 0 where
   pub sized : Sized n w
-  pub inside : i < room n f
+  pub inside : i < fieldSize n f
 
 -- a value for each word
 abbrev pub Values : Type 0
@@ -22,7 +22,7 @@ Values = Field → ℕ → ℕ
 
 pub record Says (n : ℕ) (w : List ℕ) (v : Values) : Type 0 where
   pub sized : Sized n w
-  pub says : (f : Field) (i : ℕ) → i < room n f → look n w f i ≡ v f i
+  pub says : (f : Field) (i : ℕ) → i < fieldSize n f → look n w f i ≡ v f i
 
 -- Whatever the words w say, the words w′ say the same as changed by g.
 pub record Changes (n : ℕ) (w : List ℕ) (g : Values → Values) (w′ : List ℕ) : Type 0 where

@@ -1,7 +1,7 @@
 // The scope paper's runs (b) to (h) on the words of a store for nine items. Of each run: its name, the answers of its
 // lines, the row of heap 0, and all words: a line for each heap, then a line for each kind of an item's words.
 ghost use mathlib.Core.Path.{_≡_};
-ghost use Rattle.rules.specs.Words.{room};
+ghost use Rattle.rules.specs.Words.{fieldSize};
 ghost use Rattle.store.specs.Says.{Sized, Within};
 use libc::STDOUT_FILENO;
 use rules::Field;
@@ -56,7 +56,7 @@ fn show_heaps(s: &[u32])
 // The words of one kind of the nine items, on a line.
 fn show_kind(s: &[u32], f: Field)
     requires { ⌜ Sized 9 (now s) ⌝ }
-    requires { ⌜ room 9 f ≡ 9 ⌝ }
+    requires { ⌜ fieldSize 9 f ≡ 9 ⌝ }
 {
     for i in 0..8 {
         show_word(s, f, i, b' ');

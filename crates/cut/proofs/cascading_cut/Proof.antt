@@ -6,7 +6,7 @@ use mathlib.Core.Logic.{_≢_}
 use native.Mathlib.Omega.{arith}
 use lib.ListN.{length}
 use Rattle.rules.specs.Forests.{Forests, none, parentOf}
-use Rattle.rules.specs.Cut.{standing, cascadingCut}
+use Rattle.rules.specs.Cut.{nodeKind, cascadingCut}
 use Rattle.store.specs.Families.{Holds}
 use Rattle.cut.specs.Ready.{Member}
 use Rattle.cut.proofs.Cutting.{member-item, parent-word, state-word, state-small}
@@ -18,7 +18,7 @@ abbrev Inv-loop : tie.InvT-loop
 Inv-loop s₀ n h x p₀ cuts₀ left₀ s p cuts left =
     (length s ≡ length s₀) × (cuts + left ≡ n + 1)
     × ((c m : ℕ → ℕ) (t : Forests) → Holds n s₀ c m t none → Member t h x
-    → Going n s c m (cascadingCut (suc n) (standing t x) h x t) h p cuts left)
+    → Going n s c m (cascadingCut (suc n) (nodeKind t x) h x t) h p cuts left)
 
 abbrev μ-loop : tie.MeasureT-loop
 μ-loop s₀ n h x p₀ cuts₀ left₀ s p cuts left = left
@@ -28,7 +28,7 @@ here : (c : tie.At-loop Inv-loop μ-loop) →
     let a = c .before .before .args in
     let p = c .before .before .pre in
     Going (a .n) (c .loop .s) (p .counts) (p .minima)
-    (cascadingCut (suc (a .n)) (standing (p .forests) (a .x)) (a .h) (a .x) (p .forests))
+    (cascadingCut (suc (a .n)) (nodeKind (p .forests) (a .x)) (a .h) (a .x) (p .forests))
     (a .h) (c .loop .p) (c .loop .cuts) (c .loop .left)
 here c =
     let p = c .before .before .pre in

@@ -1,11 +1,11 @@
--- `finder::search` meets its contract. The invariant: as many turns are made as places were visited.
+-- `finder::search` meets its contract. The invariant: as many steps are made as places were visited.
 use Prim.Native.Nat.{ℕ, _-_}
 use mathlib.Core.Path.{_≡_, refl}
 use native.Mathlib.Omega.{arith}
 use borrow.Author.Needs.{needs}
 use lib.ListN.{length}
 use Rattle.paths.specs.Map.{mapOf}
-use Rattle.finder.specs.Standing.{Stands}
+use Rattle.finder.specs.SearchState.{Stands}
 use Rattle.finder.proofs.OwnSpans.{sorted}
 use Rattle.finder.proofs.Searching.{goes-on, goes-below, stands-found}
 use Rattle.finder.proofs.search.Statement.{statement}

@@ -8,8 +8,8 @@ use Rattle.sheet.proofs.run_fresh.Tie as tie
 check-limits-requires : tie.Need-check-limits-requires
 check-limits-requires c κs = search needs
 
-refused-requires : tie.Need-refused-requires
-refused-requires c κs = search needs
+refused-run-requires : tie.Need-refused-run-requires
+refused-run-requires c κs = search needs
 
 same-length : tie.Need-same-length
 same-length c = search needs
@@ -18,7 +18,7 @@ same-length-2 : tie.Need-same-length-2
 same-length-2 c = search needs
 
 returns : tie.Need-returns
-returns c = fresh-refused (c .before .before .check-limits .ensures) (c .before .if1 .taken) (c .refused .ensures)
+returns c = fresh-refused (c .before .before .check-limits .ensures) (c .before .if1 .taken) (c .refused-run .ensures)
 
 make-empty-requires : tie.Need-make-empty-requires
 make-empty-requires c κs =
@@ -61,7 +61,7 @@ run-fresh-spec =
     tie.close
     (tie.spec
     check-limits-requires
-    refused-requires
+    refused-run-requires
     same-length
     same-length-2
     returns

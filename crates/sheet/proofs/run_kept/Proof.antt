@@ -9,8 +9,8 @@ use Rattle.sheet.proofs.run_kept.Tie as tie
 check-limits-requires : tie.Need-check-limits-requires
 check-limits-requires c κs = search needs
 
-refused-requires : tie.Need-refused-requires
-refused-requires c κs = search needs
+refused-run-requires : tie.Need-refused-run-requires
+refused-run-requires c κs = search needs
 
 same-length : tie.Need-same-length
 same-length c = search needs
@@ -19,13 +19,13 @@ same-length-2 : tie.Need-same-length-2
 same-length-2 c = search needs
 
 returns : tie.Need-returns
-returns c = kept-refused (c .before .before .check-limits .ensures) (c .before .if1 .taken) (c .refused .ensures)
+returns c = kept-refused (c .before .before .check-limits .ensures) (c .before .if1 .taken) (c .refused-run .ensures)
 
 sound-requires : tie.Need-sound-requires
 sound-requires c κs = search needs
 
-refused-requires-2 : tie.Need-refused-requires-2
-refused-requires-2 c κs = search needs
+refused-run-requires-2 : tie.Need-refused-run-requires-2
+refused-run-requires-2 c κs = search needs
 
 same-length-3 : tie.Need-same-length-3
 same-length-3 c = search needs
@@ -38,7 +38,7 @@ returns-2 c =
     let check = c .before .before in
     let test = check .before .before in
     unsound (test .before .check-limits .ensures) (test .if1 .left)
-    (told-false _ _ (check .sound .ensures) (c .before .if2 .taken)) (c .refused2 .ensures)
+    (told-false _ _ (check .sound .ensures) (c .before .if2 .taken)) (c .refused-run2 .ensures)
 
 run-lines-requires : tie.Need-run-lines-requires
 run-lines-requires c κs =
@@ -80,12 +80,12 @@ run-kept-spec =
     tie.close
     (tie.spec
     check-limits-requires
-    refused-requires
+    refused-run-requires
     same-length
     same-length-2
     returns
     sound-requires
-    refused-requires-2
+    refused-run-requires-2
     same-length-3
     same-length-4
     returns-2

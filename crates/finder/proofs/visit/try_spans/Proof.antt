@@ -4,7 +4,7 @@ use mathlib.Core.Path.{_≡_, refl, _∙_}
 use native.Mathlib.Omega.{arith}
 use lib.ListN.{length, getD}
 use Rattle.paths.specs.Map.{Map}
-use Rattle.finder.specs.Standing.{Taken}
+use Rattle.finder.specs.SearchState.{Taken}
 use Rattle.finder.proofs.AtPlace.{place-small}
 use Rattle.finder.proofs.Walking.{
   Walking,

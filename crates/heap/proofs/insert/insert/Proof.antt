@@ -1,6 +1,6 @@
 -- `heap::insert::insert` meets its contract.
 use borrow.Author.Needs.{needs}
-use Rattle.heap.proofs.InsertWords.{enter-ready, row-ready, enroll-ready, insert-words}
+use Rattle.heap.proofs.InsertWords.{enter-ready, row-ready, count-item-ready, insert-words}
 use Rattle.heap.proofs.insert.insert.Statement.{statement}
 use Rattle.heap.proofs.insert.insert.Tie as tie
 
@@ -10,12 +10,12 @@ append-requires c κs =
     let c6 = c3 .before .before .before in
     row-ready (c6 .pre) (c3 .enter .ensures)
 
-enroll-requires : tie.Need-enroll-requires
-enroll-requires c κs =
+count-item-requires : tie.Need-count-item-requires
+count-item-requires c κs =
     let c3 = c .before .before .before in
     let c7 = c3 .before .before .before .before in
     let c10 = c7 .before .before .before in
-    enroll-ready (c10 .pre) (c7 .enter .ensures) (c3 .append .ensures)
+    count-item-ready (c10 .pre) (c7 .enter .ensures) (c3 .append .ensures)
 
 returns : tie.Need-returns
 returns c =
@@ -23,7 +23,7 @@ returns c =
     let c6 = c2 .before .before .before .before in
     let c10 = c6 .before .before .before .before in
     let c13 = c10 .before .before .before in
-    insert-words (c13 .pre) (c10 .enter .ensures) (c6 .append .ensures) (c2 .enroll .ensures)
+    insert-words (c13 .pre) (c10 .enter .ensures) (c6 .append .ensures) (c2 .count-item .ensures)
 
 pub insert-spec : {M : Type 1} → statement M
 insert-spec =
@@ -31,6 +31,6 @@ insert-spec =
     (tie.spec
     (λ c κs. enter-ready (c .before .before .pre))
     append-requires
-    enroll-requires
+    count-item-requires
     (λ c. search needs)
     returns)

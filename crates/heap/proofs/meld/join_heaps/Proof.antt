@@ -12,7 +12,7 @@ lesser-of-requires c κs =
     let c3 = c .before .before .before in
     let c10 = c3 .before .before .before .before .before .before .before in
     record {
-      sized = c10 .pre .pour .heaps .sized;
+      sized = c10 .pre .rows .heaps .sized;
       one = subst (Link (c10 .args .n)) (sym (c3 .get3 .ensures)) (c10 .pre .one);
       two = subst (Link (c10 .args .n)) (sym (c .before .get4 .ensures)) (c10 .pre .two);
     }
@@ -37,7 +37,7 @@ returns c =
     let c20 = c18 .before .before in
     let c23 = c20 .before .before .before in
     join-heaps-changes (c23 .pre) (c20 .get .ensures) (c18 .get2 .ensures) (c16 .get3 .ensures) (c14 .get4 .ensures)
-    (c12 .lesser-of .ensures) (c10 .pour .ensures) (c6 .put .ensures) (c2 .put2 .ensures)
+    (c12 .lesser-of .ensures) (c10 .join-rows .ensures) (c6 .put .ensures) (c2 .put2 .ensures)
 
 pub join-heaps-spec : {M : Type 1} → statement M
 join-heaps-spec =

@@ -8,12 +8,12 @@ use Rattle.heap.proofs.perform.melded.Tie as tie
 
 get-requires : tie.Need-get-requires
 get-requires c κs =
-    let H = join-heaps-ready (c .before .before .pre .allowed) .pour .heaps in
+    let H = join-heaps-ready (c .before .before .pre .allowed) .rows .heaps in
     record { sized = H .sized; inside = H .into }
 
 get-requires-2 : tie.Need-get-requires-2
 get-requires-2 c κs =
-    let H = join-heaps-ready (c .before .before .before .before .pre .allowed) .pour .heaps in
+    let H = join-heaps-ready (c .before .before .before .before .pre .allowed) .rows .heaps in
     record { sized = H .sized; inside = H .from }
 
 meld-requires : tie.Need-meld-requires

@@ -9,8 +9,8 @@ inserted-requires c κs =
     let c5 = c2 .before .before .before in
     rw (c2 .call .given .1) at (c5 .pre)
 
-shown-requires : tie.Need-shown-requires
-shown-requires c κs =
+found-min-requires : tie.Need-found-min-requires
+found-min-requires c κs =
     let c2 = c .before .before in
     let c5 = c2 .before .before .before in
     rw (c2 .call2 .given .1) at (c5 .pre)
@@ -49,7 +49,7 @@ returns-2 : tie.Need-returns-2
 returns-2 c =
     let c2 = c .before .before in
     let c5 = c2 .before .before .before in
-    rw (c5 .call2 .given .1) (c2 .shown .ensures)
+    rw (c5 .call2 .given .1) (c2 .found-min .ensures)
 
 returns-3 : tie.Need-returns-3
 returns-3 c =
@@ -82,7 +82,7 @@ perform-allowed-spec =
     (λ c. search needs)
     inserted-requires
     (λ c. search needs)
-    shown-requires
+    found-min-requires
     (λ c. search needs)
     extracted-requires
     (λ c. search needs)

@@ -94,11 +94,11 @@ use denote.Exit.{yes}
 use denote.Triple.Clauses.{ensured, lasts}
 use Rattle.lines.specs.LineAt.{lineAt}
 use Rattle.lines.specs.declared.reader.LineReader.{LineReader}
-use Rattle.lines.specs.declared.reader.Next.{Next}
+use Rattle.lines.specs.declared.reader.NextLine.{NextLine}
 use Rattle.lines.proofs.reader.LineReader as T
 use Rattle.lines.proofs.reader.LineReader.Laws as T′
-use Rattle.lines.proofs.reader.Next as S
-use Rattle.lines.proofs.reader.Next.Laws as S′
+use Rattle.lines.proofs.reader.NextLine as S
+use Rattle.lines.proofs.reader.NextLine.Laws as S′
 use Rattle.lines.proofs.reader.line_at as step
 use Rattle.lines.proofs.reader.line_at.Symbol as step-def
 use Rattle.lines.proofs.reader.line_at.Symbol.{name as #line-at}
@@ -129,7 +129,7 @@ module _ {M : Type 1} (𝓤 : URA M) (H : Heap 𝓤) (A : Atoms 𝓤) (W : Given
   abbrev v : Val
   v = sliceVal (d .sheet .ptr) (length (d .sheet .now))
 
-  abbrev found : Next
+  abbrev found : NextLine
   found = lineAt (now (d .sheet)) (d .at)
 
   abbrev Post : Val → SProp 𝓤
@@ -181,13 +181,13 @@ module _ {M : Type 1} (𝓤 : URA M) (H : Heap 𝓤) (A : Atoms 𝓤) (W : Given
       move ! (2 ∷ 0 ∷ []) $ use2 W (raw (LineAt 𝓤 H A mem run .pre to)) asked $ frame ! $ done !)
 
   -- of the callee's `ensured`, the clause alone: it has no `&mut`, so what is said of last values is dropped
-  said : (r : Next)
+  said : (r : NextLine)
       → ent 𝓤 (ensured 𝓤 H A step.ended (step.clauses 𝓤 H A mem run) (κ, tt) (d .sheet, (d .at, tt)) tt r)
       (fact 𝓤 (r ≡ found))
   said r = exE 𝓤 _
       (λ ws. snd∗ 𝓤 (sem 𝓤 H A (lasts step.ended (κ, tt) (d .sheet, (d .at, tt)) ws)) (fact 𝓤 (r ≡ found)))
 
-  exits : (r : Next) (u : Val) → r ≡ found
+  exits : (r : NextLine) (u : Val) → r ≡ found
       → ent 𝓤 (⋆ 𝓤 H A (‵ (S.the-row .own r (u ∷ [])) ∷ (‵ (flft κ q) ⊛ ‵ ftrue) ∷ ‵ Own ∷ [])) (Post u)
   exits r u e =
       qed W (‵ (S.the-row .own r (u ∷ [])) ∷ (‵ (flft κ q) ⊛ ‵ ftrue) ∷ ‵ Own ∷ []) ∵
@@ -215,7 +215,7 @@ module _ {M : Type 1} (𝓤 : URA M) (H : Heap 𝓤) (A : Atoms 𝓤) (W : Given
         (and-then ! (load ! (from ! (stop !)) (look ! 4 refl))
         (and-then ! (load ! (from ! (stop !)) (look ! 2 refl)) (no-more !))) (λ u.
         use1 W (later
-        (some (λ (r : Next). ((‵ (flft κ q) ⊛ ‵ ftrue) ⊛ ‵ (S.the-row .own r (u ∷ []))) ⊛ raw
+        (some (λ (r : NextLine). ((‵ (flft κ q) ⊛ ‵ ftrue) ⊛ ‵ (S.the-row .own r (u ∷ []))) ⊛ raw
         (ensured 𝓤 H A step.ended (step.clauses 𝓤 H A mem run) (κ, tt) (d .sheet, (d .at, tt)) tt r)))) (id⊢ 𝓤 _) $
         await ! tt $ pick ! (λ r.
         split ! $ move ! (1 ∷ []) $ use1 W (raw (fact 𝓤 (r ≡ found))) (said r) $ heard ! (r ≡ found) (λ e. split ! $

@@ -95,11 +95,11 @@ use denote.Exit.{yes}
 use denote.Triple.Clauses.{ensured, lasts}
 use Rattle.lines.specs.LineAt.{lineAt}
 use Rattle.lines.specs.declared.reader.LineReader.{LineReader}
-use Rattle.lines.specs.declared.reader.Next.{Next}
+use Rattle.lines.specs.declared.reader.NextLine.{NextLine}
 use Rattle.lines.proofs.reader.LineReader as T
 use Rattle.lines.proofs.reader.LineReader.Laws as T′
-use Rattle.lines.proofs.reader.Next as S
-use Rattle.lines.proofs.reader.Next.Laws as S′
+use Rattle.lines.proofs.reader.NextLine as S
+use Rattle.lines.proofs.reader.NextLine.Laws as S′
 use Rattle.lines.proofs.reader.reader_at as new
 use Rattle.lines.proofs.reader.reader_at.Symbol as new-def
 use Rattle.lines.proofs.reader.reader_at.Symbol.{name as #reader-at}
@@ -122,11 +122,11 @@ stayed = (stay-none-slice (0 ∷ []) tt (plain (λ _. u8)) yes, (stay-none (λ _
 
 module _ {M : Type 1} (𝓤 : URA M) (H : Heap 𝓤) (A : Atoms 𝓤) (mem : Memory → SProp 𝓤) (run : Routine → Fun 𝓤) where
   -- the contracts that the proof cites
-  abbrev ReaderAt : Contract 𝓤
-  ReaderAt = tripleOf 𝓤 H A new.signature (new.spec 𝓤 H A mem run)
+  abbrev ReaderAtMeets : Contract 𝓤
+  ReaderAtMeets = tripleOf 𝓤 H A new.signature (new.spec 𝓤 H A mem run)
 
-  abbrev NextLine : Contract 𝓤
-  NextLine = tripleOf 𝓤 H A next.signature (next.spec 𝓤 H A mem run)
+  abbrev NextLineMeets : Contract 𝓤
+  NextLineMeets = tripleOf 𝓤 H A next.signature (next.spec 𝓤 H A mem run)
 
 module _ {M : Type 1} (𝓤 : URA M) (H : Heap 𝓤) (A : Atoms 𝓤) (W : Given 𝓤 H A) (mem : Memory → SProp 𝓤)
     (run : Routine → Fun 𝓤) (κ : Lft) (q : Share) (s : RefT (List ℕ)) (n : ℕ) (ok : n < 2 ^ 64) where
@@ -134,7 +134,7 @@ module _ {M : Type 1} (𝓤 : URA M) (H : Heap 𝓤) (A : Atoms 𝓤) (W : Given
   abbrev v : Val
   v = sliceVal (s .ptr) (length (s .now))
 
-  abbrev found : Next
+  abbrev found : NextLine
   found = lineAt (now s) n
 
   abbrev at : Vals line.signature (κ, tt)
@@ -152,17 +152,17 @@ module _ {M : Type 1} (𝓤 : URA M) (H : Heap 𝓤) (A : Atoms 𝓤) (W : Given
   Own = ShrSlice (named 0) κ u8 .own s (v ∷ [])
 
   -- the call of `reader_at`: what it is passed, what it asks, and what is known of its result
-  abbrev to-new : ReaderAt 𝓤 H A mem run .Ghost
+  abbrev to-new : ReaderAtMeets 𝓤 H A mem run .Ghost
   to-new = (((κ, tt), (q, tt), tt, (s, (n, tt)), at), tt)
 
   goes-new : ent 𝓤 (onEntry 𝓤 H A line.signature (κ, tt) (q, tt) (s, (n, tt)) at)
-      (sep 𝓤 (ReaderAt 𝓤 H A mem run .pre to-new) (sem 𝓤 H A Own))
+      (sep 𝓤 (ReaderAtMeets 𝓤 H A mem run .pre to-new) (sem 𝓤 H A Own))
   goes-new =
       qed W ((‵ (flft κ q) ⊛ ‵ ftrue) ∷ ‵ (owns (ShrSlice (named 0) κ u8 ∷ usize ∷ []) (s, (n, tt)) at) ∷ []) ∵
       move ! (1 ∷ []) $ fsplit ! $ use1 W (‵ Own ⊛ ‵ Own) (shr-slice-copy 𝓤 H A W (named 0) κ u8 .twice s (v ∷ [])) $
       split ! $
       move ! (0 ∷ 2 ∷ []) $ fjoin ! $ move ! (2 ∷ 0 ∷ []) $
-      use2 W (raw (ReaderAt 𝓤 H A mem run .pre to-new))
+      use2 W (raw (ReaderAtMeets 𝓤 H A mem run .pre to-new))
       (qed W ((‵ (flft κ q) ⊛ ‵ ftrue) ∷ ‵ (owns (ShrSlice (named 0) κ u8 ∷ usize ∷ []) (s, (n, tt)) at) ∷ []) ∵
       join ! $ frame ! $ done !) $ frame ! $ done !
 
@@ -174,23 +174,23 @@ module _ {M : Type 1} (𝓤 : URA M) (H : Heap 𝓤) (A : Atoms 𝓤) (W : Given
       (fact 𝓤 ((r .sheet ≡ s) × (r .at ≡ n))))
 
   -- the call of `next_line`, at the struct r with the machine value u
-  abbrev to-next : LineReader → Val → NextLine 𝓤 H A mem run .Ghost
+  abbrev to-next : LineReader → Val → NextLineMeets 𝓤 H A mem run .Ghost
   to-next r u = (((κ, tt), (q, tt), tt, (r, tt), (u ∷ [], tt)), tt)
 
   goes-next : (r : LineReader) (u : Val)
       → ent 𝓤 (⋆ 𝓤 H A (‵ (B (κ, tt) .own r (u ∷ [])) ∷ (‵ (flft κ q) ⊛ ‵ ftrue) ∷ []))
-      (NextLine 𝓤 H A mem run .pre (to-next r u))
+      (NextLineMeets 𝓤 H A mem run .pre (to-next r u))
   goes-next r u = qed W (‵ (B (κ, tt) .own r (u ∷ [])) ∷ (‵ (flft κ q) ⊛ ‵ ftrue) ∷ []) ∵ nothing ! $
       move ! (1 ∷ 0 ∷ []) $ fjoin ! $ move ! (1 ∷ 0 ∷ []) $ join ! $ frame ! $ done !
 
-  next-said : (r : LineReader) (t : Next)
+  next-said : (r : LineReader) (t : NextLine)
       → ent 𝓤 (ensured 𝓤 H A next.ended (next.clauses 𝓤 H A mem run) (κ, tt) (r, tt) tt t)
       (fact 𝓤 (t ≡ lineAt (now (r .sheet)) (r .at)))
   next-said r t =
       exE 𝓤 _ (λ ws. snd∗ 𝓤 (sem 𝓤 H A (lasts next.ended (κ, tt) (r, tt) ws))
       (fact 𝓤 (t ≡ lineAt (now (r .sheet)) (r .at))))
 
-  exits : (t : Next) (u : Val) → t ≡ found
+  exits : (t : NextLine) (u : Val) → t ≡ found
       → ent 𝓤 (⋆ 𝓤 H A (‵ (S.the-row .own t (u ∷ [])) ∷ (‵ (flft κ q) ⊛ ‵ ftrue) ∷ ‵ Own ∷ [])) (Post u)
   exits t u e =
       qed W (‵ (S.the-row .own t (u ∷ [])) ∷ (‵ (flft κ q) ⊛ ‵ ftrue) ∷ ‵ Own ∷ []) ∵
@@ -201,8 +201,8 @@ module _ {M : Type 1} (𝓤 : URA M) (H : Heap 𝓤) (A : Atoms 𝓤) (W : Given
       fjoin ! $ move ! (2 ∷ 0 ∷ []) $ fjoin ! $ frame ! $ done !
 
   module _ (C : Calls 𝓤 H) (Λ : Loops 𝓤 H) (fm : FmC 𝓤 H (W .laws) C)
-      (known-new : Triple 𝓤 (C #reader-at) (ReaderAt 𝓤 H A mem run))
-      (known-next : Triple 𝓤 (C #next-line) (NextLine 𝓤 H A mem run)) where
+      (known-new : Triple 𝓤 (C #reader-at) (ReaderAtMeets 𝓤 H A mem run))
+      (known-next : Triple 𝓤 (C #next-line) (NextLineMeets 𝓤 H A mem run)) where
     walk : Is (ShrSlice (named 0) κ u8) s (v ∷ [])
         → ent 𝓤 (onEntry 𝓤 H A line.signature (κ, tt) (q, tt) (s, (n, tt)) at)
         (WpFn 𝓤 H C Λ code.function (v ∷ vint w64 n ∷ []) Post)
@@ -212,8 +212,8 @@ module _ {M : Type 1} (𝓤 : URA M) (H : Heap 𝓤) (A : Atoms 𝓤) (W : Given
         alloc1 ! (λ l₀. alloc1 ! (λ l₁. alloc1 ! (λ l₂. alloc1 ! (λ l₃. alloc0 ! $ params1 ! $
         pass1 ! (init ! 4 refl (shr-slice-lawful 𝓤 H A W (named 0) κ u8 .typed s (v ∷ []) p .0)) $
         pass1 ! (init ! 2 refl (tt, record { fits = ok })) $ pass0 ! $
-        move ! (8 ∷ []) $ use1 W (raw (ReaderAt 𝓤 H A mem run .pre to-new) ⊛ ‵ Own) goes-new $ split ! $
-        calls-at ! fm (ReaderAt 𝓤 H A mem run) known-new to-new
+        move ! (8 ∷ []) $ use1 W (raw (ReaderAtMeets 𝓤 H A mem run .pre to-new) ⊛ ‵ Own) goes-new $ split ! $
+        calls-at ! fm (ReaderAtMeets 𝓤 H A mem run) known-new to-new
         (and-then ! (load ! (from ! (stop !)) (look ! 6 refl))
         (and-then ! (load ! (from ! (stop !)) (look ! 4 refl)) (no-more !))) (λ u.
         use1 W (later
@@ -226,11 +226,11 @@ module _ {M : Type 1} (𝓤 : URA M) (H : Heap 𝓤) (A : Atoms 𝓤) (W : Given
         peeks ! (B (κ, tt)) (Is (B (κ, tt))) (shows 𝓤 H A (B (κ, tt))) r (u ∷ []) (λ is.
         land ! (from ! (stop !))
         (init ! 3 refl (LL.lawful (T.the-type αᵉ) (T′.the-laws αᵉ) 𝓤 H A W .typed r _ is .0)) $
-        use2 W (raw (NextLine 𝓤 H A mem run .pre (to-next r u))) (goes-next r u) $
-        calls-at ! fm (NextLine 𝓤 H A mem run) known-next (to-next r u)
+        use2 W (raw (NextLineMeets 𝓤 H A mem run .pre (to-next r u))) (goes-next r u) $
+        calls-at ! fm (NextLineMeets 𝓤 H A mem run) known-next (to-next r u)
         (and-then ! (load ! (from ! (stop !)) (look ! 2 refl)) (no-more !)) (λ u′.
         use1 W (later
-        (some (λ (t : Next). ((‵ (flft κ q) ⊛ ‵ ftrue) ⊛ ‵ (S.the-row .own t (u′ ∷ []))) ⊛ raw
+        (some (λ (t : NextLine). ((‵ (flft κ q) ⊛ ‵ ftrue) ⊛ ‵ (S.the-row .own t (u′ ∷ []))) ⊛ raw
         (ensured 𝓤 H A next.ended (next.clauses 𝓤 H A mem run) (κ, tt) (r, tt) tt t)))) (id⊢ 𝓤 _) $ await ! tt $
         pick ! (λ t.
         split ! $ move ! (1 ∷ []) $ use1 W (raw (fact 𝓤 (t ≡ lineAt (now (r .sheet)) (r .at)))) (next-said r t) $
@@ -247,7 +247,7 @@ module _ {M : Type 1} (𝓤 : URA M) (H : Heap 𝓤) (A : Atoms 𝓤) (W : Given
 module _ {M : Type 1} (𝓤 : URA M) (H : Heap 𝓤) (A : Atoms 𝓤) (W : Given 𝓤 H A) (mem : Memory → SProp 𝓤)
     (run : Routine → Fun 𝓤) where
   line-walks : (C : Calls 𝓤 H) (Λ : Loops 𝓤 H) → FmC 𝓤 H (W .laws) C
-      → Triple 𝓤 (C #reader-at) (ReaderAt 𝓤 H A mem run) → Triple 𝓤 (C #next-line) (NextLine 𝓤 H A mem run)
+      → Triple 𝓤 (C #reader-at) (ReaderAtMeets 𝓤 H A mem run) → Triple 𝓤 (C #next-line) (NextLineMeets 𝓤 H A mem run)
       → Walks 𝓤 H A line.ended stayed (WpFn 𝓤 H C Λ code.function) (line.clauses 𝓤 H A mem run)
   line-walks C Λ fm known-new known-next =
       walked 𝓤 H A line.ended stayed (line.clauses 𝓤 H A mem run) (WpFn 𝓤 H C Λ code.function)
@@ -257,7 +257,7 @@ module _ {M : Type 1} (𝓤 : URA M) (H : Heap 𝓤) (A : Atoms 𝓤) (W : Given
 
 line-meets : {M : Type 1} (𝓤 : URA M) (H : Heap 𝓤) (A : Atoms 𝓤) (W : Given 𝓤 H A) (mem : Memory → SProp 𝓤)
     (run : Routine → Fun 𝓤) (𝓣 : Tables 𝓤 H)
-    → Triple 𝓤 (𝓣 .C #reader-at) (ReaderAt 𝓤 H A mem run) → Triple 𝓤 (𝓣 .C #next-line) (NextLine 𝓤 H A mem run)
+    → Triple 𝓤 (𝓣 .C #reader-at) (ReaderAtMeets 𝓤 H A mem run) → Triple 𝓤 (𝓣 .C #next-line) (NextLineMeets 𝓤 H A mem run)
     → Meets 𝓤 H A line.signature (WpFn 𝓤 H (𝓣 .C) (𝓣 .Λ) code.function) (line.spec 𝓤 H A mem run)
 line-meets 𝓤 H A W mem run 𝓣 known-new known-next =
     walk-meets 𝓤 H A line.ended stayed W (
@@ -274,8 +274,8 @@ read-line-spec 𝓤 H 𝓜 𝓖 𝓡 =
     (tables 𝓤 H 𝓜 𝓡 code.env .C) (tables 𝓤 H 𝓜 𝓡 code.env .Λ) #read-line code.function (code.unfolded 𝓤 H 𝓜 𝓡)
     (line-meets 𝓤 H (𝓖 .A) (givenOf 𝓤 H 𝓜 𝓖) (𝓜 .mem) (𝓡 .run) (tablesOf 𝓤 H 𝓜 (tables 𝓤 H 𝓜 𝓡 code.env))
     (cited 𝓤 H
-    (ReaderAt 𝓤 H (𝓖 .A) (𝓜 .mem) (𝓡 .run)) 𝓜 𝓡 code.env #reader-at new-def.routine code.calls-lines·reader·reader-at
+    (ReaderAtMeets 𝓤 H (𝓖 .A) (𝓜 .mem) (𝓡 .run)) 𝓜 𝓡 code.env #reader-at new-def.routine code.calls-lines·reader·reader-at
     (new-thm.met 𝓤 H 𝓜 𝓖 𝓡))
     (cited 𝓤 H
-    (NextLine 𝓤 H (𝓖 .A) (𝓜 .mem) (𝓡 .run)) 𝓜 𝓡 code.env #next-line next-def.routine code.calls-lines·reader·next-line
+    (NextLineMeets 𝓤 H (𝓖 .A) (𝓜 .mem) (𝓡 .run)) 𝓜 𝓡 code.env #next-line next-def.routine code.calls-lines·reader·next-line
     (next-thm.met 𝓤 H 𝓜 𝓖 𝓡)))

@@ -4,14 +4,14 @@ use mathlib.Core.Path.{_≡_}
 use native.Mathlib.Omega.{arith}
 use borrow.Author.Needs.{needs}
 use lib.ListN.{length, length-set}
-use Rattle.spans.specs.Range.{FirstSpan, Index}
+use Rattle.spans.specs.Range.{FirstSpan, IsIndex}
 use Rattle.spans.proofs.Range.{first-none, index-none, index-more}
 use Rattle.spans.proofs.index.index_spans.Statement.{statement}
 use Rattle.spans.proofs.index.index_spans.Tie as tie
 
 abbrev Inv-loop : tie.InvT-loop
 Inv-loop places from index₀ u₀ e₀ index u e =
-    (u ≤ places) × FirstSpan from u e × Index u from index × (length index ≡ 4097)
+    (u ≤ places) × FirstSpan from u e × IsIndex u from index × (length index ≡ 4097)
 
 abbrev μ-loop : tie.MeasureT-loop
 μ-loop places from index₀ u₀ e₀ index u e = places - u

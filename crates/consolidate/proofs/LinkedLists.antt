@@ -24,12 +24,12 @@ use Rattle.rules.proofs.ConcatLinks.{
 }
 use Rattle.rules.proofs.Relinks.{head-removed, next-removed, prev-removed}
 use Rattle.rules.proofs.RemoveLinks.{last-without}
-use Rattle.consolidate.specs.Chain.{Chain}
+use Rattle.consolidate.specs.LinkedList.{LinkedList}
 
 -- the links of the members alone matter
-pub chain-frame : {f l : ℕ} {nx pv : ℕ → ℕ} {m : List ℕ} (nx′ pv′ : ℕ → ℕ) → Chain f l nx pv m
-    → ((y : ℕ) → 1 ≤ occurs y m → (nx′ y ≡ nx y) × (pv′ y ≡ pv y)) → Chain f l nx′ pv′ m
-chain-frame nx′ pv′ c e =
+pub linked-frame : {f l : ℕ} {nx pv : ℕ → ℕ} {m : List ℕ} (nx′ pv′ : ℕ → ℕ) → LinkedList f l nx pv m
+    → ((y : ℕ) → 1 ≤ occurs y m → (nx′ y ≡ nx y) × (pv′ y ≡ pv y)) → LinkedList f l nx′ pv′ m
+linked-frame nx′ pv′ c e =
     record {
       front = c .front;
       back = c .back;
@@ -60,7 +60,7 @@ not-none l y i n e = apart y none l i n (sym e)
 
 -- ---- two lists, one after the other
 
-module _ {f l a b : ℕ} {nx pv : ℕ → ℕ} (m k : List ℕ) (c : Chain f l nx pv m) (g : Chain a b nx pv k)
+module _ {f l a b : ℕ} {nx pv : ℕ → ℕ} (m k : List ℕ) (c : LinkedList f l nx pv m) (g : LinkedList a b nx pv k)
     (o : Once (m ++ k)) (n : occurs none (m ++ k) ≡ 0) (s : a ≢ none) (f′ : ℕ) (nx′ pv′ : ℕ → ℕ)
     (ef : f′ ≡ cond (eqb l none) a f)
     (en : (y : ℕ) → nx′ y ≡ cond (eqb l y) a (nx y))
@@ -114,8 +114,8 @@ module _ {f l a b : ℕ} {nx pv : ℕ → ℕ} (m k : List ℕ) (c : Chain f l n
       ∙ sym (prev-behind none y m k i)
 
   -- the second list follows the first
-  pub chain-concat : Chain f′ b nx′ pv′ (m ++ k)
-  chain-concat =
+  pub linked-concat : LinkedList f′ b nx′ pv′ (m ++ k)
+  linked-concat =
       record {
         front = ef ∙ rw (c .back, c .front, g .front) (sym (head-concat m k none-m));
         back = g .back ∙ last-any none (lastOr none m) k some-k ∙ sym (last-concat none m k);
@@ -126,7 +126,7 @@ module _ {f l a b : ℕ} {nx pv : ℕ → ℕ} (m k : List ℕ) (c : Chain f l n
 -- ---- an item at the end
 
 -- a list of one item
-alone : (x : ℕ) (nx pv : ℕ → ℕ) → nx x ≡ none → pv x ≡ none → Chain x x nx pv (x ∷ [])
+alone : (x : ℕ) (nx pv : ℕ → ℕ) → nx x ≡ none → pv x ≡ none → LinkedList x x nx pv (x ∷ [])
 unfolding headOr lastOr nextIn prevIn occurs sumBy
 alone x nx pv e q =
     record {
@@ -136,14 +136,14 @@ alone x nx pv e q =
       prevs = byItem x (λ _. q ∙ rw (eqb-self x)) (λ y n i. absurd (omega (arith, delta-other y x (λ z. n (sym z)))));
     }
 
-pub chain-append : {f l : ℕ} {nx pv : ℕ → ℕ} (m : List ℕ) (c : Chain f l nx pv m) (x : ℕ) → Once m
+pub linked-append : {f l : ℕ} {nx pv : ℕ → ℕ} (m : List ℕ) (c : LinkedList f l nx pv m) (x : ℕ) → Once m
     → occurs none m ≡ 0 → occurs x m ≡ 0 → x ≢ none → (f′ : ℕ) (nx′ pv′ : ℕ → ℕ)
     → f′ ≡ cond (eqb l none) x f
     → ((y : ℕ) → nx′ y ≡ cond (eqb l y) x (cond (eqb x y) none (nx y)))
-    → ((y : ℕ) → pv′ y ≡ cond (eqb x y) l (pv y)) → Chain f′ x nx′ pv′ (m ++ (x ∷ []))
-chain-append {f} {l} {nx} {pv} m c x o k a s f′ nx′ pv′ ef en ep =
-    chain-concat m (x ∷ [])
-    (chain-frame nx₁ pv₁ c (λ y i. (rw (ne-eqb x y (out y i)), rw (ne-eqb x y (out y i)))))
+    → ((y : ℕ) → pv′ y ≡ cond (eqb x y) l (pv y)) → LinkedList f′ x nx′ pv′ (m ++ (x ∷ []))
+linked-append {f} {l} {nx} {pv} m c x o k a s f′ nx′ pv′ ef en ep =
+    linked-concat m (x ∷ [])
+    (linked-frame nx₁ pv₁ c (λ y i. (rw (ne-eqb x y (out y i)), rw (ne-eqb x y (out y i)))))
     (alone x nx₁ pv₁ (rw (eqb-self x)) (rw (eqb-self x)))
     (λ z. byItem {P = λ z. occurs z (m ++ (x ∷ [])) ≤ 1} x
     (omega (arith, occurs-append x m (x ∷ []), occurs-one x x, delta-self x))
@@ -166,13 +166,13 @@ chain-append {f} {l} {nx} {pv} m c x o k a s f′ nx′ pv′ ef en ep =
 
 -- ---- an item taken out
 
-pub chain-remove : {f l : ℕ} {nx pv : ℕ → ℕ} (m : List ℕ) (c : Chain f l nx pv m) (x : ℕ) → Once m
+pub linked-remove : {f l : ℕ} {nx pv : ℕ → ℕ} (m : List ℕ) (c : LinkedList f l nx pv m) (x : ℕ) → Once m
     → occurs none m ≡ 0 → 1 ≤ occurs x m → (f′ l′ : ℕ) (nx′ pv′ : ℕ → ℕ)
     → f′ ≡ cond (eqb (pv x) none) (nx x) f → l′ ≡ cond (eqb (nx x) none) (pv x) l
     → ((y : ℕ) → nx′ y ≡ cond (eqb (pv x) y) (nx x) (nx y))
     → ((y : ℕ) → pv′ y ≡ cond (eqb (nx x) y) (pv x) (pv y))
-    → Chain f′ l′ nx′ pv′ (without x m)
-chain-remove {f} {l} {nx} {pv} m c x o k i f′ l′ nx′ pv′ ef el en ep =
+    → LinkedList f′ l′ nx′ pv′ (without x m)
+linked-remove {f} {l} {nx} {pv} m c x o k i f′ l′ nx′ pv′ ef el en ep =
     record {
       front = ef ∙ rw (c .prevs x i, c .nexts x i, c .front) (sym (head-removed x m o k i));
       back = el ∙ rw (c .prevs x i, c .nexts x i, c .back) (sym (last-without none x m k i));

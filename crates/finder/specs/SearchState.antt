@@ -7,8 +7,8 @@ use lib.ListN.{length}
 use Rattle.store.specs.Says.{Sized}
 use Rattle.paths.specs.Map.{Map, mapOf, Accepted}
 use Rattle.paths.specs.Queue.{takes, next}
-use Rattle.paths.specs.Search.{extracted, begin, turns, never, find, bestAt}
-use Rattle.spans.specs.Range.{Index}
+use Rattle.paths.specs.Search.{extracted, begin, steps, never, find, bestAt}
+use Rattle.spans.specs.Range.{IsIndex}
 use Rattle.relax.specs.declared.Progress.{Progress}
 use Rattle.relax.specs.Tracks.{Tracks}
 
@@ -16,7 +16,7 @@ use Rattle.relax.specs.Tracks.{Tracks}
 
 -- The lists that the code reads are those of the map, all of whose spans are usable.
 pub record ListsOf (m : Map) (index to loss : List ℕ) : Type 0 where
-  pub indexed : Index (m .places) (m .from) index
+  pub indexed : IsIndex (m .places) (m .from) index
   pub to-is : to ≡ m .to
   pub loss-is : loss ≡ m .loss
   pub free : (e : ℕ) → m .usable e ≡ true
@@ -25,15 +25,15 @@ pub record ListsOf (m : Map) (index to loss : List ℕ) : Type 0 where
 pub record Taken (m : Map) (index to loss : List ℕ) (u d : ℕ) (best last store : List ℕ) (go : Progress) : Type 0 where
   pub lists : ListsOf m index to loss
   pub accepted : Accepted m
-  pub next-is : next never ((turns never m (go .visited)) .queue) ≡ takes u
-  pub loss-is : d ≡ bestAt (turns never m (go .visited)) u
-  pub tracks : Tracks (m .places) (suc (go .visited)) (extracted u (turns never m (go .visited))) best last store go
+  pub next-is : next never ((steps never m (go .visited)) .queue) ≡ takes u
+  pub loss-is : d ≡ bestAt (steps never m (go .visited)) u
+  pub tracks : Tracks (m .places) (suc (go .visited)) (extracted u (steps never m (go .visited))) best last store go
 
--- As many turns are made as places were visited.
+-- As many steps are made as places were visited.
 pub record Stands (m : Map) (best last store : List ℕ) (go : Progress) : Type 0 where
   pub accepted : Accepted m
   pub few : go .visited ≤ m .places
-  pub tracks : Tracks (m .places) (go .visited) (turns never m (go .visited)) best last store go
+  pub tracks : Tracks (m .places) (go .visited) (steps never m (go .visited)) best last store go
 
 -- A place that was met is not visited yet: it waits.
 pub record Goes (m : Map) (index to loss best last store : List ℕ) (go : Progress) : Type 0 where

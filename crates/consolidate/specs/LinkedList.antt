@@ -6,7 +6,7 @@ use Rattle.rules.specs.Lists.{occurs}
 use Rattle.rules.specs.Forests.{none}
 use Rattle.rules.specs.Words.{headOr, lastOr, nextIn, prevIn}
 
-pub record Chain (first last : ℕ) (next prev : ℕ → ℕ) (l : List ℕ) : Type 0 where
+pub record LinkedList (first last : ℕ) (next prev : ℕ → ℕ) (l : List ℕ) : Type 0 where
   pub front : first ≡ headOr none l
   pub back : last ≡ lastOr none l
   pub nexts : (y : ℕ) → 1 ≤ occurs y l → next y ≡ nextIn y l

@@ -1,10 +1,10 @@
--- `heap::meld::pour` meets its contract.
+-- `heap::meld::join_rows` meets its contract.
 use borrow.Author.Needs.{needs}
 use mathlib.Core.Path.{sym, subst}
 use Rattle.store.specs.Siblings.{Link, lastOf}
-use Rattle.heap.proofs.JoiningHeaps.{pour-changes}
-use Rattle.heap.proofs.meld.pour.Statement.{statement}
-use Rattle.heap.proofs.meld.pour.Tie as tie
+use Rattle.heap.proofs.JoiningHeaps.{join-rows-changes}
+use Rattle.heap.proofs.meld.join_rows.Statement.{statement}
+use Rattle.heap.proofs.meld.join_rows.Tie as tie
 
 concat-requires : tie.Need-concat-requires
 unfolding lastOf
@@ -24,11 +24,11 @@ returns c =
     let c8 = c6 .before .before in
     let c10 = c8 .before .before in
     let c13 = c10 .before .before .before in
-    pour-changes (c13 .pre .heaps) (c10 .get .ensures) (c8 .get2 .ensures) (c6 .concat .ensures)
+    join-rows-changes (c13 .pre .heaps) (c10 .get .ensures) (c8 .get2 .ensures) (c6 .concat .ensures)
     (c2 .empty-heap .ensures)
 
-pub pour-spec : {M : Type 1} → statement M
-pour-spec =
+pub join-rows-spec : {M : Type 1} → statement M
+join-rows-spec =
     tie.close
     (tie.spec
     (λ c κs. search needs)

@@ -6,12 +6,12 @@ use mathlib.Core.Bool.{Bool, true, false, cond}
 use native.Mathlib.Omega.{arith}
 use lib.Dec.{eqb}
 use borrow.Author.Tests.{eqb-true, eqb-false}
-use Rattle.rules.specs.Cut.{Standing, marked, root, standing, unmarked}
+use Rattle.rules.specs.Cut.{NodeKind, marked, root, nodeKind, unmarked}
 use Rattle.rules.specs.Forests.{Forests, markOf, none, parentOf}
 
-pub standing-root : (s : Forests) (p : ℕ) → standing s p ≡ root → parentOf s p ≡ none
-unfolding standing
-standing-root s p e = go (eqb (parentOf s p) none) (eqb (markOf s p) 0) refl e
+pub nodeKind-root : (s : Forests) (p : ℕ) → nodeKind s p ≡ root → parentOf s p ≡ none
+unfolding nodeKind
+nodeKind-root s p e = go (eqb (parentOf s p) none) (eqb (markOf s p) 0) refl e
   where
     go : (a b : Bool) → eqb (parentOf s p) none ≡ a → cond a root (cond b unmarked marked) ≡ root
         → parentOf s p ≡ none
@@ -19,22 +19,22 @@ standing-root s p e = go (eqb (parentOf s p) none) (eqb (markOf s p) 0) refl e
     go false true q e = let z : _≡_ {A = ℕ} 0 1 = cc in absurd (omega arith)
     go false false q e = let z : _≡_ {A = ℕ} 0 1 = cc in absurd (omega arith)
 
-pub standing-child : (s : Forests) (p : ℕ) (f : Standing) → f ≢ root → standing s p ≡ f → parentOf s p ≢ none
-unfolding standing
-standing-child s p f n e q = n (sym e ∙ rw (q))
+pub nodeKind-child : (s : Forests) (p : ℕ) (f : NodeKind) → f ≢ root → nodeKind s p ≡ f → parentOf s p ≢ none
+unfolding nodeKind
+nodeKind-child s p f n e q = n (sym e ∙ rw (q))
 
-pub standing-unmarked : (s : Forests) (p : ℕ) → standing s p ≡ unmarked → markOf s p ≡ 0
-unfolding standing
-standing-unmarked s p e = go (eqb (parentOf s p) none) (eqb (markOf s p) 0) refl e
+pub nodeKind-unmarked : (s : Forests) (p : ℕ) → nodeKind s p ≡ unmarked → markOf s p ≡ 0
+unfolding nodeKind
+nodeKind-unmarked s p e = go (eqb (parentOf s p) none) (eqb (markOf s p) 0) refl e
   where
     go : (a b : Bool) → eqb (markOf s p) 0 ≡ b → cond a root (cond b unmarked marked) ≡ unmarked → markOf s p ≡ 0
     go a true q e = eqb-true (markOf s p) 0 q
     go true false q e = let z : _≡_ {A = ℕ} 0 1 = cc in absurd (omega arith)
     go false false q e = let z : _≡_ {A = ℕ} 0 1 = cc in absurd (omega arith)
 
-pub standing-marked : (s : Forests) (p : ℕ) → standing s p ≡ marked → 1 ≤ markOf s p
-unfolding standing
-standing-marked s p e = go (eqb (parentOf s p) none) (eqb (markOf s p) 0) refl e
+pub nodeKind-marked : (s : Forests) (p : ℕ) → nodeKind s p ≡ marked → 1 ≤ markOf s p
+unfolding nodeKind
+nodeKind-marked s p e = go (eqb (parentOf s p) none) (eqb (markOf s p) 0) refl e
   where
     go : (a b : Bool) → eqb (markOf s p) 0 ≡ b → cond a root (cond b unmarked marked) ≡ marked → 1 ≤ markOf s p
     go true b q e = let z : _≡_ {A = ℕ} 0 1 = cc in omega arith

@@ -1,11 +1,11 @@
--- `heap::insert::enroll` meets its contract.
+-- `heap::insert::count_item` meets its contract.
 use borrow.Author.Needs.{needs}
 use mathlib.Core.Path.{sym, subst}
 use native.Mathlib.Omega.{arith}
 use Rattle.store.specs.Siblings.{Link}
-use Rattle.heap.proofs.Entering.{enroll-changes}
-use Rattle.heap.proofs.insert.enroll.Statement.{statement}
-use Rattle.heap.proofs.insert.enroll.Tie as tie
+use Rattle.heap.proofs.Entering.{count-item-changes}
+use Rattle.heap.proofs.insert.count_item.Statement.{statement}
+use Rattle.heap.proofs.insert.count_item.Tie as tie
 
 lesser-of-requires : tie.Need-lesser-of-requires
 lesser-of-requires c κs =
@@ -31,11 +31,11 @@ returns c =
     let c10 = c8 .before .before in
     let c12 = c10 .before .before in
     let c15 = c12 .before .before .before in
-    enroll-changes (c15 .pre) (c12 .get .ensures) (c10 .get2 .ensures) (c8 .lesser-of .ensures) (c6 .put .ensures)
+    count-item-changes (c15 .pre) (c12 .get .ensures) (c10 .get2 .ensures) (c8 .lesser-of .ensures) (c6 .put .ensures)
     (c2 .put2 .ensures)
 
-pub enroll-spec : {M : Type 1} → statement M
-enroll-spec =
+pub count-item-spec : {M : Type 1} → statement M
+count-item-spec =
     tie.close
     (tie.spec
     (λ c κs. search needs)

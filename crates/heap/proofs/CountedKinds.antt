@@ -14,7 +14,7 @@ use Rattle.rules.specs.Forests.{Forests, count, keyOf, none, rowOf}
 use Rattle.rules.specs.Lists.{delta}
 use Rattle.rules.specs.Order.{keyIn, leastIn, leastOf, lesser, minimum}
 use Rattle.rules.specs.WellFormed.{Disjoint}
-use Rattle.rules.specs.Words.{room, word}
+use Rattle.rules.specs.Words.{fieldSize, word}
 use Rattle.rules.proofs.ByKind.{apart-from, by-kinds}
 use Rattle.rules.proofs.Counts.{count-entered}
 use Rattle.rules.proofs.LeastOfTwo.{least-append, least-other, lesser-keys}
@@ -23,8 +23,8 @@ use Rattle.store.specs.Families.{wordBut}
 use Rattle.store.specs.ItemOrder.{itemKey}
 use Rattle.store.proofs.ItemOrder.{key-is}
 use Rattle.store.proofs.SetAt.{getD-set}
-use Rattle.store.proofs.Standing.{none-row}
-use Rattle.heap.specs.Entered.{enrolled}
+use Rattle.store.proofs.ListMembers.{none-row}
+use Rattle.heap.specs.Entered.{itemCounted}
 use Rattle.heap.proofs.EnteredKinds.{MayEnter, out}
 
 module _ {t : Forests} {h i : ℕ} (E : MayEnter t h i) (k : ℕ) where
@@ -62,12 +62,12 @@ module _ {t : Forests} {h i : ℕ} (E : MayEnter t h i) (k : ℕ) where
           (occurs-one none i ∙ delta-other none i (λ e. omega (arith, e, D .small, E .inside))))
       go false e = sym (least-other (t .key) i k (rowOf t g) (out E k g))
 
-  pub enrolled-word : (n : ℕ) (f : Field) (j : ℕ) → j < room n f
-      → enrolled h i (wordBut (count t) (minimum t) new) f j ≡ word new f j
-  unfolding enrolled wordBut word
-  enrolled-word n =
+  pub itemCounted-word : (n : ℕ) (f : Field) (j : ℕ) → j < fieldSize n f
+      → itemCounted h i (wordBut (count t) (minimum t) new) f j ≡ word new f j
+  unfolding itemCounted wordBut word
+  itemCounted-word n =
       by-kinds (Minimum ∷ Count ∷ [])
-      (λ f. (j : ℕ) → j < room n f → enrolled h i (wordBut (count t) (minimum t) new) f j ≡ word new f j)
+      (λ f. (j : ℕ) → j < fieldSize n f → itemCounted h i (wordBut (count t) (minimum t) new) f j ≡ word new f j)
       (λ j l. ap (λ m. cond (eqb h j) m (minimum t j))
       (lesser-keys (itemKey (wordBut (count t) (minimum t) new)) (keyOf new) (minimum t h) i
       (λ _. key-is _ new (minimum t h) refl) (λ _. key-is _ new i refl))

@@ -1,11 +1,11 @@
--- `heap::perform::shown` meets its contract.
+-- `heap::perform::found_min` meets its contract.
 use borrow.Author.Needs.{needs}
 use mathlib.Core.Path.{sym, subst}
 use Prim.Native.Nat.{_<_}
 use Rattle.heap.proofs.SoundStore.{sound-says}
-use Rattle.heap.proofs.Answered.{minimum-item, shown-performed}
-use Rattle.heap.proofs.perform.shown.Statement.{statement}
-use Rattle.heap.proofs.perform.shown.Tie as tie
+use Rattle.heap.proofs.Answered.{minimum-item, found-min-performed}
+use Rattle.heap.proofs.perform.found_min.Statement.{statement}
+use Rattle.heap.proofs.perform.found_min.Tie as tie
 
 get-requires : tie.Need-get-requires
 get-requires c κs =
@@ -19,10 +19,10 @@ returns : tie.Need-returns
 returns c =
     let c3 = c .before .before .before in
     let c6 = c3 .before .before .before in
-    shown-performed (c6 .pre) (c3 .find-min .ensures) (c .before .get .ensures) (c .answer .ensures)
+    found-min-performed (c6 .pre) (c3 .find-min .ensures) (c .before .get .ensures) (c .answer .ensures)
 
-pub shown-spec : {M : Type 1} → statement M
-shown-spec =
+pub found-min-spec : {M : Type 1} → statement M
+found-min-spec =
     tie.close
     (tie.spec
     (λ c κs. c .before .before .pre .allowed)
