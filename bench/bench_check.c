@@ -21,16 +21,18 @@ static char sheet[MAX_BYTES];
 
 static size_t words_len(void) { return HEAP_WORDS + ITEM_WORDS * (size_t)full.items; }
 
+static uint32_t figures[2];
+
 static void run_kept(int sheet_len)
 {
-    if (kept_run(words, words_len(), (const uint8_t *)sheet, (size_t)sheet_len, out, sizeof out) >= REFUSED_RUN)
+    if (kept_run(words, words_len(), (const uint8_t *)sheet, (size_t)sheet_len, out, sizeof out, figures) != 0)
         fail("a kept run is refused", "product");
 }
 
 /* Inserts every item into heap 0, in runs of at most 1,000 lines. */
 static void insert_all(void)
 {
-    if (fresh_run(words, words_len(), (const uint8_t *)sheet, 0, out, sizeof out) != 0)
+    if (fresh_run(words, words_len(), (const uint8_t *)sheet, 0, out, sizeof out, figures) != 0)
         fail("a fresh run of an empty sheet is refused", "product");
     for (uint32_t item = 0; item < full.items;) {
         int len = 0;

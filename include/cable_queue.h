@@ -1,8 +1,9 @@
 /* The C interface of the queue engine: libmodem.a has queue_run, libhost.a all the others.
  *
- * A lent area is two arguments: a pointer, then the number of its elements. Pointers are never NULL, not even with the
- * number 0, and areas of one call do not overlap. Nothing else is asked of a caller: every call returns, and refuses
- * under a code what it can't accept. A refused call changes nothing but its figures, where it has any. Nothing is
+ * A lent area is two arguments: a pointer, then the number of its elements. Figures are one argument, a pointer to as
+ * many words as the declaration says: they come without a length. Pointers are never NULL, not even with the number 0,
+ * and areas of one call, figures too, do not overlap. Nothing else is asked of a caller: every call returns, and refuses
+ * under a code what it can't accept. A refused call changes nothing but its figures, which are then zeros. Nothing is
  * allocated and nothing is kept between calls.
  *
  * A store for N items, N from 0 to 4,096, is 32 + 8N words, and its length says what N is.
@@ -37,7 +38,7 @@
 extern "C" {
 #endif
 
-/* Added to the code of a refused run. */
+/* What queue_run adds to the code of a refused run. A run that is done writes fewer bytes than that. */
 #define CABLE_QUEUE_REFUSED 100000
 
 /* A word that names no place or span in a feed table, and no item in a store's links. */
@@ -47,14 +48,15 @@ extern "C" {
  * CABLE_QUEUE_REFUSED + code, with a code from 2 to 4. Output beyond the bytes written stays as it was. */
 uint32_t queue_run(const uint8_t *sheet, size_t sheet_len, uint8_t *out, size_t out_len);
 
-/* Makes the store empty, whatever its words, and runs a sheet on it. Returns the number of bytes written to out, or
- * CABLE_QUEUE_REFUSED + code, with a code from 1 to 4. Output beyond the bytes written stays as it was. */
+/* Makes the store empty, whatever its words, and runs a sheet on it. Returns 0, or a code from 1 to 4. The figures are the
+ * lines answered and the bytes written to out, two zeros after a refusal. Output beyond the bytes written stays as it
+ * was. */
 uint32_t fresh_run(uint32_t *store, size_t store_len, const uint8_t *sheet, size_t sheet_len, uint8_t *out,
-                   size_t out_len);
+                   size_t out_len, uint32_t figures[2]);
 
 /* Runs a sheet on the store as an earlier run left it. Returns as fresh_run does, with a code from 1 to 5. */
 uint32_t kept_run(uint32_t *store, size_t store_len, const uint8_t *sheet, size_t sheet_len, uint8_t *out,
-                  size_t out_len);
+                  size_t out_len, uint32_t figures[2]);
 
 /* Returns 1 if the words, any number of them, are those of a sound store, else 0. */
 uint32_t store_sound(const uint32_t *store, size_t store_len);

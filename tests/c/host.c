@@ -71,25 +71,40 @@ static int are(const uint32_t *figures, uint32_t a, uint32_t b, uint32_t c) {
 
 /* Runs. */
 
-typedef uint32_t run_entry(uint32_t *, size_t, const uint8_t *, size_t, uint8_t *, size_t);
+typedef uint32_t run_entry(uint32_t *, size_t, const uint8_t *, size_t, uint8_t *, size_t, uint32_t *);
 
-/* The run gives these answers, and leaves the output beyond them. */
+static size_t lines_of(const char *sheet, size_t len) {
+    size_t lines = len > 0 && sheet[len - 1] != '\n';
+    for (size_t i = 0; i < len; i++) lines += sheet[i] == '\n';
+    return lines;
+}
+
+/* The two figures of a run, on the heap so that an access beyond them is seen. */
+static int figures_are(words figures, size_t lines, size_t bytes_written) {
+    int same = figures.at[0] == lines && figures.at[1] == bytes_written;
+    free(figures.at);
+    return same;
+}
+
+/* The run is done and gives these answers, with their lines and bytes as figures, and leaves the output beyond them. */
 static int answers(run_entry *run, words store, const char *sheet, const char *expected) {
     bytes in = copy_text(sheet), out = filled_bytes(32 * strlen(sheet), '#');
+    words figures = filled(2);
     size_t len = strlen(expected);
-    uint32_t n = run(store.at, store.len, in.at, in.len, out.at, out.len);
-    int same = n == len && memcmp(out.at, expected, len) == 0 && all_hashes(out, len);
+    uint32_t code = run(store.at, store.len, in.at, in.len, out.at, out.len, figures.at);
+    int same = code == 0 && memcmp(out.at, expected, len) == 0 && all_hashes(out, len);
+    same &= figures_are(figures, lines_of(sheet, in.len), len);
     free(in.at);
     free(out.at);
     return same;
 }
 
-/* The run of a sheet of LFs is refused, and leaves store and output. */
+/* The run of a sheet of LFs is refused with two zeros, and leaves store and output. */
 static int refused(run_entry *run, uint32_t code, words store, size_t lines, size_t out_len) {
     bytes in = filled_bytes(lines, '\n'), out = filled_bytes(out_len, '#');
-    words before = copy_words(store.at, store.len);
-    uint32_t n = run(store.at, store.len, in.at, in.len, out.at, out.len);
-    int same = n == CABLE_QUEUE_REFUSED + code && all_hashes(out, 0) && same_words(store, before);
+    words before = copy_words(store.at, store.len), figures = filled(2);
+    uint32_t returned = run(store.at, store.len, in.at, in.len, out.at, out.len, figures.at);
+    int same = returned == code && all_hashes(out, 0) && same_words(store, before) && figures_are(figures, 0, 0);
     free(in.at);
     free(out.at);
     free(before.at);
@@ -103,10 +118,13 @@ static int same_at_every_cut(words whole) {
         if (cut > 0 && worked_sheet[cut - 1] != '\n') continue;
         words store = filled(whole.len);
         bytes a = copy_text(worked_sheet), b = copy_text(worked_sheet + cut), out = filled_bytes(16 * 32, '#');
-        uint32_t n = fresh_run(store.at, store.len, a.at, cut, out.at, out.len);
-        uint32_t m = kept_run(store.at, store.len, b.at, b.len, out.at + n, out.len - n);
-        same &= n + m == strlen(worked_answers) && memcmp(out.at, worked_answers, n + m) == 0;
-        same &= all_hashes(out, n + m) && same_words(store, whole);
+        uint32_t first[2], second[2];
+        same &= fresh_run(store.at, store.len, a.at, cut, out.at, out.len, first) == 0;
+        size_t n = first[1];
+        same &= kept_run(store.at, store.len, b.at, b.len, out.at + n, out.len - n, second) == 0;
+        size_t both = n + second[1];
+        same &= first[0] + second[0] == 8 && both == strlen(worked_answers);
+        same &= memcmp(out.at, worked_answers, both) == 0 && all_hashes(out, both) && same_words(store, whole);
         free(store.at);
         free(a.at);
         free(b.at);

@@ -68,18 +68,19 @@ fn pattern(length: usize) -> Vec<u8> {
 
 /// What a run left behind.
 pub struct Ran {
-    pub number: u32,
+    pub code: u32,
+    pub bytes: usize,
     pub words: Vec<u32>,
     pub out: Vec<u8>,
 }
 
 impl Ran {
     pub fn done(&self) -> bool {
-        self.number < 100_000
+        self.code == 0
     }
 
     pub fn answers(&self) -> &[u8] {
-        &self.out[..self.number as usize]
+        &self.out[..self.bytes]
     }
 }
 
@@ -115,10 +116,11 @@ impl<'a> Checker<'a> {
         let mut out = Guarded::new(&pattern(room), 0xEE);
         let mut expected = pattern(room);
         let number = self.engine.queue_run(sheet, out.lent());
-        same("queue_run", &number, &run::modem(sheet, &mut expected).number())
+        let run = run::modem(sheet, &mut expected);
+        same("queue_run", &number, &run.number())
             .and_then(|()| same_list("queue_run output", out.content(), &expected))
             .and_then(|()| out.intact("queue_run output"))
-            .and_then(|out| demand_3(Queues::new(MODEM_ITEMS as u32), sheet, number, &out))
+            .and_then(|out| demand_3(Queues::new(MODEM_ITEMS as u32), sheet, &out[..run.bytes]))
             .map_err(|fault| in_sheet(fault, sheet))?;
         Ok(number)
     }
@@ -136,22 +138,24 @@ impl<'a> Checker<'a> {
         let mut store = Guarded::new(words, 0xA5A5_A5A5);
         let mut out = Guarded::new(&pattern(room), 0xEE);
         let (mut expected_words, mut expected_out) = (words.to_vec(), pattern(room));
-        let (number, expected) = if kept {
-            let number = self.engine.kept_run(store.lent(), sheet, out.lent());
-            (number, run::kept(&mut expected_words, sheet, &mut expected_out))
+        let mut figures = [77; 2];
+        let (code, expected) = if kept {
+            let code = self.engine.kept_run(store.lent(), sheet, out.lent(), &mut figures);
+            (code, run::kept(&mut expected_words, sheet, &mut expected_out))
         } else {
-            let number = self.engine.fresh_run(store.lent(), sheet, out.lent());
-            (number, run::fresh(&mut expected_words, sheet, &mut expected_out))
+            let code = self.engine.fresh_run(store.lent(), sheet, out.lent(), &mut figures);
+            (code, run::fresh(&mut expected_words, sheet, &mut expected_out))
         };
         let name = if kept { "kept_run" } else { "fresh_run" };
         let compared = || {
-            same(name, &number, &expected.number())?;
+            same(name, &code, &expected.code)?;
+            same(&format!("{name} figures"), &figures, &expected.figures())?;
             same_list(&format!("{name} output"), out.content(), &expected_out)?;
             same_list(&format!("{name} store"), store.content(), &expected_words)?;
             let (after, out) = (store.intact(name)?, out.intact(name)?);
             let start = if kept { store::sound(words) } else { store::items(words.len()).map(emptied) };
-            demand_3(start.unwrap_or(Queues::new(0)), sheet, number, &out)?;
-            Ok(Ran { number, words: after, out })
+            demand_3(start.unwrap_or(Queues::new(0)), sheet, &out[..expected.bytes])?;
+            Ok(Ran { code, bytes: expected.bytes, words: after, out })
         };
         compared().map_err(|fault| in_sheet(fault, sheet))
     }
@@ -238,14 +242,10 @@ fn emptied(items: usize) -> Queues {
     Queues::new(items as u32)
 }
 
-/// Demand 3 between every two moments of a run that is done, with the counts that it printed.
-fn demand_3(mut queues: Queues, sheet: &[u8], number: u32, out: &[u8]) -> Verdict {
-    if number >= 100_000 {
-        return Ok(());
-    }
+/// Demand 3 between every two moments of a run, with the counts that it printed; a refused run printed nothing.
+fn demand_3(mut queues: Queues, sheet: &[u8], answers: &[u8]) -> Verdict {
     let mut ledger = Ledger::open(potential(&queues));
-    let printed = text::lines(&out[..number as usize]);
-    for (line, printed) in text::lines(sheet).into_iter().zip(printed) {
+    for (line, printed) in text::lines(sheet).into_iter().zip(text::lines(answers)) {
         let call = Call::parse(line);
         let allowed = allowance(&queues, call);
         queues.answer(call);

@@ -21,7 +21,7 @@ pub struct FeedLists<'a> {
     pub store: &'a mut [u32],
 }
 
-/// Names and meanings are those of the C header. Runs answer the bytes written, or 100,000 and the code.
+/// Names and meanings are those of the C header.
 /// An engine leaves out the entries of parts that it does not have; campaigns never call them.
 #[allow(unused_variables)]
 pub trait Engine {
@@ -31,11 +31,11 @@ pub trait Engine {
         unreachable!("no modem part")
     }
 
-    fn fresh_run(&self, store: &mut [u32], sheet: &[u8], out: &mut [u8]) -> u32 {
+    fn fresh_run(&self, store: &mut [u32], sheet: &[u8], out: &mut [u8], figures: &mut [u32; 2]) -> u32 {
         unreachable!("no runs")
     }
 
-    fn kept_run(&self, store: &mut [u32], sheet: &[u8], out: &mut [u8]) -> u32 {
+    fn kept_run(&self, store: &mut [u32], sheet: &[u8], out: &mut [u8], figures: &mut [u32; 2]) -> u32 {
         unreachable!("no runs")
     }
 
@@ -72,12 +72,16 @@ impl Engine for Faithful {
         run::modem(sheet, out).number()
     }
 
-    fn fresh_run(&self, store: &mut [u32], sheet: &[u8], out: &mut [u8]) -> u32 {
-        run::fresh(store, sheet, out).number()
+    fn fresh_run(&self, store: &mut [u32], sheet: &[u8], out: &mut [u8], figures: &mut [u32; 2]) -> u32 {
+        let run = run::fresh(store, sheet, out);
+        *figures = run.figures();
+        run.code
     }
 
-    fn kept_run(&self, store: &mut [u32], sheet: &[u8], out: &mut [u8]) -> u32 {
-        run::kept(store, sheet, out).number()
+    fn kept_run(&self, store: &mut [u32], sheet: &[u8], out: &mut [u8], figures: &mut [u32; 2]) -> u32 {
+        let run = run::kept(store, sheet, out);
+        *figures = run.figures();
+        run.code
     }
 
     fn store_sound(&self, store: &[u32]) -> u32 {

@@ -17,7 +17,7 @@ macro_rules! own_run {
 /// A run on lent words: `fresh_run` and `kept_run`.
 #[macro_export]
 macro_rules! lent_run {
-    ($name:ident, $store:expr, $sheet:expr, $out:expr) => {{
+    ($name:ident, $store:expr, $sheet:expr, $out:expr, $figures:expr) => {{
         extern "C" {
             fn $name(
                 store: *mut u32,
@@ -26,11 +26,22 @@ macro_rules! lent_run {
                 sheet_len: usize,
                 out: *mut u8,
                 out_len: usize,
+                figures: *mut [u32; 2],
             ) -> u32;
         }
         let (store, sheet, out): (&mut [u32], &[u8], &mut [u8]) = ($store, $sheet, $out);
         // SAFETY: as in own_run.
-        unsafe { $name(store.as_mut_ptr(), store.len(), sheet.as_ptr(), sheet.len(), out.as_mut_ptr(), out.len()) }
+        unsafe {
+            $name(
+                store.as_mut_ptr(),
+                store.len(),
+                sheet.as_ptr(),
+                sheet.len(),
+                out.as_mut_ptr(),
+                out.len(),
+                $figures,
+            )
+        }
     }};
 }
 

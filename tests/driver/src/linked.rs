@@ -86,13 +86,13 @@ impl Engine for Linked {
     }
 
     #[cfg(feature = "engine-host")]
-    fn fresh_run(&self, store: &mut [u32], sheet: &[u8], out: &mut [u8]) -> u32 {
-        lent_run!(fresh_run, store, sheet, out)
+    fn fresh_run(&self, store: &mut [u32], sheet: &[u8], out: &mut [u8], figures: &mut [u32; 2]) -> u32 {
+        lent_run!(fresh_run, store, sheet, out, figures)
     }
 
     #[cfg(feature = "engine-host")]
-    fn kept_run(&self, store: &mut [u32], sheet: &[u8], out: &mut [u8]) -> u32 {
-        lent_run!(kept_run, store, sheet, out)
+    fn kept_run(&self, store: &mut [u32], sheet: &[u8], out: &mut [u8], figures: &mut [u32; 2]) -> u32 {
+        lent_run!(kept_run, store, sheet, out, figures)
     }
 
     #[cfg(feature = "engine-host")]

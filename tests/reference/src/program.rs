@@ -18,16 +18,21 @@ pub fn queue(sheet: &[u8]) -> Vec<u8> {
 }
 
 pub fn feed(text: &[u8]) -> Vec<u8> {
-    table_text(text).unwrap_or_else(|code| format!("{code}\n")).into_bytes()
+    feed_sized(text, ITEMS, SPANS)
 }
 
-fn table_text(text: &[u8]) -> Result<String, u32> {
-    let (mut from, mut to, mut loss) = (vec![0; SPANS], vec![0; SPANS], vec![0; SPANS]);
+/// The feed program with room for so many places and spans.
+pub fn feed_sized(text: &[u8], most: usize, spans: usize) -> Vec<u8> {
+    table_text(text, most, spans).unwrap_or_else(|code| format!("{code}\n")).into_bytes()
+}
+
+fn table_text(text: &[u8], most: usize, room: usize) -> Result<String, u32> {
+    let (mut from, mut to, mut loss) = (vec![0; room], vec![0; room], vec![0; room]);
     let header = map::read(text, &mut from, &mut to, &mut loss);
     if header.code != 0 {
         return Err(header.code);
     }
-    if header.places as usize > ITEMS {
+    if header.places as usize > most {
         return Err(14);
     }
     let (places, count) = (header.places as usize, header.spans as usize);

@@ -19,7 +19,12 @@ pub struct Run {
 }
 
 impl Run {
-    /// The single number that hosts get: the bytes written, or 100,000 and the code.
+    /// The two figures beside the code: lines and bytes.
+    pub fn figures(&self) -> [u32; 2] {
+        [self.lines as u32, self.bytes as u32]
+    }
+
+    /// The single number that the firmware gets: the bytes written, or 100,000 and the code.
     pub fn number(&self) -> u32 {
         if self.code == 0 {
             self.bytes as u32

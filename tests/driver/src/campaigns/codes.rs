@@ -9,7 +9,11 @@ pub const WORKED: &[u8] = b"I,0,0,5\nI,0,1,3\nI,0,2,8\nI,0,3,1\nT,0\nD,0,2\nM,0\
 pub const WORKED_ANSWERS: &[u8] =
     b"0,0,5,0,0\n0,1,3,0,0\n0,2,8,0,0\n0,3,1,0,0\n0,3,1,1,0\n0,0,2,0,1\n0,0,2,0,0\n12,0,0,0,0\n";
 
-/// The list of calls from nine insertions to the last taking.
+/// Run (b), and the lowerings (c) and (d) that may follow it, with their answers.
+const RUN_B: &[u8] = b"I,0,0,5\nI,0,1,3\nI,0,2,8\nI,0,3,1\nT,0\n";
+const LOWERINGS: [(&[u8], &[u8]); 2] = [(b"D,0,4\n", b"0,0,4,0,0\n"), (b"D,0,3\n", b"0,0,3,0,1\n")];
+
+/// Runs (e) to (h): the list of calls from nine insertions to the last taking.
 pub const LONG_RUN: &[u8] = b"I,0,0,0\nI,0,1,10\nI,0,2,20\nI,0,3,30\nI,0,4,40\nI,0,5,50\nI,0,6,60\nI,0,7,70\n\
     I,0,8,80\nT,0\nD,8,5\nD,6,4\nD,7,3\nX,3\nT,0\n";
 
@@ -77,6 +81,12 @@ pub fn worked_runs(checker: &mut Checker) -> Verdict {
         let ran = checker.fresh(&dirty, WORKED, 8 * 32)?;
         if ran.answers() != WORKED_ANSWERS {
             return Err("the worked sheet has other answers than printed".into());
+        }
+        let after_b = checker.fresh(&dirty, RUN_B, 5 * 32)?.words;
+        for (sheet, answer) in LOWERINGS {
+            if checker.kept(&after_b, sheet, 32)?.answers() != answer {
+                return Err("a lowering after (b) has another answer than worked by hand".into());
+            }
         }
         checker.kept(&ran.words, LONG_RUN, 15 * 32)?;
         checker.fresh(&ran.words, LONG_RUN, 15 * 32)?;

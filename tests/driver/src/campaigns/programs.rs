@@ -61,6 +61,12 @@ pub fn feed(checker: &mut Checker) -> Verdict {
         inputs.push(maps::text(places, 0, &vec![[0, 1, 9]; count], false));
     }
     inputs.extend([[&b"2,0\n"[..], &vec![b'0'; 60_000]].concat(), [&b"2,0\n"[..], &b"0,1,1\n".repeat(9_999)].concat()]);
+    // The longest map that is read, and one byte more.
+    let mut longest = b"1001,0\n".to_vec();
+    longest.extend(b"1000,1000,1000000\n".repeat(3_332));
+    longest.extend(b"1000,1000,100000\n");
+    assert_eq!(longest.len(), 60_000);
+    inputs.extend([longest.clone(), [&longest[..], b"\n"].concat()]);
     let mut random = Random::new(16);
     for _ in 0..40 {
         let call = maps::small(&mut random);

@@ -6,7 +6,7 @@ mod runs;
 
 use crate::engine::{Engine, FeedLists, Part};
 use reference::feed::Spans;
-use reference::run::{LINE_ROOM, MAX_LINES, MODEM_ITEMS};
+use reference::run::{LINE_ROOM, MAX_BYTES, MAX_LINES, MODEM_ITEMS};
 use reference::{program, store};
 
 /// Declares the faults once: as an enum, and in groups with the parts that must each catch them.
@@ -33,7 +33,9 @@ variants! {
         RefusesEverySheet SixTestedAfterSeven LeadingZeroAccepted ReturnBeforeLineEndAccepted
         OpenLastLineDropped EmptyLineSkipped EightAnsweredAsNine;
     [Modem Runs] OneByteBeyond RoomTestedBeforeLines;
-    [Runs] StoreLeftAsFound KeptRunEmptiesTheStore FirstItemWordIsFirstTree CountOfJoinedHeapLeft;
+    [Runs]
+        StoreLeftAsFound KeptRunEmptiesTheStore FirstItemWordIsFirstTree CountOfJoinedHeapLeft RunFiguresSwapped
+        RunFiguresLeftOnRefusal;
     [Modem] ModemHoldsOneItemMore;
     // The check of a kept store.
     [Runs]
@@ -46,8 +48,9 @@ variants! {
     // Map texts.
     [Map] MapListsTouchedOnRefusal MapRoomTestedFirst MapEmptyLineSkipped MapFiguresLeftOnRefusal;
     // Programs.
-    [QueueProgram FeedProgram] ProgramOmitsLastLineEnd;
-    [FeedProgram] ProgramShowsNoneAsNumber;
+    [QueueProgram FeedProgram] ProgramOmitsLastLineEnd ProgramReadsOneByteLess;
+    [QueueProgram] ProgramHoldsOneItemMore;
+    [FeedProgram] ProgramShowsNoneAsNumber ProgramHoldsOnePlaceMore ProgramHoldsOneSpanMore;
 }
 
 use Variant::*;
@@ -63,6 +66,12 @@ impl Mock {
     fn is(&self, variant: Variant) -> bool {
         self.variant == Some(variant)
     }
+
+    /// What a program reads of its input: all, or no more than 60,000 bytes.
+    fn read<'a>(&self, input: &'a [u8]) -> &'a [u8] {
+        let end = if self.is(ProgramReadsOneByteLess) { input.len().min(MAX_BYTES) } else { input.len() };
+        &input[..end]
+    }
 }
 
 impl Engine for Mock {
@@ -72,15 +81,15 @@ impl Engine for Mock {
 
     fn queue_run(&self, sheet: &[u8], out: &mut [u8]) -> u32 {
         let items = MODEM_ITEMS + usize::from(self.is(ModemHoldsOneItemMore));
-        self.run(false, &mut vec![0; store::length(items)], sheet, out)
+        self.run(false, &mut vec![0; store::length(items)], sheet, out).number()
     }
 
-    fn fresh_run(&self, store: &mut [u32], sheet: &[u8], out: &mut [u8]) -> u32 {
-        self.run(false, store, sheet, out)
+    fn fresh_run(&self, store: &mut [u32], sheet: &[u8], out: &mut [u8], figures: &mut [u32; 2]) -> u32 {
+        self.lent_run(false, store, sheet, out, figures)
     }
 
-    fn kept_run(&self, store: &mut [u32], sheet: &[u8], out: &mut [u8]) -> u32 {
-        self.run(true, store, sheet, out)
+    fn kept_run(&self, store: &mut [u32], sheet: &[u8], out: &mut [u8], figures: &mut [u32; 2]) -> u32 {
+        self.lent_run(true, store, sheet, out, figures)
     }
 
     fn store_sound(&self, store: &[u32]) -> u32 {
@@ -97,10 +106,11 @@ impl Engine for Mock {
 
     fn queue_program(&self, input: &[u8]) -> Vec<u8> {
         let mut out = vec![0; LINE_ROOM * MAX_LINES];
-        let number = self.run(false, &mut vec![0; store::length(program::ITEMS)], input, &mut out);
-        let mut printed = match number.checked_sub(100_000) {
-            Some(code) => format!("{code}\n").into_bytes(),
-            None => out[..number as usize].to_vec(),
+        let items = program::ITEMS + usize::from(self.is(ProgramHoldsOneItemMore));
+        let run = self.run(false, &mut vec![0; store::length(items)], self.read(input), &mut out);
+        let mut printed = match run.code {
+            0 => out[..run.bytes].to_vec(),
+            code => format!("{code}\n").into_bytes(),
         };
         if self.is(ProgramOmitsLastLineEnd) {
             printed.pop();
@@ -109,7 +119,9 @@ impl Engine for Mock {
     }
 
     fn feed_program(&self, input: &[u8]) -> Vec<u8> {
-        let mut printed = program::feed(input);
+        let most = program::ITEMS + usize::from(self.is(ProgramHoldsOnePlaceMore));
+        let spans = program::SPANS + usize::from(self.is(ProgramHoldsOneSpanMore));
+        let mut printed = program::feed_sized(self.read(input), most, spans);
         if self.is(ProgramOmitsLastLineEnd) {
             printed.pop();
         }

@@ -2,7 +2,7 @@
 
 use super::Mock;
 use super::Variant::*;
-use reference::run::{self, LINE_ROOM};
+use reference::run::{self, Run, LINE_ROOM};
 use reference::{store, text, Queues, Tree, NONE};
 
 impl Mock {
@@ -27,14 +27,34 @@ impl Mock {
         accepted.then_some(decoded)
     }
 
-    pub(super) fn run(&self, kept: bool, words: &mut [u32], sheet: &[u8], out: &mut [u8]) -> u32 {
+    /// A run on lent words, with its two figures.
+    pub(super) fn lent_run(
+        &self,
+        kept: bool,
+        words: &mut [u32],
+        sheet: &[u8],
+        out: &mut [u8],
+        figures: &mut [u32; 2],
+    ) -> u32 {
+        let run = self.run(kept, words, sheet, out);
+        if run.code != 0 && self.is(RunFiguresLeftOnRefusal) {
+            return run.code;
+        }
+        *figures = run.figures();
+        if self.is(RunFiguresSwapped) {
+            figures.reverse();
+        }
+        run.code
+    }
+
+    pub(super) fn run(&self, kept: bool, words: &mut [u32], sheet: &[u8], out: &mut [u8]) -> Run {
         let limit = match run::limits(words.len(), sheet, out.len()) {
             3 if self.is(RoomTestedBeforeLines) && out.len() < LINE_ROOM * text::lines(sheet).len() => 4,
             0 if self.is(RefusesEverySheet) => 2,
             code => code,
         };
         if limit != 0 {
-            return 100_000 + limit;
+            return Run { code: limit, ..Run::default() };
         }
         let items = store::items(words.len()).expect("tested") as u32;
         let mut queues = Queues::new(items);
@@ -42,7 +62,7 @@ impl Mock {
             match self.accepts(words) {
                 Some(_) if self.is(KeptRunEmptiesTheStore) => {}
                 Some(found) => queues = found,
-                None => return 100_005,
+                None => return Run { code: 5, ..Run::default() },
             }
         }
         let answers = self.answers(&mut queues, sheet);
@@ -54,7 +74,7 @@ impl Mock {
             words.copy_from_slice(&store::encode(&queues));
         }
         self.spoil_heap_words(words, sheet);
-        answers.len() as u32
+        Run { code: 0, lines: text::lines(sheet).len(), bytes: answers.len() }
     }
 
     fn spoil_heap_words(&self, words: &mut [u32], sheet: &[u8]) {
