@@ -32,15 +32,7 @@ macro_rules! lent_run {
         let (store, sheet, out): (&mut [u32], &[u8], &mut [u8]) = ($store, $sheet, $out);
         // SAFETY: as in own_run.
         unsafe {
-            $name(
-                store.as_mut_ptr(),
-                store.len(),
-                sheet.as_ptr(),
-                sheet.len(),
-                out.as_mut_ptr(),
-                out.len(),
-                $figures,
-            )
+            $name(store.as_mut_ptr(), store.len(), sheet.as_ptr(), sheet.len(), out.as_mut_ptr(), out.len(), $figures)
         }
     }};
 }

@@ -1,4 +1,4 @@
-//! The runs worked by hand in the scope paper, (a) to (h), with every number it gives.
+//! The runs worked by hand in the scope paper, (a) to (h), with every number it gives; and one for J and M, which it lacks.
 
 use reference::ledger::{allowance, max_rank, potential, Ledger};
 use reference::{Answer, Call, Queues, Tree};
@@ -106,4 +106,25 @@ fn e_to_h_in_one_list() {
     assert_eq!(played.moves(), 15);
     assert_eq!(potential(&played.queues), 2);
     assert_eq!(played.allowance, 35);
+}
+
+/// Heap 0 holds items 0 and 1, heap 1 item 3 with 4 below it.
+#[test]
+fn joined_rows_minima_and_reuse() {
+    let mut played = Played::new();
+    for line in ["I,0,0,6", "I,0,1,4", "I,1,2,1", "I,1,3,3", "I,1,4,5", "T,1"] {
+        assert_eq!(played.play(line).code, 0);
+    }
+    assert_eq!(played.play("J,0,1"), Answer::done(0, 4, 0, 0));
+    assert_eq!(played.row(), [0, 1, 3]);
+    assert_eq!(played.play("M,0"), Answer::done(3, 3, 0, 0));
+    assert_eq!(played.play("M,1"), Answer::refused(12));
+    // What stood below 3 is an item of heap 0 now.
+    assert_eq!(played.play("D,4,2"), Answer::done(4, 2, 0, 1));
+    assert_eq!(played.row(), [0, 1, 3, 4]);
+    // Heap 1 is usable again; heap 0 keeps its minimum at the second joining.
+    assert_eq!(played.play("I,1,5,8"), Answer::done(5, 8, 0, 0));
+    assert_eq!(played.play("J,0,1"), Answer::done(0, 5, 0, 0));
+    assert_eq!(played.row(), [0, 1, 3, 4, 5]);
+    assert_eq!(played.play("M,0"), Answer::done(4, 2, 0, 0));
 }

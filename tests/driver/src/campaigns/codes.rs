@@ -17,6 +17,14 @@ const LOWERINGS: [(&[u8], &[u8]); 2] = [(b"D,0,4\n", b"0,0,4,0,0\n"), (b"D,0,3\n
 pub const LONG_RUN: &[u8] = b"I,0,0,0\nI,0,1,10\nI,0,2,20\nI,0,3,30\nI,0,4,40\nI,0,5,50\nI,0,6,60\nI,0,7,70\n\
     I,0,8,80\nT,0\nD,8,5\nD,6,4\nD,7,3\nX,3\nT,0\n";
 
+/// Joining, worked by hand: the minimum comes from either side, and the emptied heap is used again. The words left, which
+/// are compared too, show the order of the joined row.
+const JOINING: &[u8] =
+    b"I,0,0,6\nI,0,1,4\nI,1,2,1\nI,1,3,3\nI,1,4,5\nT,1\nJ,0,1\nM,0\nM,1\nD,4,2\nI,1,5,8\nJ,0,1\nM,0\n";
+const JOINING_ANSWERS: &[u8] =
+    b"0,0,6,0,0\n0,1,4,0,0\n0,2,1,0,0\n0,3,3,0,0\n0,4,5,0,0\n0,2,1,1,0\n0,0,4,0,0\n0,3,3,0,0\n\
+    12,0,0,0,0\n0,4,2,0,1\n0,5,8,0,0\n0,0,5,0,0\n0,4,2,0,0\n";
+
 /// A sheet of exactly so many bytes: one long line that is no call.
 fn bytes(length: usize) -> Vec<u8> {
     vec![b'M'; length]
@@ -81,6 +89,9 @@ pub fn worked_runs(checker: &mut Checker) -> Verdict {
         let ran = checker.fresh(&dirty, WORKED, 8 * 32)?;
         if ran.answers() != WORKED_ANSWERS {
             return Err("the worked sheet has other answers than printed".into());
+        }
+        if items >= 9 && checker.fresh(&dirty, JOINING, 13 * 32)?.answers() != JOINING_ANSWERS {
+            return Err("joining has other answers than worked by hand".into());
         }
         let after_b = checker.fresh(&dirty, RUN_B, 5 * 32)?.words;
         for (sheet, answer) in LOWERINGS {
