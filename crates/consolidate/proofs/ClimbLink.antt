@@ -10,7 +10,7 @@ use lib.ListN.{length, getD, set}
 use lib.Seq.{getD-set-same}
 use borrow.Author.Tests.{ne-eqb}
 use Rattle.rules.specs.declared.Field.the-variants.{Next}
-use Rattle.rules.specs.Consolidate.{Linking, climb, isFree, link, occupied}
+use Rattle.rules.specs.Consolidate.{Linking, climb, isFree, link, loser, occupied, winner}
 use Rattle.rules.specs.Forests.{Forests, none, parentOf, rankOf, setRow, tableSize}
 use Rattle.rules.specs.Lists.{occurs, sumBy}
 use Rattle.rules.specs.Order.{comesBefore, precedes}
@@ -35,10 +35,8 @@ use Rattle.consolidate.proofs.ClimbMeeting.{
   first-inside,
   is-first,
   is-second,
-  loser,
   second-inside,
   taken,
-  winner,
 }
 use Rattle.consolidate.proofs.LinkLists.{keeps}
 use Rattle.consolidate.proofs.LinkWords.{link-beside}
