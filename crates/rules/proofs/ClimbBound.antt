@@ -38,8 +38,8 @@ climb-bound (suc d) (suc d′) true r x h rest w hh e H q k k′ = refl
 climb-bound (suc d) (suc d′) false r x h rest w hh e H q k k′ =
     let v : Linking = linkAt r x w in
     let m = met h hh (w .places) rest x (w .forests) H r q (eqb-false _ _ e) _ refl in
-    climb-bound d d′ (isFree (v .places) (suc r)) (suc r) (winner (w .forests .key) (holder (w .places) r) x) h rest v hh refl (m .0) (m .1)
-    (omega arith) (omega arith)
+    climb-bound d d′ (isFree (v .places) (suc r)) (suc r) (winner (w .forests .key) (holder (w .places) r) x) h rest v
+    hh refl (m .0) (m .1) (omega arith) (omega arith)
 
 linkTrees-bound : (d d′ : ℕ) (xs : List ℕ) (h : ℕ) (w : Linking) → 18 ≤ d → 18 ≤ d′ → h < 8
     → Held h (w .places) xs (w .forests) → linkTrees d xs w ≡ linkTrees d′ xs w

@@ -142,7 +142,8 @@ climb-held (suc d) true r x h rest w hh e H q k = put h hh (w .places) rest x (w
 climb-held (suc d) false r x h rest w hh e H q k =
     let v : Linking = linkAt r x w in
     let m = met h hh (w .places) rest x (w .forests) H r q (eqb-false _ _ e) _ refl in
-    climb-held d (isFree (v .places) (suc r)) (suc r) (winner (w .forests .key) (holder (w .places) r) x) h rest v hh refl (m .0) (m .1) (omega arith)
+    climb-held d (isFree (v .places) (suc r)) (suc r) (winner (w .forests .key) (holder (w .places) r) x) h rest v hh
+    refl (m .0) (m .1) (omega arith)
 
 linkTrees-held : (d : ℕ) (xs : List ℕ) (h : ℕ) (w : Linking) → 18 ≤ d → h < 8 → Held h (w .places) xs (w .forests)
     → Held h ((linkTrees d xs w) .places) [] ((linkTrees d xs w) .forests)

@@ -88,7 +88,8 @@ perform-code s (Meld a b) = refl
 perform-small : (s : Forests) → WellFormed s → (c : Call) → refusal s c ≡ 0 → InRange (Yields c)
     → Small ((perform s c) .reply)
 unfolding KeysFit perform extract decreaseKey delete InRange
-perform-small s W c e f = record { code = omega (arith, perform-code s c); item = item c e; key = key c e f; moves = paid }
+perform-small s W c e f =
+    record { code = omega (arith, perform-code s c); item = item c e; key = key c e f; moves = paid }
   where
     D : Disjoint s
     D = W .disjoint
