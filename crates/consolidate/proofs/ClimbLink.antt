@@ -16,7 +16,7 @@ use Rattle.rules.specs.Lists.{occurs, sumBy}
 use Rattle.rules.specs.Order.{comesBefore, precedes}
 use Rattle.rules.specs.WellFormed.{KeysFit}
 use Rattle.rules.specs.Words.{look}
-use Rattle.rules.proofs.ConsolidateKeeps.{Held, met, occurs-ρ}
+use Rattle.rules.proofs.ConsolidateKeeps.{Held, held-linked, occurs-ρ}
 use Rattle.rules.proofs.Excused.{well-formed}
 use Rattle.rules.proofs.LinkKeeps.{in-row}
 use Rattle.rules.proofs.Members.{not-none, root-child}
@@ -78,7 +78,7 @@ module _ {n h base : ℕ} {rest : List ℕ} {goal : Linking} {w ps : List ℕ} {
 
   module _ {w′ : List ℕ} (c : Changes n w (appended (Children first) second) w′) where
     m : Held h (set ps r none) (first ∷ rest) t′ × (rankOf t′ first ≡ suc r)
-    m = met h hh ps rest x t H r (G .rank) (taken G e z) (precedes (t .key) (getD ps r none) x) refl
+    m = held-linked h hh ps rest x t H r (G .rank) (taken G e z) (precedes (t .key) (getD ps r none) x) refl
 
     -- a tree to come is a root, before and after
     coming : (y : ℕ) → 1 ≤ occurs y rest

@@ -12,7 +12,7 @@ use Rattle.rules.specs.Words.{Sound, decode, encode, storeSize}
 pub record ExtractReady (n : ℕ) (w : List ℕ) (h links : ℕ) : Type 0 where
   pub sound : Sound w
   pub size : length w ≡ storeSize n
-  pub accepted : refusal (decode n w) (ExtractMin h) ≡ 0
+  pub done : refusal (decode n w) (ExtractMin h) ≡ 0
   pub fits : links + 4096 ≤ 4294967295
 
 -- Item, key and links are those that the rules answer, the links as an addition to a tally; the words are those of the

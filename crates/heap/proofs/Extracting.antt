@@ -22,7 +22,7 @@ module _ {w : List ℕ} {n h : ℕ} {tally : Tally} (P : MayMove w n (ExtractMin
       record {
         sound = P .allowed .store .sound;
         size = sound-says (P .allowed .store) .sized .size;
-        accepted = rw same-forests (P .allowed .done);
+        done = rw same-forests (P .allowed .done);
         fits = omega (arith, P .room .links);
       }
 

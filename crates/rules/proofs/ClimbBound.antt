@@ -21,7 +21,7 @@ use Rattle.rules.specs.Consolidate.{
 }
 use Rattle.rules.specs.Forests.{Forests, rankOf, rowOf, setRow}
 use Rattle.rules.specs.Theorems.{ClimbBound, ClimbBoundExtract}
-use Rattle.rules.proofs.ConsolidateKeeps.{Held, climb-held, low, met, start}
+use Rattle.rules.proofs.ConsolidateKeeps.{Held, climb-held, rank-low, held-linked, held-start}
 use Rattle.rules.proofs.Excused.{Formed, to-formed}
 use Rattle.rules.proofs.Members.{row-root}
 use Rattle.rules.proofs.RemoveRootKeeps.{remove-formed}
@@ -31,13 +31,13 @@ climb-bound : (d d′ : ℕ) (f : Bool) (r x h : ℕ) (rest : List ℕ) (w : Lin
     → climb d f r x w ≡ climb d′ f r x w
 unfolding climb isFree
 climb-bound zero d′ f r x h rest w hh e H q k k′ =
-    absurd (omega (arith, low h hh (w .places) rest x (w .forests) H))
+    absurd (omega (arith, rank-low h hh (w .places) rest x (w .forests) H))
 climb-bound (suc d) zero f r x h rest w hh e H q k k′ =
-    absurd (omega (arith, low h hh (w .places) rest x (w .forests) H))
+    absurd (omega (arith, rank-low h hh (w .places) rest x (w .forests) H))
 climb-bound (suc d) (suc d′) true r x h rest w hh e H q k k′ = refl
 climb-bound (suc d) (suc d′) false r x h rest w hh e H q k k′ =
     let v : Linking = linkAt r x w in
-    let m = met h hh (w .places) rest x (w .forests) H r q (eqb-false _ _ e) _ refl in
+    let m = held-linked h hh (w .places) rest x (w .forests) H r q (eqb-false _ _ e) _ refl in
     climb-bound d d′ (isFree (v .places) (suc r)) (suc r) (winner (w .forests .key) (holder (w .places) r) x) h rest v
     hh refl (m .0) (m .1) (omega arith) (omega arith)
 
@@ -58,7 +58,7 @@ unfolding consolidate consolidateWithin
 consolidate-bound s S h hh d k =
     ap (λ (w : Linking). record
     { places = w .places; links = w .links; forests = setRow h (occupied (w .places)) (w .forests) })
-    (linkTrees-bound d 18 (rowOf s h) h _ k (le-refl 18) hh (start h s hh S))
+    (linkTrees-bound d 18 (rowOf s h) h _ k (le-refl 18) hh (held-start h s hh S))
 
 pub climbBound : ClimbBound
 climbBound s S = consolidate-bound s (to-formed s S)

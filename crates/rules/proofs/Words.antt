@@ -38,14 +38,14 @@ setWord-other v f i x g j h = go (eqb (fieldNumber f) (fieldNumber g)) (eqb i j)
     go false t d e = refl
 
 -- two words are one, or not
-pub data Same (f g : Field) (i j : ℕ) : Type 0 where
-  same : f ≡ g → i ≡ j → Same f g i j
-  other : (f ≡ g → i ≡ j → ⊥) → Same f g i j
+pub data SameWord (f g : Field) (i j : ℕ) : Type 0 where
+  same : f ≡ g → i ≡ j → SameWord f g i j
+  other : (f ≡ g → i ≡ j → ⊥) → SameWord f g i j
 
-pub same-word : (f g : Field) (i j : ℕ) → Same f g i j
+pub same-word : (f g : Field) (i j : ℕ) → SameWord f g i j
 same-word f g i j = go (eqb (fieldNumber f) (fieldNumber g)) (eqb i j) refl refl
   where
-    go : (s t : Bool) → eqb (fieldNumber f) (fieldNumber g) ≡ s → eqb i j ≡ t → Same f g i j
+    go : (s t : Bool) → eqb (fieldNumber f) (fieldNumber g) ≡ s → eqb i j ≡ t → SameWord f g i j
     go true true d e = same (number-injective f g (eqb-true (fieldNumber f) (fieldNumber g) d)) (eqb-true i j e)
     go true false d e = other (λ _ h. eqb-false i j e h)
     go false t d e = other (λ h _. eqb-false (fieldNumber f) (fieldNumber g) d (ap fieldNumber h))
@@ -54,7 +54,7 @@ same-word f g i j = go (eqb (fieldNumber f) (fieldNumber g)) (eqb i j) refl refl
 pub setWord-own : (v : Field → ℕ → ℕ) (f : Field) (i : ℕ) (g : Field) (j : ℕ) → setWord f i (v f i) v g j ≡ v g j
 setWord-own v f i g j = go (same-word f g i j)
   where
-    go : Same f g i j → setWord f i (v f i) v g j ≡ v g j
+    go : SameWord f g i j → setWord f i (v f i) v g j ≡ v g j
     go (same d e) = rw (← d, ← e) (setWord-same v f i (v f i))
     go (other h) = setWord-other v f i (v f i) g j h
 
@@ -63,7 +63,7 @@ pub look-set : (n : ℕ) (w : List ℕ) (f : Field) (i x : ℕ) (g : Field) (j :
     → i < fieldSize n f → j < fieldSize n g → look n (set w (at n f i) x) g j ≡ setWord f i x (look n w) g j
 look-set n w f i x g j l hi hj = go (same-word f g i j)
   where
-    go : Same f g i j → look n (set w (at n f i) x) g j ≡ setWord f i x (look n w) g j
+    go : SameWord f g i j → look n (set w (at n f i) x) g j ≡ setWord f i x (look n w) g j
     go (same d e) =
         rw (← d, ← e, setWord-same (look n w) f i x)
         (getD-set-same w (at n f i) x 0 (omega (arith, at-bound n f i hi)))
@@ -101,7 +101,7 @@ set-keeps : (n : ℕ) (v : Field → ℕ → ℕ) (w : List ℕ) (f : Field) (i 
     → i < fieldSize n f → j < fieldSize n g → Agrees n v w g j → Agrees n v (set w (at n f i) (v f i)) g j
 set-keeps n v w f i g j l hi hj a = look-set n w f i (v f i) g j l hi hj ∙ go (same-word f g i j)
   where
-    go : Same f g i j → setWord f i (v f i) (look n w) g j ≡ v g j
+    go : SameWord f g i j → setWord f i (v f i) (look n w) g j ≡ v g j
     go (same d e) = rw (← d, ← e) (setWord-same (look n w) f i (v f i))
     go (other h) = setWord-other (look n w) f i (v f i) g j h ∙ a
 

@@ -21,9 +21,9 @@ pub record Seen : Type 0 where
   pub row : List ℕ
   pub families : List (ℕ × List ℕ)
   pub marked : List ℕ
-  pub left : ℕ
-  pub moved : ℕ
-  pub may : ℕ
+  pub potentialLeft : ℕ
+  pub movesMade : ℕ
+  pub movesAllowed : ℕ
 
 unfoldable pub lastAnswer : Answer → List Answer → Answer
 lastAnswer a [] = a
@@ -41,15 +41,15 @@ unfoldable pub reply : ℕ → ℕ → ℕ → ℕ → ℕ → Answer
 reply code item key links cuts = record { code = code; item = item; key = key; links = links; cuts = cuts }
 
 unfoldable pub sees : Answer → List ℕ → List (ℕ × List ℕ) → List ℕ → ℕ → ℕ → ℕ → Seen
-sees last row families marked left moved may =
+sees last row families marked potentialLeft movesMade movesAllowed =
     record {
       last = last;
       row = row;
       families = families;
       marked = marked;
-      left = left;
-      moved = moved;
-      may = may;
+      potentialLeft = potentialLeft;
+      movesMade = movesMade;
+      movesAllowed = movesAllowed;
     }
 
 unfoldable pub seen : List Line → Seen

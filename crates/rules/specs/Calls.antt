@@ -58,7 +58,7 @@ release cs s =
 unfoldable pub setFree : ℕ → Forests → Forests
 setFree x s = setHeap x 0 (setMark x 0 (setKey x 0 (setParent x 0 (setChildren x [] s))))
 
--- The root x leaves row h and is free; its children join the end in their order, unmarked.
+-- The root x leaves row h and is free; its children follow what is left of the row, in their order and unmarked.
 unfoldable pub removeRoot : ℕ → ℕ → Forests → Forests
 removeRoot h x s =
     let cs = childrenOf s x in
@@ -73,7 +73,7 @@ extract h x s =
 unfoldable pub hasParent : Forests → ℕ → Bool
 hasParent s i = not (eqb (parentOf s i) none)
 
--- D: the key is lowered; i is cut only if it now comes before its parent.
+-- D: the key is lowered, and i is cut if by the new key it comes before a parent.
 unfoldable pub decreaseKey : ℕ → ℕ → Forests → Outcome
 decreaseKey i k before =
     let lowered = setKey i k before in

@@ -1,4 +1,4 @@
--- Linking: a row is walked over seventeen places, one for each rank 0 to 16.
+-- Linking: the trees of a row come, one after the other, to seventeen places, one to a rank.
 use Prim.Native.Nat.{ℕ, zero, suc}
 use mathlib.Core.List.{List, [], _∷_, _++_}
 use mathlib.Core.Bool.{Bool, true, false, cond}

@@ -115,7 +115,7 @@ siblings s i = cond (eqb (parentOf s i) none) (rowOf s (heapNumber s i)) (childr
 unfoldable pub unlessFree : Forests → ℕ → ℕ → ℕ
 unlessFree s i v = cond (eqb (heapOf s i) 0) 0 v
 
--- 0 for a free item, else 1 + 2 × heap + mark; and back
+-- the state word of a heap field and a mark, and both read back from it
 unfoldable pub stateOf : ℕ → ℕ → ℕ
 stateOf zero mark = 0
 stateOf (suc h) mark = 1 + 2 * h + mark
