@@ -132,7 +132,7 @@ module _ {n h base : ℕ} {rest : List ℕ} {goal : Linking} {w ps : List ℕ} {
           fuel = d;
           state = linked;
           rank = m .1;
-          count = omega (arith, G .count);
+          tallied = omega (arith, G .tallied);
           fits = omega (arith, G .fits, fewer);
           enough = omega arith;
           whole = rw (ne-eqb (getD ps r none) none (taken G e z)) at q;

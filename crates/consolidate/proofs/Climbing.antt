@@ -32,7 +32,7 @@ pub record Climbing (n h base : ℕ) (rest : List ℕ) (goal : Linking) (w ps : 
   pub fuel : ℕ
   pub state : Consolidating n h w ps (x ∷ rest) rest here
   pub rank : rankOf here x ≡ r
-  pub count : links ≡ base + made
+  pub tallied : links ≡ base + made
   pub fits : links + length (occupied ps) ≤ 4294967295
   pub enough : 18 ≤ fuel + r
   pub whole : climb fuel (isFree ps r) r x (record { places = ps; links = made; forests = here }) ≡ goal
@@ -51,7 +51,7 @@ climb-starts n h base k rest w ps t x links r C e f q =
       fuel = 18;
       state = C;
       rank = refl;
-      count = e;
+      tallied = e;
       fits = f;
       enough = omega arith;
       whole = refl;
@@ -88,7 +88,7 @@ module _ {n h base : ℕ} {rest : List ℕ} {goal : Linking} {w ps : List ℕ} {
       let g = last-step (G .fuel) (G .enough) f (G .whole) in
       record {
         places = ap (λ l. l .places) g;
-        count = G .count ∙ ap (λ l. base + l .links) g;
+        tallied = G .tallied ∙ ap (λ l. base + l .links) g;
         state = subst (λ l. Consolidating n h w (set ps r x) rest rest (l .forests)) g
             (record {
               heap = hh;

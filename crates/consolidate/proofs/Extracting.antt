@@ -121,6 +121,6 @@ module _ {n h links : ℕ} {w : List ℕ} (P : ExtractReady n w h links) where
           record {
             items = refl;
             keys = ek ∙ sound-rowed .says .says Key x least-inside ∙ beside-key (sound-rowed .beside) x least-inside;
-            count = C .count;
+            tallied = C .tallied;
             words = C .words;
           })

@@ -1,4 +1,4 @@
--- Laws of a list of siblings in the words: what each move on the list does to its chain.
+-- Laws of a list of siblings in the words: what each move on the list does to its links.
 use Prim.Native.Nat.{ℕ, _≤_}
 use mathlib.Core.Path.{_≡_, refl, sym, ap, _∙_}
 use mathlib.Core.Logic.{_≢_}

@@ -29,7 +29,7 @@ pub record LinkingRow (n h base : ℕ) (goal : Linking) (w ps : List ℕ) (x lin
   pub rest : List ℕ
   pub state : Consolidating n h w ps rest rest here
   pub head : x ≡ headOr none rest
-  pub count : links ≡ base + made
+  pub tallied : links ≡ base + made
   pub fits : links + length (occupied ps) + length rest ≤ 4294967295
   pub whole : linkTrees 18 rest (record { places = ps; links = made; forests = here }) ≡ goal
 
@@ -57,7 +57,7 @@ walk-starts {n} {h} {m} {w} {t} x links R W k e f =
       rest = rowOf t h;
       state = C;
       head = e ∙ R .says .says FirstTree h k ∙ R .row .front;
-      count = omega arith;
+      tallied = omega arith;
       fits = omega (arith, rest-short C, C .says .sized .small);
       whole = refl;
     }
@@ -80,7 +80,7 @@ module _ {n h base : ℕ} {goal : Linking} {w ps : List ℕ} {x links : ℕ} (G 
       go [] z C q =
           record {
             places = ap (λ l. l .places) q;
-            count = G .count ∙ ap (λ l. base + l .links) q;
+            tallied = G .tallied ∙ ap (λ l. base + l .links) q;
             state = subst (λ l. Consolidating n h w ps [] [] (l .forests)) q C;
           }
       go (y ∷ l) z C q = absurd (omega (arith, ap length z))
@@ -149,7 +149,7 @@ module _ {n h base : ℕ} {goal : Linking} {w ps : List ℕ} {x links : ℕ} (G 
         → Step w′ ps′ x′ links′
     unfolding Climbs climbTree linkTrees nextIn occurs sumBy
     walk-step {w′} {ps′} {x′} {links′} e f =
-        let S = f h base (G .made) (G .here) (first .tail) climbing (G .count) in
+        let S = f h base (G .made) (G .here) (first .tail) climbing (G .tallied) in
         let L : Linking = climbTree ps (G .made) (G .here) x in
         let q : linkTrees 18 (x ∷ first .tail) (record { places = ps; links = G .made; forests = G .here }) ≡ goal =
         rw (first .is) at (G .whole) in
@@ -165,12 +165,12 @@ module _ {n h base : ℕ} {goal : Linking} {w ps : List ℕ} {x links : ℕ} (G 
                 ∙ whole-state .says .says Next x walk-inside
                 ∙ whole-state .ahead x (omega (arith, delta-self x))
                 ∙ rw (eqb-self x);
-            count = S .count;
+            tallied = S .tallied;
             fits = omega (
               arith,
               room,
-              S .count,
-              G .count,
+              S .tallied,
+              G .tallied,
               ap length (ap occupied (S .places)),
               length-occupied ps,
               length-occupied (L .places),

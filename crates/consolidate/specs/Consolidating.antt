@@ -43,7 +43,7 @@ pub record ClimbReady (n : ℕ) (w ps : List ℕ) (x links : ℕ) : Type 0 where
 -- after a step: the places and links are those of the rules, and the words are as the next step needs them
 pub record Climbed (n h base : ℕ) (rest w ps : List ℕ) (links : ℕ) (l : Linking) : Type 0 where
   pub places : ps ≡ l .places
-  pub count : links ≡ base + l .links
+  pub tallied : links ≡ base + l .links
   pub state : Consolidating n h w ps rest rest (l .forests)
 
 -- whatever the forests are, and however many links were made before
@@ -81,7 +81,7 @@ WritesRow n w h ps w′ =
 
 pub record Consolidated (w : List ℕ) (links : ℕ) (base : ℕ) (l : Linking) : Type 0 where
   pub words : w ≡ encode (l .forests)
-  pub count : links ≡ base + l .links
+  pub tallied : links ≡ base + l .links
 
 unfoldable pub Consolidates : ℕ → List ℕ → ℕ → ℕ → List ℕ → ℕ → Type 0
 Consolidates n w h links w′ links′ =

@@ -20,5 +20,5 @@ pub record ExtractReady (n : ℕ) (w : List ℕ) (h links : ℕ) : Type 0 where
 pub record Performs (w : List ℕ) (base item key links : ℕ) (o : Outcome) : Type 0 where
   pub items : item ≡ o .reply .item
   pub keys : key ≡ o .reply .key
-  pub count : links ≡ base + o .reply .links
+  pub tallied : links ≡ base + o .reply .links
   pub words : w ≡ encode (o .next)

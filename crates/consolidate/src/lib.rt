@@ -125,7 +125,7 @@ fn link_row(s: &mut [u32], n: usize, h: u32, tally: Tally) -> Linked
     Linked { places, tally: t }
 }
 
-// The k siblings from c on become roots of heap h, unmarked.
+// The siblings from `child` on, `count` of them, become roots of heap h, unmarked.
 fn release(s: &mut [u32], n: usize, h: u32, child: u32, count: u32)
     requires { ⌜ ReleaseReady n (now s) h child count ⌝ }
     ensures { λ r. ⌜ Releases n (now (s .entry)) h child count (now (s .exit)) ⌝ }

@@ -1,4 +1,4 @@
--- Lists without repetition, as chains of links: who stands in them.
+-- Lists without repetition: who stands in them.
 use Prim.Native.Nat.{ℕ, _≤_}
 use mathlib.Core.Path.{_≡_, ap}
 use mathlib.Core.Logic.{_≢_}

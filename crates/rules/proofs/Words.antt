@@ -1,4 +1,4 @@
--- The laws of the words: what is read after a store, and that the words of a table of values are settled by these.
+-- The laws of the words: what is read after a store, and that a table of values determines its words.
 use mathlib.Core.Path.{_≡_, refl, sym, ap, subst, _∙_}
 use mathlib.Core.Logic.{_≢_}
 use Prim.Native.Nat.{ℕ, zero, suc, _<_, _≤_}

@@ -135,7 +135,7 @@ ItemsBalance =
     (s : Forests) → WellFormed s → (ls : List Line)
     → items (after s ls) + total itemsRemoved s ls ≡ items s + total itemsInserted s ls
 
--- The words settle the forests.
+-- The words determine the forests.
 abbrev pub EncodeLength : Type 0
 EncodeLength = (s : Forests) → length (encode s) ≡ storeSize (tableSize s)
 
