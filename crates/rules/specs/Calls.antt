@@ -77,9 +77,9 @@ hasParent s i = not (eqb (parentOf s i) none)
 unfoldable pub decreaseKey : ℕ → ℕ → Forests → Outcome
 decreaseKey i k before =
     let lowered = setKey i k before in
-    let comesFirst = hasParent lowered i && precedes (lowered .key) i (parentOf lowered i) in
-    let after = cutIf comesFirst (heapNumber before i) i lowered in
-    done i k 0 (after .cuts) (after .forests)
+    let beforeParent = hasParent lowered i && precedes (lowered .key) i (parentOf lowered i) in
+    let cutFree = cutIf beforeParent (heapNumber before i) i lowered in
+    done i k 0 (cutFree .cuts) (cutFree .forests)
 
 -- X: a heap's minimum leaves as by T. Any other is cut if it has a parent, and then leaves its row with no linking.
 unfoldable pub deleteAs : Bool → ℕ → Forests → Outcome
