@@ -10,13 +10,13 @@ use lib.ListN.{length, getD, set}
 use lib.Seq.{getD-set-same}
 use borrow.Author.Tests.{ne-eqb}
 use Rattle.rules.specs.declared.Field.the-variants.{Next}
-use Rattle.rules.specs.Consolidate.{Linking, climb, isFree, link, occupied}
+use Rattle.rules.specs.Consolidate.{Linking, climb, isFree, link, loser, occupied, winner}
 use Rattle.rules.specs.Forests.{Forests, none, parentOf, rankOf, setRow, tableSize}
 use Rattle.rules.specs.Lists.{occurs, sumBy}
 use Rattle.rules.specs.Order.{comesBefore, precedes}
 use Rattle.rules.specs.WellFormed.{KeysFit}
 use Rattle.rules.specs.Words.{look}
-use Rattle.rules.proofs.ConsolidateKeeps.{Held, met, occurs-ρ}
+use Rattle.rules.proofs.ConsolidateKeeps.{Held, held-linked, occurs-ρ}
 use Rattle.rules.proofs.Excused.{well-formed}
 use Rattle.rules.proofs.LinkKeeps.{in-row}
 use Rattle.rules.proofs.Members.{not-none, root-child}
@@ -35,10 +35,8 @@ use Rattle.consolidate.proofs.ClimbMeeting.{
   first-inside,
   is-first,
   is-second,
-  loser,
   second-inside,
   taken,
-  winner,
 }
 use Rattle.consolidate.proofs.LinkLists.{keeps}
 use Rattle.consolidate.proofs.LinkWords.{link-beside}
@@ -80,7 +78,7 @@ module _ {n h base : ℕ} {rest : List ℕ} {goal : Linking} {w ps : List ℕ} {
 
   module _ {w′ : List ℕ} (c : Changes n w (appended (Children first) second) w′) where
     m : Held h (set ps r none) (first ∷ rest) t′ × (rankOf t′ first ≡ suc r)
-    m = met h hh ps rest x t H r (G .rank) (taken G e z) (precedes (t .key) (getD ps r none) x) refl
+    m = held-linked h hh ps rest x t H r (G .rank) (taken G e z) (precedes (t .key) (getD ps r none) x) refl
 
     -- a tree to come is a root, before and after
     coming : (y : ℕ) → 1 ≤ occurs y rest
@@ -134,7 +132,7 @@ module _ {n h base : ℕ} {rest : List ℕ} {goal : Linking} {w ps : List ℕ} {
           fuel = d;
           state = linked;
           rank = m .1;
-          count = omega (arith, G .count);
+          tallied = omega (arith, G .tallied);
           fits = omega (arith, G .fits, fewer);
           enough = omega arith;
           whole = rw (ne-eqb (getD ps r none) none (taken G e z)) at q;

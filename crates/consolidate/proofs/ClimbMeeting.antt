@@ -8,7 +8,7 @@ use mathlib.Core.Bool.{Bool, true, false, cond}
 use native.Mathlib.Omega.{arith}
 use lib.ListN.{getD}
 use Rattle.rules.specs.declared.Field.the-variants.{LastChild, Rank}
-use Rattle.rules.specs.Consolidate.{Linking, occupied}
+use Rattle.rules.specs.Consolidate.{Linking, loser, occupied, winner}
 use Rattle.rules.specs.Forests.{Forests, none, childrenOf, rankOf, setRow}
 use Rattle.rules.specs.Lists.{occurs}
 use Rattle.rules.specs.Order.{comesBefore, precedes}
@@ -25,13 +25,6 @@ use Rattle.consolidate.proofs.Beside.{beside-rank, before-says}
 use Rattle.consolidate.proofs.LinkedLists.{last-apart}
 use Rattle.consolidate.proofs.Climbing.{Climbing, held, place-at, rank-inside, tree-inside}
 use Rattle.consolidate.proofs.LinkLists.{TwoRoots, a-in, a-root, l-in}
-
--- of the holder y and the tree x, by a table of keys: the one that comes first, and the other
-abbrev pub winner : List ℕ → ℕ → ℕ → ℕ
-winner key y x = cond (precedes key y x) y x
-
-abbrev pub loser : List ℕ → ℕ → ℕ → ℕ
-loser key y x = cond (precedes key y x) x y
 
 module _ {n h base : ℕ} {rest : List ℕ} {goal : Linking} {w ps : List ℕ} {x r links : ℕ}
     (G : Climbing n h base rest goal w ps x r links) {a : ℕ} (e : a ≡ getD ps r 0) (z : a ≢ none) where

@@ -11,9 +11,9 @@ use Rattle.rules.specs.Forests.{Forests, none, rankOf, setRow}
 use Rattle.rules.specs.WellFormed.{KeysFit}
 use Rattle.rules.specs.Words.{look}
 use Rattle.rules.proofs.Default.{getD-any}
-use Rattle.rules.proofs.ConsolidateKeeps.{Held, low, put, x-heap}
+use Rattle.rules.proofs.ConsolidateKeeps.{Held, rank-low, held-put, x-heap}
 use Rattle.rules.proofs.Excused.{to-formed, well-formed}
-use Rattle.consolidate.specs.Consolidating.{Consolidating, Settled, settle}
+use Rattle.consolidate.specs.Consolidating.{Consolidating, Climbed, climbTree}
 use Rattle.consolidate.proofs.Beside.{beside-rank}
 
 module _ {n h : ℕ} {w ps trees rest : List ℕ} {t : Forests} (C : Consolidating n h w ps trees rest t) where
@@ -32,7 +32,7 @@ pub record Climbing (n h base : ℕ) (rest : List ℕ) (goal : Linking) (w ps : 
   pub fuel : ℕ
   pub state : Consolidating n h w ps (x ∷ rest) rest here
   pub rank : rankOf here x ≡ r
-  pub count : links ≡ base + made
+  pub tallied : links ≡ base + made
   pub fits : links + length (occupied ps) ≤ 4294967295
   pub enough : 18 ≤ fuel + r
   pub whole : climb fuel (isFree ps r) r x (record { places = ps; links = made; forests = here }) ≡ goal
@@ -40,8 +40,8 @@ pub record Climbing (n h base : ℕ) (rest : List ℕ) (goal : Linking) (w ps : 
 -- a tree comes to the places
 pub climb-starts : (n h base k : ℕ) (rest w ps : List ℕ) (t : Forests) (x links r : ℕ)
     → Consolidating n h w ps (x ∷ rest) rest t → links ≡ base + k → links + length (occupied ps) ≤ 4294967295
-    → r ≡ look n w Rank x → Climbing n h base rest (settle ps k t x) w ps x r links
-unfolding settle
+    → r ≡ look n w Rank x → Climbing n h base rest (climbTree ps k t x) w ps x r links
+unfolding climbTree
 climb-starts n h base k rest w ps t x links r C e f q =
     let i : x < n = omega (arith, C .beside .size, x-heap h (C .heap) ps rest x t (held C)) in
     let z : r ≡ rankOf t x = q ∙ C .says .says Rank x i ∙ beside-rank (C .beside) x i in
@@ -51,7 +51,7 @@ climb-starts n h base k rest w ps t x links r C e f q =
       fuel = 18;
       state = C;
       rank = refl;
-      count = e;
+      tallied = e;
       fits = f;
       enough = omega arith;
       whole = refl;
@@ -69,7 +69,7 @@ module _ {n h base : ℕ} {rest : List ℕ} {goal : Linking} {w ps : List ℕ} {
   hh = G .state .heap
 
   pub rank-inside : r < 17
-  rank-inside = omega (arith, low h hh ps rest x t H, G .rank)
+  rank-inside = omega (arith, rank-low h hh ps rest x t H, G .rank)
 
   pub tree-inside : x < n
   tree-inside = omega (arith, G .state .beside .size, x-heap h hh ps rest x t H)
@@ -80,15 +80,15 @@ module _ {n h base : ℕ} {rest : List ℕ} {goal : Linking} {w ps : List ℕ} {
   -- ---- the place is free
 
   -- it rests there
-  pub climb-ends : {a : ℕ} → a ≡ getD ps r 0 → a ≡ none → Settled n h base rest w (set ps r x) links goal
+  pub climb-ends : {a : ℕ} → a ≡ getD ps r 0 → a ≡ none → Climbed n h base rest w (set ps r x) links goal
   unfolding climb isFree KeysFit
   climb-ends e z =
       let f : getD ps r none ≡ none = sym (place-at e) ∙ z in
-      let p = put h hh ps rest x t H r (G .rank) f in
+      let p = held-put h hh ps rest x t H r (G .rank) f in
       let g = last-step (G .fuel) (G .enough) f (G .whole) in
       record {
         places = ap (λ l. l .places) g;
-        count = G .count ∙ ap (λ l. base + l .links) g;
+        tallied = G .tallied ∙ ap (λ l. base + l .links) g;
         state = subst (λ l. Consolidating n h w (set ps r x) rest rest (l .forests)) g
             (record {
               heap = hh;

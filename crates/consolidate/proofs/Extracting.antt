@@ -47,7 +47,7 @@ module _ {n h links : ℕ} {w : List ℕ} (P : ExtractReady n w h links) where
 
   -- the minimum is a root of h
   stands : 1 ≤ occurs (minimum t h) (rowOf t h)
-  stands = extract-ok t h (P .accepted)
+  stands = extract-ok t h (P .done)
 
   pub heap-inside : h < 8
   heap-inside =
@@ -112,15 +112,15 @@ module _ {n h links : ℕ} {w : List ℕ} (P : ExtractReady n w h links) where
             fits = P .fits;
           }
 
-      pub extracted : {k links′ : ℕ} (w₂ : List ℕ) → k ≡ look n w Key x → Consolidates n w₁ h links w₂ links′
+      pub extract-performs : {k links′ : ℕ} (w₂ : List ℕ) → k ≡ look n w Key x → Consolidates n w₁ h links w₂ links′
           → Performs w₂ links x k links′ (perform t (ExtractMin h))
       unfolding Consolidates perform extract
-      extracted {k} {links′} w₂ ek f =
+      extract-performs {k} {links′} w₂ ek f =
           subst (λ q. Performs w₂ links x k links′ (extract h q t)) is-least
           (let C = f (minimum t h) (removeRoot h x t) after-rowed after-formed in
           record {
             items = refl;
             keys = ek ∙ sound-rowed .says .says Key x least-inside ∙ beside-key (sound-rowed .beside) x least-inside;
-            count = C .count;
+            tallied = C .tallied;
             words = C .words;
           })

@@ -15,7 +15,7 @@ pub mod ClimbMeeting
 pub mod ClimbLink
 pub mod Releasing
 pub mod TreesToCome
-pub mod Walking
+pub mod LinkingRow
 pub mod WritingRow
 pub mod RowWritten
 pub mod Extracting

@@ -1,4 +1,4 @@
--- Laws of a list of siblings in the words: what each move on the list does to its chain.
+-- Laws of a list of siblings in the words: what each move on the list does to its links.
 use Prim.Native.Nat.{ℕ, _≤_}
 use mathlib.Core.Path.{_≡_, refl, sym, ap, _∙_}
 use mathlib.Core.Logic.{_≢_}
@@ -11,7 +11,7 @@ use Rattle.rules.specs.Lists.{delta, occurs, sumBy, without}
 use Rattle.rules.specs.Forests.{none}
 use Rattle.rules.specs.Words.{headOr, lastOr, nextIn, prevIn}
 use Rattle.rules.proofs.Occurs.{byItem, eqb-self, delta-self, delta-other, occurs-append, occurs-one, occurs-without}
-use Rattle.rules.proofs.Siblings.{Once, last-in, apart}
+use Rattle.rules.proofs.Siblings.{Once, last-in, member-apart}
 use Rattle.rules.proofs.ConcatLinks.{
   head-concat,
   last-any,
@@ -55,8 +55,8 @@ head-none [] n e = refl
 head-none (z ∷ zs) n e = absurd (omega (arith, delta-self none, ap (delta none) e))
 
 -- a member is not none
-not-none : (l : List ℕ) (y : ℕ) → 1 ≤ occurs y l → occurs none l ≡ 0 → none ≢ y
-not-none l y i n e = apart y none l i n (sym e)
+member-not-none : (l : List ℕ) (y : ℕ) → 1 ≤ occurs y l → occurs none l ≡ 0 → none ≢ y
+member-not-none l y i n e = member-apart y none l i n (sym e)
 
 -- ---- two lists, one after the other
 
@@ -93,24 +93,24 @@ module _ {f l a b : ℕ} {nx pv : ℕ → ℕ} (m k : List ℕ) (c : LinkedList 
 
   -- a member of the second list is no last of the first
   apart-last : (y : ℕ) → occurs y m ≡ 0 → 1 ≤ occurs y k → l ≢ y
-  apart-last y i j e = last-apart y m (λ z. not-none k y j none-k (sym z)) i (sym (c .back) ∙ e)
+  apart-last y i j e = last-apart y m (λ z. member-not-none k y j none-k (sym z)) i (sym (c .back) ∙ e)
 
   nexts-of : (y : ℕ) → Side y → nx′ y ≡ nextIn y (m ++ k)
   nexts-of y (left i j) =
       en y
       ∙ rw (c .nexts y i, c .back, g .front)
-      (sym (next-before none y m k (λ z. omega (arith, o z, occurs-append z m k)) (not-none m y i none-m) j))
+      (sym (next-before none y m k (λ z. omega (arith, o z, occurs-append z m k)) (member-not-none m y i none-m) j))
   nexts-of y (right i j) = en y ∙ rw (ne-eqb l y (apart-last y i j)) (g .nexts y j ∙ sym (next-behind y m k i))
 
   prevs-of : (y : ℕ) → Side y → pv′ y ≡ prevIn none y (m ++ k)
   prevs-of y (left i j) =
       ep y
-      ∙ rw (ne-eqb a y (λ e. head-apart y k (λ z. not-none m y i none-m (sym z)) j (sym (g .front) ∙ e)))
+      ∙ rw (ne-eqb a y (λ e. head-apart y k (λ z. member-not-none m y i none-m (sym z)) j (sym (g .front) ∙ e)))
       (c .prevs y i ∙ sym (prev-before none y m k j))
   prevs-of y (right i j) =
       ep y
       ∙ rw (g .prevs y j, g .front, c .back)
-      (sym (prev-first (lastOr none m) y k (λ z. not-none k y j none-k (sym z))))
+      (sym (prev-first (lastOr none m) y k (λ z. member-not-none k y j none-k (sym z))))
       ∙ sym (prev-behind none y m k i)
 
   -- the second list follows the first
@@ -191,4 +191,4 @@ linked-remove {f} {l} {nx} {pv} m c x o k i f′ l′ nx′ pv′ ef el en ep =
     not-x y j e = omega (arith, occurs-without x x m i, o x, delta-self x, ap (λ q. occurs q (without x m)) e)
 
     some : (y : ℕ) → 1 ≤ occurs y (without x m) → y ≢ none
-    some y j e = not-none m y (in-m y j) k (sym e)
+    some y j e = member-not-none m y (in-m y j) k (sym e)

@@ -13,22 +13,22 @@ use Rattle.rules.proofs.Occurs.{delta-self, eqb-self}
 use Rattle.rules.proofs.Siblings.{head-out, once-tail}
 use Rattle.store.specs.Says.{Changes, Says, Values}
 use Rattle.store.proofs.Says.{changes-none, changes-then, says-look}
-use Rattle.consolidate.specs.Released.{Listed, released}
+use Rattle.consolidate.specs.Released.{ListFrom, released}
 
 -- The items of rest are still to be released, from c on: `done` is what was stored so far.
 pub record Releasing (n h : ℕ) (start cs w : List ℕ) (c k : ℕ) : Type 0 where
   pub rest : List ℕ
   pub done : Values → Values
   pub changes : Changes n start done w
-  pub listed : Listed n w c k rest
+  pub listed : ListFrom n w c k rest
   pub whole : (v : Values) → released h rest (done v) ≡ released h cs v
 
-pub release-starts : {n : ℕ} (h : ℕ) {w cs : List ℕ} {c k : ℕ} → Listed n w c k cs → Releasing n h w cs w c k
+pub release-starts : {n : ℕ} (h : ℕ) {w cs : List ℕ} {c k : ℕ} → ListFrom n w c k cs → Releasing n h w cs w c k
 release-starts {n} h {w} {cs} L =
     record { rest = cs; done = λ v. v; changes = changes-none n w (L .sized); listed = L; whole = λ v. refl }
 
 module _ {n h : ℕ} {start cs w : List ℕ} {c k : ℕ} (G : Releasing n h start cs w c k) where
-  some : (l : List ℕ) → 0 < k → Listed n w c k l → 1 ≤ occurs c l
+  some : (l : List ℕ) → 0 < k → ListFrom n w c k l → 1 ≤ occurs c l
   unfolding occurs sumBy headOr
   some [] m L = absurd (omega (arith, L .long))
   some (y ∷ l) m L = rw (L .first) (omega (arith, delta-self y))
@@ -41,7 +41,7 @@ module _ {n h : ℕ} {start cs w : List ℕ} {c k : ℕ} (G : Releasing n h star
   unfolding released
   release-ends e = go (G .rest) (G .listed) (G .whole)
     where
-      go : (l : List ℕ) → Listed n w c k l → ((v : Values) → released h l (G .done v) ≡ released h cs v)
+      go : (l : List ℕ) → ListFrom n w c k l → ((v : Values) → released h l (G .done v) ≡ released h cs v)
           → Changes n start (released h cs) w
       go [] L q =
           record { sized = L .sized; says = λ v s. subst (Says n w) (q v) (G .changes .says v s) }
@@ -55,7 +55,7 @@ module _ {n h : ℕ} {start cs w : List ℕ} {c k : ℕ} (G : Releasing n h star
     same-next y i = b .says _ (a .says _ (says-look n w (G .listed .sized))) .says Next y i
 
     -- one fewer is listed
-    next-list : (y : ℕ) (l : List ℕ) → Listed n w c k (y ∷ l) → c ≡ y → Listed n w₂ c′ k′ l
+    next-list : (y : ℕ) (l : List ℕ) → ListFrom n w c k (y ∷ l) → c ≡ y → ListFrom n w₂ c′ k′ l
     unfolding occurs sumBy nextIn
     next-list y l L z =
         let i : y < n = L .inside y (omega (arith, delta-self y)) in
@@ -75,7 +75,7 @@ module _ {n h : ℕ} {start cs w : List ℕ} {c k : ℕ} (G : Releasing n h star
     unfolding released headOr
     release-step = go (G .rest) (G .listed) (G .whole)
       where
-        go : (l : List ℕ) → Listed n w c k l → ((v : Values) → released h l (G .done v) ≡ released h cs v)
+        go : (l : List ℕ) → ListFrom n w c k l → ((v : Values) → released h l (G .done v) ≡ released h cs v)
             → Releasing n h start cs w₂ c′ k′
         go [] L q = absurd (omega (arith, L .long))
         go (y ∷ l) L q =

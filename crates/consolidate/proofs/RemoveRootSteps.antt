@@ -19,7 +19,7 @@ use Rattle.store.specs.Empty.{freeItem}
 use Rattle.store.specs.Says.{Changes, Says}
 use Rattle.store.specs.Siblings.{ConcatReady, RankFalls, RemoveReady, lastOf, concatenated, removed}
 use Rattle.store.proofs.Listed.{link-in}
-use Rattle.consolidate.specs.Released.{Listed, ReleaseReady, Releases, released}
+use Rattle.consolidate.specs.Released.{ListFrom, ReleaseReady, Releases, released}
 use Rattle.consolidate.specs.Removed.{RootOf}
 use Rattle.consolidate.specs.Stored.{Rowed}
 use Rattle.consolidate.proofs.Beside.{beside-count, beside-rank}
@@ -94,7 +94,7 @@ module _ {n h m : ℕ} {w : List ℕ} {t : Forests} (R : Rowed n h m w t) {x : �
   module _ {w₁ : List ℕ} (c₁ : Changes n w (removed (Row h) x) w₁) {a k : ℕ} (ea : a ≡ look n w FirstChild x)
       (ek : k ≡ look n w Rank x) where
     -- the children, as the words list them once x has left
-    released-list : Listed n w₁ a k (childrenOf t x)
+    released-list : ListFrom n w₁ a k (childrenOf t x)
     released-list =
         let D = O .disjoint in
         let F = family R O in

@@ -124,7 +124,8 @@ module _ {n h : ℕ} {v : Values} {t : Forests} (D : Disjoint t) (B : Beside n h
       )
 
   other-list : {f b : ℕ} (l : List ℕ) → LinkedList f b (v Next) (v Prev) l
-      → ((y : ℕ) → 1 ≤ occurs y l → (y < tableSize t) × (occurs y (rowOf t h) ≡ 0)) → LinkedList f b (v′ Next) (v′ Prev) l
+      → ((y : ℕ) → 1 ≤ occurs y l → (y < tableSize t) × (occurs y (rowOf t h) ≡ 0))
+      → LinkedList f b (v′ Next) (v′ Prev) l
   other-list l c f = linked-frame (v′ Next) (v′ Prev) c (λ y i. keeps y (f y i .0) (f y i .1))
 
   row-member : (g y : ℕ) → g ≢ h → 1 ≤ occurs y (rowOf t g) → (y < tableSize t) × (occurs y (rowOf t h) ≡ 0)

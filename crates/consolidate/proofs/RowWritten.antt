@@ -19,7 +19,7 @@ use Rattle.rules.specs.Words.{encode, headOr, lastOr}
 use Rattle.rules.proofs.Occurs.{eqb-self}
 use Rattle.store.specs.Says.{Changes}
 use Rattle.consolidate.specs.Consolidating.{Consolidating}
-use Rattle.consolidate.specs.Writing.{Coming, Writing}
+use Rattle.consolidate.specs.Writing.{Coming, WritingRow}
 use Rattle.consolidate.proofs.RowWords.{beside-ends, beside-minimum, beside-row}
 use Rattle.consolidate.proofs.RowedWords.{rowed-words}
 
@@ -46,7 +46,7 @@ module _ {n h : ℕ} {w ps : List ℕ} {t : Forests} (C : Consolidating n h w ps
 
   -- an empty row
   pub writing-starts : {w₁ w₂ : List ℕ} → Changes n w (setWord FirstTree h none) w₁
-      → Changes n w₁ (setWord LastTree h none) w₂ → Writing n h w₂ [] none (setRow h (occupied ps) t)
+      → Changes n w₁ (setWord LastTree h none) w₂ → WritingRow n h w₂ [] none (setRow h (occupied ps) t)
   unfolding headOr lastOr leastIn occurs sumBy
   writing-starts a b =
       record {
@@ -87,12 +87,12 @@ module _ (h : ℕ) (ps : List ℕ) (r : ℕ) (t : Forests) (D : Disjoint t) (hh 
       }
 
   pub place-written : {n m x : ℕ} {w : List ℕ} → r < 17 → x ≡ getD ps r 0
-      → Writing n h w (occupied (take r ps) ++ occupied (x ∷ [])) m t → Writing n h w (occupied (take (r + 1) ps)) m t
+      → WritingRow n h w (occupied (take r ps) ++ occupied (x ∷ [])) m t → WritingRow n h w (occupied (take (r + 1) ps)) m t
   place-written {x = x} k q W = rw (next-place x k q) W
 
   -- ---- all places
 
-  pub row-written : {n m : ℕ} {w w′ : List ℕ} → 17 ≤ r → Writing n h w (occupied (take r ps)) m t
+  pub row-written : {n m : ℕ} {w w′ : List ℕ} → 17 ≤ r → WritingRow n h w (occupied (take r ps)) m t
       → Changes n w (setWord Minimum h m) w′
       → w′ ≡ encode t
   unfolding minimum

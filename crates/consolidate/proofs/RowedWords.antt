@@ -1,4 +1,4 @@
--- The words of disjoint forests as chains, with the minimum of one heap on its own, and back.
+-- The words of disjoint forests as linked lists, with the minimum of one heap on its own, and back.
 use Prim.Native.Nat.{ℕ, _<_}
 use mathlib.Core.Path.{_≡_, refl, sym, ap, _∙_}
 use mathlib.Core.Logic.{_≢_}

@@ -20,7 +20,7 @@ use Rattle.store.specs.ItemOrder.{itemKey}
 use Rattle.store.specs.Says.{Changes}
 use Rattle.store.specs.Siblings.{AppendReady, RankRises, appended, lastOf}
 use Rattle.store.proofs.Listed.{link-in, not-in}
-use Rattle.consolidate.specs.Writing.{Coming, Writing}
+use Rattle.consolidate.specs.Writing.{Coming, WritingRow}
 use Rattle.consolidate.proofs.Beside.{key-beside}
 use Rattle.consolidate.proofs.LinkedLists.{last-apart}
 use Rattle.consolidate.proofs.RowWords.{longer, longer-beside}
@@ -34,7 +34,7 @@ least-in key (z ∷ l) m = leastOf-in key z l
 -- ---- one tree
 
 module _ {n h m x : ℕ} {w written rest : List ℕ} {t : Forests} (C : Coming h written x rest t)
-    (W : Writing n h w written m t) where
+    (W : WritingRow n h w written m t) where
   -- who is written is in the table
   member : (y : ℕ) → 1 ≤ occurs y written → y < n
   member y i =
@@ -48,7 +48,7 @@ module _ {n h m x : ℕ} {w written rest : List ℕ} {t : Forests} (C : Coming h
       not-in none written (λ i. omega (arith, member none i, W .says .sized .small))
 
   -- no tree
-  pub none-written-tree : x ≡ none → Writing n h w (written ++ occupied (x ∷ [])) m t
+  pub none-written-tree : x ≡ none → WritingRow n h w (written ++ occupied (x ∷ [])) m t
   unfolding occupied
   none-written-tree e = rw (e, append-nil written) W
 
@@ -87,7 +87,7 @@ module _ {n h m x : ℕ} {w written rest : List ℕ} {t : Forests} (C : Coming h
 
     module _ {w′ : List ℕ} (c : Changes n w (appended (Row h) x) w′) where
       with-least : {m′ : ℕ} → m′ ≡ leastIn (t .key) (written ++ (x ∷ []))
-          → Writing n h w′ (written ++ occupied (x ∷ [])) m′ t
+          → WritingRow n h w′ (written ++ occupied (x ∷ [])) m′ t
       unfolding occupied
       with-least e =
           rw (ne-eqb x none s) (record {
@@ -99,7 +99,7 @@ module _ {n h m x : ℕ} {w written rest : List ℕ} {t : Forests} (C : Coming h
           })
 
       pub tree-written : {m′ : ℕ} → m′ ≡ lesser (itemKey (look n w′)) m x
-          → Writing n h w′ (written ++ occupied (x ∷ [])) m′ t
+          → WritingRow n h w′ (written ++ occupied (x ∷ [])) m′ t
       unfolding leastIn leastOf
       tree-written e =
           with-least (e

@@ -28,8 +28,8 @@ pub record Consolidating (n h : ℕ) (w ps trees rest : List ℕ) (t : Forests) 
 -- ---- one tree
 
 -- the tree x comes to the places, where k links were made
-unfoldable pub settle : List ℕ → ℕ → Forests → ℕ → Linking
-settle ps k t x =
+unfoldable pub climbTree : List ℕ → ℕ → Forests → ℕ → Linking
+climbTree ps k t x =
     climb 18 (isFree ps (rankOf t x)) (rankOf t x) x (record { places = ps; links = k; forests = t })
 
 -- the tree x may come: there is room in the tally for a link with each tree at the places
@@ -41,16 +41,16 @@ pub record ClimbReady (n : ℕ) (w ps : List ℕ) (x links : ℕ) : Type 0 where
   pub fits : links + length (occupied ps) ≤ 4294967295
 
 -- after a step: the places and links are those of the rules, and the words are as the next step needs them
-pub record Settled (n h base : ℕ) (rest w ps : List ℕ) (links : ℕ) (l : Linking) : Type 0 where
+pub record Climbed (n h base : ℕ) (rest w ps : List ℕ) (links : ℕ) (l : Linking) : Type 0 where
   pub places : ps ≡ l .places
-  pub count : links ≡ base + l .links
+  pub tallied : links ≡ base + l .links
   pub state : Consolidating n h w ps rest rest (l .forests)
 
 -- whatever the forests are, and however many links were made before
-unfoldable pub Settles : ℕ → List ℕ → List ℕ → ℕ → ℕ → List ℕ → List ℕ → ℕ → Type 0
-Settles n w ps x links w′ ps′ links′ =
+unfoldable pub Climbs : ℕ → List ℕ → List ℕ → ℕ → ℕ → List ℕ → List ℕ → ℕ → Type 0
+Climbs n w ps x links w′ ps′ links′ =
     (h base k : ℕ) (t : Forests) (rest : List ℕ) → Consolidating n h w ps (x ∷ rest) rest t → links ≡ base + k
-    → Settled n h base rest w′ ps′ links′ (settle ps k t x)
+    → Climbed n h base rest w′ ps′ links′ (climbTree ps k t x)
 
 -- ---- the row
 
@@ -68,7 +68,7 @@ linkRow h t = linkTrees 18 (rowOf t h) (record { places = replicate 17 none; lin
 
 unfoldable pub LinksRow : ℕ → List ℕ → ℕ → ℕ → List ℕ → List ℕ → ℕ → Type 0
 LinksRow n w h links w′ ps links′ =
-    (m : ℕ) (t : Forests) → Rowed n h m w t → WellFormed t → Settled n h links [] w′ ps links′ (linkRow h t)
+    (m : ℕ) (t : Forests) → Rowed n h m w t → WellFormed t → Climbed n h links [] w′ ps links′ (linkRow h t)
 
 -- the row is written anew from the places
 pub record RowReady (n : ℕ) (w : List ℕ) (h : ℕ) (ps : List ℕ) : Type 0 where
@@ -81,7 +81,7 @@ WritesRow n w h ps w′ =
 
 pub record Consolidated (w : List ℕ) (links : ℕ) (base : ℕ) (l : Linking) : Type 0 where
   pub words : w ≡ encode (l .forests)
-  pub count : links ≡ base + l .links
+  pub tallied : links ≡ base + l .links
 
 unfoldable pub Consolidates : ℕ → List ℕ → ℕ → ℕ → List ℕ → ℕ → Type 0
 Consolidates n w h links w′ links′ =

@@ -12,7 +12,7 @@ use Rattle.rules.specs.Words.{Sound, decode, encode, storeSize}
 pub record ExtractReady (n : ℕ) (w : List ℕ) (h links : ℕ) : Type 0 where
   pub sound : Sound w
   pub size : length w ≡ storeSize n
-  pub accepted : refusal (decode n w) (ExtractMin h) ≡ 0
+  pub done : refusal (decode n w) (ExtractMin h) ≡ 0
   pub fits : links + 4096 ≤ 4294967295
 
 -- Item, key and links are those that the rules answer, the links as an addition to a tally; the words are those of the
@@ -20,5 +20,5 @@ pub record ExtractReady (n : ℕ) (w : List ℕ) (h links : ℕ) : Type 0 where
 pub record Performs (w : List ℕ) (base item key links : ℕ) (o : Outcome) : Type 0 where
   pub items : item ≡ o .reply .item
   pub keys : key ≡ o .reply .key
-  pub count : links ≡ base + o .reply .links
+  pub tallied : links ≡ base + o .reply .links
   pub words : w ≡ encode (o .next)

@@ -15,7 +15,7 @@ released h [] v = v
 released h (c ∷ cs) v = released h cs (setWord State c (1 + 2 * h) (setWord Parent c none v))
 
 -- The list cs of k items starts with c and goes on by the next words.
-pub record Listed (n : ℕ) (w : List ℕ) (c k : ℕ) (cs : List ℕ) : Type 0 where
+pub record ListFrom (n : ℕ) (w : List ℕ) (c k : ℕ) (cs : List ℕ) : Type 0 where
   pub sized : Sized n w
   pub first : c ≡ headOr none cs
   pub long : length cs ≡ k
@@ -26,7 +26,7 @@ pub record Listed (n : ℕ) (w : List ℕ) (c k : ℕ) (cs : List ℕ) : Type 0 
 pub record ReleaseReady (n : ℕ) (w : List ℕ) (h c k : ℕ) : Type 0 where
   pub heap : h < 8
   pub list : List ℕ
-  pub listed : Listed n w c k list
+  pub listed : ListFrom n w c k list
 
 unfoldable pub Releases : ℕ → List ℕ → ℕ → ℕ → ℕ → List ℕ → Type 0
-Releases n w h c k w′ = (cs : List ℕ) → Listed n w c k cs → Changes n w (released h cs) w′
+Releases n w h c k w′ = (cs : List ℕ) → ListFrom n w c k cs → Changes n w (released h cs) w′

@@ -12,7 +12,7 @@ use Rattle.consolidate.specs.LinkedList.{LinkedList}
 use Rattle.consolidate.specs.Stored.{Beside}
 
 -- the trees of `written` are in the words of the row; m is the least of them
-pub record Writing (n h : ℕ) (w written : List ℕ) (m : ℕ) (t : Forests) : Type 0 where
+pub record WritingRow (n h : ℕ) (w written : List ℕ) (m : ℕ) (t : Forests) : Type 0 where
   pub values : Values
   pub says : Says n w values
   pub beside : Beside n h values t
@@ -30,9 +30,9 @@ pub record TreeReady (n : ℕ) (w : List ℕ) (h m x : ℕ) : Type 0 where
   pub written : List ℕ
   pub rest : List ℕ
   pub coming : Coming h written x rest forests
-  pub state : Writing n h w written m forests
+  pub state : WritingRow n h w written m forests
 
 unfoldable pub WritesTree : ℕ → List ℕ → ℕ → ℕ → ℕ → List ℕ → ℕ → Type 0
 WritesTree n w h m x w′ m′ =
-    (written rest : List ℕ) (t : Forests) → Coming h written x rest t → Writing n h w written m t
-    → Writing n h w′ (written ++ occupied (x ∷ [])) m′ t
+    (written rest : List ℕ) (t : Forests) → Coming h written x rest t → WritingRow n h w written m t
+    → WritingRow n h w′ (written ++ occupied (x ∷ [])) m′ t

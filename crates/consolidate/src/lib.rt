@@ -11,7 +11,7 @@ ghost use Rattle.rules.specs.Words.{decode, look};
 ghost use Rattle.store.specs.ItemOrder.{itemKey};
 ghost use Rattle.store.specs.Says.{Within};
 ghost use Rattle.consolidate.specs.Consolidating.{ClimbReady, ConsolidateReady, RowReady};
-ghost use Rattle.consolidate.specs.Consolidating.{Consolidates, LinksRow, Settles, WritesRow};
+ghost use Rattle.consolidate.specs.Consolidating.{Consolidates, LinksRow, Climbs, WritesRow};
 ghost use Rattle.consolidate.specs.Extract.{ExtractReady, Performs};
 ghost use Rattle.consolidate.specs.Released.{ReleaseReady, Releases};
 ghost use Rattle.consolidate.specs.Removed.{RemovesRoot, RootReady};
@@ -80,7 +80,7 @@ struct Linked {
 // until it rests at a free place.
 fn climb(s: &mut [u32], n: usize, held: [u32; 17], tree: u32, tally: Tally) -> Linked
     requires { ⌜ ClimbReady n (now s) held tree (tally .links) ⌝ }
-    ensures { λ r. ⌜ Settles n (now (s .entry)) held tree (tally .links)
+    ensures { λ r. ⌜ Climbs n (now (s .entry)) held tree (tally .links)
         (now (s .exit)) (r .places) (r .tally .links) ⌝ }
     ensures { λ r. ⌜ r .tally .cuts ≡ tally .cuts ⌝ }
 {
@@ -125,7 +125,7 @@ fn link_row(s: &mut [u32], n: usize, h: u32, tally: Tally) -> Linked
     Linked { places, tally: t }
 }
 
-// The k siblings from c on become roots of heap h, unmarked.
+// The siblings from `child` on, `count` of them, become roots of heap h, unmarked.
 fn release(s: &mut [u32], n: usize, h: u32, child: u32, count: u32)
     requires { ⌜ ReleaseReady n (now s) h child count ⌝ }
     ensures { λ r. ⌜ Releases n (now (s .entry)) h child count (now (s .exit)) ⌝ }

@@ -19,7 +19,7 @@ use Rattle.cut.specs.Ready.{Member, Cascaded}
 use Rattle.cut.proofs.Cutting.{after-cut, member-item}
 
 -- After some cuts the forests are `here` and p lost a child; `left` bounds the cuts that may follow.
-pub record Going (n : ℕ) (w : List ℕ) (c m : ℕ → ℕ) (k : Cuts) (h p cuts left : ℕ) : Type 0 where
+pub record Cascading (n : ℕ) (w : List ℕ) (c m : ℕ → ℕ) (k : Cuts) (h p cuts left : ℕ) : Type 0 where
   pub here : Forests
   pub holds : Holds n w c m here none
   pub member : Member here h p
@@ -27,9 +27,9 @@ pub record Going (n : ℕ) (w : List ℕ) (c m : ℕ → ℕ) (k : Cuts) (h p cu
   pub goal-forests : k .forests ≡ (cascadingCut left (nodeKind here p) h p here) .forests
 
 -- before the first cut
-pub going-start : {n : ℕ} {w : List ℕ} {c m : ℕ → ℕ} {t : Forests} {h x : ℕ} → Holds n w c m t none → Member t h x
-    → Going n w c m (cascadingCut (suc n) (nodeKind t x) h x t) h x 0 (n + 1)
-going-start {n} {t = t} {h} {x} H M =
+pub cascade-start : {n : ℕ} {w : List ℕ} {c m : ℕ → ℕ} {t : Forests} {h x : ℕ} → Holds n w c m t none → Member t h x
+    → Cascading n w c m (cascadingCut (suc n) (nodeKind t x) h x t) h x 0 (n + 1)
+cascade-start {n} {t = t} {h} {x} H M =
     let e : n + 1 ≡ suc n = omega arith in
     record {
       here = t;
@@ -61,18 +61,18 @@ state-marked h mark k e z = e (omega arith)
 
 module _ {n : ℕ} {w : List ℕ} {c m : ℕ → ℕ} {k : Cuts} {h p cuts : ℕ} where
   -- no cut may follow
-  pub going-end : (left : ℕ) → Going n w c m k h p cuts left → left ≡ 0 → Cascaded n w c m k cuts
+  pub cascade-end : (left : ℕ) → Cascading n w c m k h p cuts left → left ≡ 0 → Cascaded n w c m k cuts
   unfolding cascadingCut
-  going-end zero G e =
+  cascade-end zero G e =
       record { holds = rw (G .goal-forests) (G .holds); cuts = omega (arith, G .goal-cuts) }
-  going-end (suc d) G e = absurd (omega arith)
+  cascade-end (suc d) G e = absurd (omega arith)
 
   -- p is a root
-  pub going-root : (left : ℕ) (G : Going n w c m k h p cuts left) → 0 < left → parentOf (G .here) p ≡ none
+  pub cascade-root : (left : ℕ) (G : Cascading n w c m k h p cuts left) → 0 < left → parentOf (G .here) p ≡ none
       → Cascaded n w c m k cuts
   unfolding cascadingCut
-  going-root zero G l e = absurd (omega arith)
-  going-root (suc d) G l e =
+  cascade-root zero G l e = absurd (omega arith)
+  cascade-root (suc d) G l e =
       let r = root-kind (G .here) p e in
       record {
         holds = subst (λ t. Holds n w c m t none) (sym (rw r at (G .goal-forests))) (G .holds);
@@ -82,12 +82,12 @@ module _ {n : ℕ} {w : List ℕ} {c m : ℕ → ℕ} {k : Cuts} {h p cuts : ℕ
 -- p is no root: its state says whether it has a mark
 module _ {n : ℕ} {w w′ : List ℕ} {c m : ℕ → ℕ} {k : Cuts} {h p cuts : ℕ} (v : ℕ) where
   -- it gets one
-  pub going-mark : (left : ℕ) (G : Going n w c m k h p cuts left) → 0 < left → parentOf (G .here) p ≢ none
+  pub cascade-mark : (left : ℕ) (G : Cascading n w c m k h p cuts left) → 0 < left → parentOf (G .here) p ≢ none
       → v ≡ stateOf (heapOf (G .here) p) (markOf (G .here) p) → v % 2 ≡ 1 → Changes n w (setWord State p (v + 1)) w′
       → Cascaded n w′ c m k cuts
   unfolding cascadingCut stateOf
-  going-mark zero G l ne s e a = absurd (omega arith)
-  going-mark (suc d) G l ne s e a =
+  cascade-mark zero G l ne s e a = absurd (omega arith)
+  cascade-mark (suc d) G l ne s e a =
       let i : v ≡ stateOf (suc h) (markOf (G .here) p) =
       s ∙ ap (λ u. stateOf u (markOf (G .here) p)) (G .member .heap) in
       let z : markOf (G .here) p ≡ 0 =
@@ -102,12 +102,12 @@ module _ {n : ℕ} {w w′ : List ℕ} {c m : ℕ → ℕ} {k : Cuts} {h p cuts 
       }
 
   -- it has one: after the cut its parent q lost a child
-  pub going-turn : (left q : ℕ) (G : Going n w c m k h p cuts left) → 0 < left → parentOf (G .here) p ≢ none
+  pub cascade-turn : (left q : ℕ) (G : Cascading n w c m k h p cuts left) → 0 < left → parentOf (G .here) p ≢ none
       → v ≡ stateOf (heapOf (G .here) p) (markOf (G .here) p) → v % 2 ≢ 1 → q ≡ parentOf (G .here) p
-      → Holds n w′ c m (cut h p (G .here)) none → Going n w′ c m k h q (cuts + 1) (left - 1)
+      → Holds n w′ c m (cut h p (G .here)) none → Cascading n w′ c m k h q (cuts + 1) (left - 1)
   unfolding cascadingCut
-  going-turn zero q G l ne s e y H = absurd (omega arith)
-  going-turn (suc d) q G l ne s e y H =
+  cascade-turn zero q G l ne s e y H = absurd (omega arith)
+  cascade-turn (suc d) q G l ne s e y H =
       let i : v ≡ stateOf (suc h) (markOf (G .here) p) =
       s ∙ ap (λ u. stateOf u (markOf (G .here) p)) (G .member .heap) in
       let z : markOf (G .here) p ≢ 0 =

@@ -28,8 +28,8 @@ module _ {n : ℕ} {w : List ℕ} {c m : ℕ → ℕ} {t : Forests} {h x p : ℕ
   module _ {w₁ w₂ : List ℕ} {r : ℕ} (a : Holds n w₁ c m (cut h x t) none)
       (b : Cascaded n w₂ c m (cascadingCut (suc n) (nodeKind (cut h x t) p) h p (cut h x t)) r) where
     -- the number of cuts, this one and those that follow, is that of the rules
-    pub few : r ≤ 4097
-    few =
+    pub cuts-few : r ≤ 4097
+    cuts-few =
         omega (
           arith,
           b .cuts,
@@ -37,9 +37,9 @@ module _ {n : ℕ} {w : List ℕ} {c m : ℕ → ℕ} {t : Forests} {h x p : ℕ
           H .shape .small,
         )
 
-    pub out : Cascaded n w₂ c m (cutOut h x t) (r + 1)
+    pub cut-out-holds : Cascaded n w₂ c m (cutOut h x t) (r + 1)
     unfolding cutOut cutWithin
-    out =
+    cut-out-holds =
         let k : tableSize t ≡ n = H .shape .heapN in
         record {
           holds = rw (k, ← e) (b .holds);

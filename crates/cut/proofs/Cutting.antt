@@ -1,10 +1,10 @@
 -- One cut on words that hold forests: the steps of `cut::cut`, and what each of them requires.
 use Prim.Native.Nat.{ℕ, _+_, _*_, _<_, _≤_}
-use mathlib.Core.Path.{_≡_, sym, subst, _∙_}
+use mathlib.Core.Path.{_≡_, refl, sym, subst, _∙_}
 use mathlib.Core.Logic.{_≢_}
 use mathlib.Core.List.{List}
 use native.Mathlib.Omega.{arith}
-use Rattle.rules.specs.declared.Field.the-variants.{Parent, State}
+use Rattle.rules.specs.declared.Field.the-variants.{LastTree, Parent, State}
 use Rattle.rules.specs.Lists.{occurs}
 use Rattle.rules.specs.Forests.{Forests, none, parentOf, markOf, heapOf, tableSize, setMark}
 use Rattle.rules.specs.Cut.{cut}
@@ -14,8 +14,8 @@ use Rattle.rules.specs.Words.{look, stateOf, word}
 use Rattle.rules.proofs.CutKeeps.{cut-disjoint}
 use Rattle.rules.proofs.Members.{parent-child}
 use Rattle.store.specs.declared.Owner.the-variants.{Row, Children}
-use Rattle.store.specs.Says.{Changes}
-use Rattle.store.specs.Siblings.{appended, removed, AppendReady, RemoveReady}
+use Rattle.store.specs.Says.{Changes, Values}
+use Rattle.store.specs.Siblings.{appended, lastOf, removed, AppendReady, RankRises, RemoveReady}
 use Rattle.store.specs.Families.{listOf, ownerOf, appendTo, removeFrom, wordBut, withLinks, Family, MayJoin, Holds}
 use Rattle.store.proofs.Ready.{append-ready, remove-ready}
 use Rattle.store.proofs.Holds.{append-holds, remove-holds}
@@ -82,39 +82,55 @@ module _ {n : ℕ} {w : List ℕ} {c m : ℕ → ℕ} {t : Forests} {h x p : ℕ
   cut-remove-ready =
       remove-ready H (Children p) family x among (λ z. omega (arith, z, member-item H (C .member), H .shape .small))
 
-  module _ {w₁ w₂ : List ℕ} (a : Changes n w (removed (Children p) x) w₁)
-      (b : Changes n w₁ (setWord State x (1 + 2 * h)) w₂) where
-    -- after the removal, and after the mark is taken away
+  -- the row of h once x has left its parent
+  row-left : Family n (removeFrom (Children p) x t) (Row h)
+  unfolding removeFrom listOf ownerOf
+  row-left =
+      let F = row-family n t D (H .shape .heapN) h (member-heap (C .member)) in
+      record { present = F .present; once = F .once; owned = F .owned }
+
+  module _ {w₁ : List ℕ} (a : Changes n w (removed (Children p) x) w₁) where
     H₁ : Holds n w₁ c m (removeFrom (Children p) x t) x
     H₁ = remove-holds (Children p) x H family among a
 
-    H₂ : Holds n w₂ c m (setMark x 0 (removeFrom (Children p) x t)) x
-    unfolding stateOf removeFrom
-    H₂ = mark-holds H₁ x (1 + 2 * h) 0 (member-item H (C .member)) (rw (C .member .heap) (omega arith)) b
+    -- x may then join the row, after any change that leaves the row's last
+    pub cut-append-ready : {w₂ : List ℕ} {g : Values → Values} → Changes n w₁ g w₂
+        → ((v : Values) → g v LastTree h ≡ v LastTree h) → AppendReady n w₂ (Row h) x
+    unfolding lastOf RankRises
+    cut-append-ready b same =
+        let A = append-ready H₁ (Row h) row-left (member-item H (C .member)) in
+        let k : h < 8 = member-heap (C .member) in
+        let s = b .says (look n w₁) (record { sized = a .sized; says = λ f i k. refl }) in
+        record {
+          owner = record { sized = b .sized; inside = k };
+          last = rw (s .says LastTree h k, same (look n w₁)) (A .last);
+          item = A .item;
+          rank = tt;
+        }
 
-    -- the row is as before
-    row : Family n (setMark x 0 (removeFrom (Children p) x t)) (Row h)
-    unfolding removeFrom listOf ownerOf
-    row =
-        let F = row-family n t D (H .shape .heapN) h (member-heap (C .member)) in
-        record { present = F .present; once = F .once; owned = F .owned }
+    module _ {w₂ : List ℕ} (b : Changes n w₁ (setWord State x (1 + 2 * h)) w₂) where
+      -- the mark is taken away
+      H₂ : Holds n w₂ c m (setMark x 0 (removeFrom (Children p) x t)) x
+      unfolding stateOf removeFrom
+      H₂ = mark-holds H₁ x (1 + 2 * h) 0 (member-item H (C .member)) (rw (C .member .heap) (omega arith)) b
 
-    pub cut-append-ready : AppendReady n w₂ (Row h) x
-    cut-append-ready = append-ready H₂ (Row h) row (member-item H (C .member))
+      row : Family n (setMark x 0 (removeFrom (Children p) x t)) (Row h)
+      unfolding removeFrom listOf ownerOf
+      row = record { present = row-left .present; once = row-left .once; owned = row-left .owned }
 
-    -- x is not in the row yet
-    absent : occurs x (listOf (setMark x 0 (removeFrom (Children p) x t)) (Row h)) ≡ 0
-    unfolding removeFrom listOf
-    absent = not-row t D h x (C .child)
+      -- x is not in the row yet
+      absent : occurs x (listOf (setMark x 0 (removeFrom (Children p) x t)) (Row h)) ≡ 0
+      unfolding removeFrom listOf
+      absent = not-row t D h x (C .child)
 
-    -- the three steps are the cut of the rules
-    same : appendTo (Row h) x (setMark x 0 (removeFrom (Children p) x t)) ≡ cut h x t
-    unfolding cut appendTo removeFrom
-    same = rw e
+      -- the three steps are the cut of the rules
+      same : appendTo (Row h) x (setMark x 0 (removeFrom (Children p) x t)) ≡ cut h x t
+      unfolding cut appendTo removeFrom
+      same = rw e
 
-    joins : MayJoin (setMark x 0 (removeFrom (Children p) x t)) (Row h) x
-    unfolding removeFrom
-    joins = C .member .heap
+      joins : MayJoin (setMark x 0 (removeFrom (Children p) x t)) (Row h) x
+      unfolding removeFrom
+      joins = C .member .heap
 
-    pub cut-holds : {w₃ : List ℕ} → Changes n w₂ (appended (Row h) x) w₃ → Holds n w₃ c m (cut h x t) none
-    cut-holds d = rw (← same) (append-holds (Row h) x H₂ row (member-item H (C .member)) absent joins d)
+      pub cut-holds : {w₃ : List ℕ} → Changes n w₂ (appended (Row h) x) w₃ → Holds n w₃ c m (cut h x t) none
+      cut-holds d = rw (← same) (append-holds (Row h) x H₂ row (member-item H (C .member)) absent joins d)

@@ -32,7 +32,7 @@ pub record CascadeReady (n : ℕ) (w : List ℕ) (h x : ℕ) : Type 0 where
   pub holds : Holds n w counts minima forests none
   pub member : Member forests h x
 
--- after a chain of cuts: the words hold its forests, and r is the number of its cuts
+-- after a cascade of cuts: the words hold its forests, and r is the number of its cuts
 pub record Cascaded (n : ℕ) (w : List ℕ) (counts minima : ℕ → ℕ) (k : Cuts) (r : ℕ) : Type 0 where
   pub holds : Holds n w counts minima (k .forests) none
   pub cuts : r ≡ k .cuts

@@ -1,4 +1,4 @@
--- An item cut if a test says so, on words that hold forests: one law for each way out.
+-- An item cut if a test says so, on words that hold forests: one law for each return.
 use Prim.Native.Nat.{ℕ, _<_}
 use mathlib.Core.Path.{_≡_, refl, sym, ap, _∙_}
 use mathlib.Core.Logic.{_≢_}

@@ -38,7 +38,7 @@ use Rattle.store.specs.Says.{Changes, Sized}
 use Rattle.store.proofs.Encoded.{holds-encode}
 use Rattle.store.proofs.Holds.{holds-says}
 use Rattle.store.proofs.ItemOrder.{key-held}
-use Rattle.store.proofs.Listed.{not-none}
+use Rattle.store.proofs.Listed.{item-not-none}
 use Rattle.store.proofs.Scalars.{instead, key-holds, minimum-holds}
 use Rattle.cut.specs.Ready.{CascadeReady, Cascaded, Member}
 use Rattle.heap.specs.Allowed.{MayMove, Moves, Store}
@@ -138,7 +138,7 @@ module _ {w : List ℕ} {n i k : ℕ} {tally : Tally} (P : MayMove w n (Decrease
             ∙ lesser-keys (itemKey (look n w₂)) (keyOf after) (minimum t h) i
             (λ _. key-held holds (minimum t h) old-inside) (λ _. key-held holds i (item-inside in-heap))
             ∙ lesser-two (keyOf after) (minimum t h) i
-            (not-none (holds .shape) (minimum t h) old-inside) (not-none (holds .shape) i (item-inside in-heap))
+            (item-not-none (holds .shape) (minimum t h) old-inside) (item-not-none (holds .shape) i (item-inside in-heap))
 
         minima : (g : ℕ) → g < 8 → instead (minimum t) h l g ≡ minimum after g
         minima g _ = go (eqb h g) refl

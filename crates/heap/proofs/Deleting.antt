@@ -1,6 +1,6 @@
 -- X on the words of a sound store: the minimum of a heap goes as by T, any other item with no linking.
-use Prim.Native.Nat.{ℕ}
-use mathlib.Core.Path.{_≡_, refl, sym, _∙_}
+use Prim.Native.Nat.{ℕ, _≤_}
+use mathlib.Core.Path.{_≡_, sym, _∙_}
 use mathlib.Core.Logic.{_≢_}
 use mathlib.Core.List.{List, [], _∷_}
 use mathlib.Core.Bool.{cond}
@@ -13,13 +13,16 @@ use Rattle.rules.specs.declared.Tally.{Tally}
 use Rattle.rules.specs.Answers.{isEmpty, refusal}
 use Rattle.rules.specs.Calls.{delete, deleteAs, extract}
 use Rattle.rules.specs.Forests.{Forests, heapNumber, rowOf}
-use Rattle.rules.specs.Order.{leastIn, minimum}
+use Rattle.rules.specs.Lists.{occurs, sumBy}
+use Rattle.rules.specs.Order.{minimum}
 use Rattle.rules.specs.Words.{forestsOf, look}
+use Rattle.rules.proofs.Excused.{to-formed}
+use Rattle.rules.proofs.Minimum.{minimum-root}
 use Rattle.rules.proofs.Refusals.{delete-ok}
 use Rattle.heap.specs.Allowed.{MayMove, Moves}
 use Rattle.heap.specs.Moving.{DeleteOther, InHeap}
-use Rattle.heap.proofs.ItemHeap.{heap-inside, item-inside}
-use Rattle.heap.proofs.SoundStore.{minimum-at, sound-says}
+use Rattle.heap.proofs.ItemHeap.{heap-inside}
+use Rattle.heap.proofs.SoundStore.{formed, minimum-at}
 
 module _ {w : List ℕ} {n i : ℕ} {tally : Tally} (P : MayMove w n (Delete i) tally) where
   abbrev t : Forests
@@ -34,21 +37,24 @@ module _ {w : List ℕ} {n i : ℕ} {tally : Tally} (P : MayMove w n (Delete i) 
   minimum-word : {m : ℕ} → m ≡ look n w Minimum own → m ≡ minimum t own
   minimum-word e = e ∙ minimum-at (P .allowed .store) (heap-inside deleted-in-heap)
 
-  -- the minimum goes as by T
-  pub as-extract : {h m : ℕ} → h ≡ own → m ≡ look n w Minimum own → m ≡ i → MayMove w n (ExtractMin h) tally
-  unfolding refusal isEmpty minimum leastIn
-  as-extract {h} {m} e em q =
+  -- T is allowed: the heap of i is not empty
+  pub as-extract : {h : ℕ} → h ≡ own → MayMove w n (ExtractMin h) tally
+  unfolding refusal isEmpty occurs sumBy
+  as-extract e =
       record {
-        allowed = record { store = P .allowed .store; done = rw e (go (rowOf t own) refl) };
+        allowed = record { store = P .allowed .store; done = rw e (go (rowOf t own) least-in) };
         room = P .room;
       }
     where
-      go : (l : List ℕ) → rowOf t own ≡ l → _≡_ {A = ℕ} (cond (ltb 7 own) 7 (cond (isEmpty l) 12 0)) 0
-      go [] z =
-          let a : m ≡ leastIn (t .key) [] = rw z at (minimum-word em) in
-          absurd (omega (arith, item-inside deleted-in-heap, sound-says (P .allowed .store) .sized .small))
-      go (x ∷ l) z = rw (le-ltb 7 own (omega (arith, heap-inside deleted-in-heap)))
+      least-in : 1 ≤ occurs (minimum t own) (rowOf t own)
+      least-in =
+          minimum-root t (to-formed t (formed (P .allowed .store))) own i (omega (arith, deleted-in-heap .live))
 
+      go : (l : List ℕ) → 1 ≤ occurs (minimum t own) l → _≡_ {A = ℕ} (cond (ltb 7 own) 7 (cond (isEmpty l) 12 0)) 0
+      go [] k = absurd (omega arith)
+      go (x ∷ l) k = rw (le-ltb 7 own (omega (arith, heap-inside deleted-in-heap)))
+
+  -- the minimum goes as by T
   pub as-minimum : {h m : ℕ} {w′ : List ℕ} {u : Tally} → h ≡ own → m ≡ look n w Minimum own → m ≡ i
       → Moves (extract h (minimum t h) t) tally u w′ → Moves (delete i t) tally u w′
   unfolding delete deleteAs

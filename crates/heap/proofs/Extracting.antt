@@ -22,7 +22,7 @@ module _ {w : List ℕ} {n h : ℕ} {tally : Tally} (P : MayMove w n (ExtractMin
       record {
         sound = P .allowed .store .sound;
         size = sound-says (P .allowed .store) .sized .size;
-        accepted = rw same-forests (P .allowed .done);
+        done = rw same-forests (P .allowed .done);
         fits = omega (arith, P .room .links);
       }
 
@@ -31,4 +31,4 @@ module _ {w : List ℕ} {n h : ℕ} {tally : Tally} (P : MayMove w n (ExtractMin
       → Moves (extract h (minimum (forestsOf w) h) (forestsOf w)) tally u w′
   unfolding perform extract
   extract-moves p e =
-      rw (← same-forests) (record { words = p .words; links = p .count; cuts = omega (arith, e) })
+      rw (← same-forests) (record { words = p .words; links = p .tallied; cuts = omega (arith, e) })

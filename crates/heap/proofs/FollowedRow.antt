@@ -20,7 +20,7 @@ use Rattle.rules.proofs.Occurs.{delta-self}
 use Rattle.rules.proofs.Relinks.{at-end}
 use Rattle.rules.proofs.SiblingLists.{once-row}
 use Rattle.rules.proofs.RemoveLinks.{none-head}
-use Rattle.rules.proofs.Siblings.{apart, last-in}
+use Rattle.rules.proofs.Siblings.{member-apart, last-in}
 use Rattle.store.specs.Says.{Values}
 use Rattle.store.specs.Siblings.{concatenated, firstOf, lastOf}
 use Rattle.store.proofs.ConcatWords.{
@@ -46,28 +46,28 @@ head-in : (z : ℕ) (zs : List ℕ) → 1 ≤ occurs z (z ∷ zs)
 unfolding occurs sumBy
 head-in z zs = omega (arith, delta-self z)
 
-abbrev pub after : Forests → ℕ → List ℕ → Values
-after t a l = concatenated (Row a) (headOr none l) (lastOr none l) (word t)
+abbrev pub rowFollowed : Forests → ℕ → List ℕ → Values
+rowFollowed t a l = concatenated (Row a) (headOr none l) (lastOr none l) (word t)
 
 module _ (t : Forests) (D : Disjoint t) (a : ℕ) where
   -- nothing follows the row, or a list with the first item z
-  unchanged : (f : Field) (j : ℕ) → after t a [] f j ≡ word t f j
+  unchanged : (f : Field) (j : ℕ) → rowFollowed t a [] f j ≡ word t f j
   unfolding headOr
   unchanged f j = concat-none none (lastOr none []) (word t) (Row a) refl f j
 
   next-joined : (z : ℕ) (zs : List ℕ) → occurs none (z ∷ zs) ≡ 0 → (j : ℕ)
-      → after t a (z ∷ zs) Next j ≡ cond (eqb (lastOr none (rowOf t a)) j) z (word t Next j)
+      → rowFollowed t a (z ∷ zs) Next j ≡ cond (eqb (lastOr none (rowOf t a)) j) z (word t Next j)
   unfolding headOr lastOf word
   next-joined z zs n = concat-next z (lastOr none (z ∷ zs)) (word t) (none-head z zs n) (Row a)
 
   prev-joined : (z : ℕ) (zs : List ℕ) → occurs none (z ∷ zs) ≡ 0 → (j : ℕ)
-      → after t a (z ∷ zs) Prev j ≡ cond (eqb z j) (lastOr none (rowOf t a)) (word t Prev j)
+      → rowFollowed t a (z ∷ zs) Prev j ≡ cond (eqb z j) (lastOr none (rowOf t a)) (word t Prev j)
   unfolding headOr lastOf word
   prev-joined z zs n = concat-prev z (lastOr none (z ∷ zs)) (word t) (none-head z zs n) (Row a)
 
   -- the ends of any row
   pub first-after : (l : List ℕ) → occurs none l ≡ 0 → (g : ℕ)
-      → after t a l FirstTree g ≡ cond (eqb a g) (headOr none (rowOf t a ++ l)) (headOr none (rowOf t g))
+      → rowFollowed t a l FirstTree g ≡ cond (eqb a g) (headOr none (rowOf t a ++ l)) (headOr none (rowOf t g))
   unfolding headOr firstOf lastOf word
   first-after [] n g =
       unchanged FirstTree g ∙ rw (append-nil (rowOf t a)) (sym (at-self (λ x. headOr none (rowOf t x)) a g))
@@ -77,7 +77,7 @@ module _ (t : Forests) (D : Disjoint t) (a : ℕ) where
       (sym (head-concat (rowOf t a) (z ∷ zs) (none-row t D a)))
 
   pub last-after : (l : List ℕ) → occurs none l ≡ 0 → (g : ℕ)
-      → after t a l LastTree g ≡ cond (eqb a g) (lastOr none (rowOf t a ++ l)) (lastOr none (rowOf t g))
+      → rowFollowed t a l LastTree g ≡ cond (eqb a g) (lastOr none (rowOf t a ++ l)) (lastOr none (rowOf t g))
   unfolding headOr lastOr lastOf word
   last-after [] n g =
       unchanged LastTree g ∙ rw (append-nil (rowOf t a)) (sym (at-self (λ x. lastOr none (rowOf t x)) a g))
@@ -87,7 +87,7 @@ module _ (t : Forests) (D : Disjoint t) (a : ℕ) where
 
   -- the next word of an item outside row a, and of one in it
   pub next-kept : (l : List ℕ) → occurs none l ≡ 0 → (j : ℕ) → j ≢ none → occurs j (rowOf t a) ≡ 0
-      → after t a l Next j ≡ word t Next j
+      → rowFollowed t a l Next j ≡ word t Next j
   next-kept [] n j m k = unchanged Next j
   next-kept (z ∷ zs) n j m k =
       next-joined z zs n j
@@ -95,7 +95,7 @@ module _ (t : Forests) (D : Disjoint t) (a : ℕ) where
       (at-end (lastOr none (rowOf t a)) j (rowOf t a) (last-in none (rowOf t a)) m k))
 
   pub next-one : (l : List ℕ) → occurs none l ≡ 0 → (j : ℕ) → j ≢ none → occurs j l ≡ 0
-      → word t Next j ≡ nextIn j (rowOf t a) → after t a l Next j ≡ nextIn j (rowOf t a ++ l)
+      → word t Next j ≡ nextIn j (rowOf t a) → rowFollowed t a l Next j ≡ nextIn j (rowOf t a ++ l)
   unfolding headOr
   next-one [] n j m k e = unchanged Next j ∙ rw (append-nil (rowOf t a)) e
   next-one (z ∷ zs) n j m k e =
@@ -104,13 +104,13 @@ module _ (t : Forests) (D : Disjoint t) (a : ℕ) where
       ∙ sym (next-before none j (rowOf t a) (z ∷ zs) (once-row t D a) (λ q. m (sym q)) k)
 
   -- the previous word of an item outside the list, and of one in it
-  pub prev-kept : (l : List ℕ) → occurs none l ≡ 0 → (j : ℕ) → occurs j l ≡ 0 → after t a l Prev j ≡ word t Prev j
+  pub prev-kept : (l : List ℕ) → occurs none l ≡ 0 → (j : ℕ) → occurs j l ≡ 0 → rowFollowed t a l Prev j ≡ word t Prev j
   prev-kept [] n j k = unchanged Prev j
   prev-kept (z ∷ zs) n j k =
-      prev-joined z zs n j ∙ rw (ne-eqb z j (apart z j (z ∷ zs) (head-in z zs) k))
+      prev-joined z zs n j ∙ rw (ne-eqb z j (member-apart z j (z ∷ zs) (head-in z zs) k))
 
   pub prev-two : (l : List ℕ) → occurs none l ≡ 0 → (j : ℕ) → j ≢ none → occurs j (rowOf t a) ≡ 0
-      → word t Prev j ≡ prevIn none j l → after t a l Prev j ≡ prevIn none j (rowOf t a ++ l)
+      → word t Prev j ≡ prevIn none j l → rowFollowed t a l Prev j ≡ prevIn none j (rowOf t a ++ l)
   unfolding prevIn headOr
   prev-two [] n j m k e = unchanged Prev j ∙ e ∙ sym (prev-behind none j (rowOf t a) [] k)
   prev-two (z ∷ zs) n j m k e =
@@ -120,5 +120,5 @@ module _ (t : Forests) (D : Disjoint t) (a : ℕ) where
       ∙ sym (prev-behind none j (rowOf t a) (z ∷ zs) k)
 
   -- the other words stay
-  pub plain-after : (l : List ℕ) (f : Field) (j : ℕ) → Apart (linkKinds (Row a)) f → after t a l f j ≡ word t f j
+  pub plain-after : (l : List ℕ) (f : Field) (j : ℕ) → Apart (linkKinds (Row a)) f → rowFollowed t a l f j ≡ word t f j
   plain-after l = concat-other (headOr none l) (lastOr none l) (word t) (Row a)

@@ -40,7 +40,7 @@ use Rattle.store.proofs.ItemOrder.{key-is}
 use Rattle.store.proofs.ListMembers.{none-row, other-row}
 use Rattle.heap.specs.HeapsJoined.{heapsJoined, movedState, rowsJoined, itemsMoved}
 use Rattle.heap.proofs.FollowedRow.{
-  after,
+  rowFollowed,
   first-after,
   last-after,
   next-kept,
@@ -97,11 +97,11 @@ module _ {t : Forests} {a b : ℕ} (H : TwoHeaps t a b) where
   stay-a = heap-stays a b (suc a) (λ e. H .two (omega arith))
 
   -- the links
-  next-word : (j : ℕ) → j ≢ none → after t a (rowOf t b) Next j ≡ word new Next j
+  next-word : (j : ℕ) → j ≢ none → rowFollowed t a (rowOf t b) Next j ≡ word new Next j
   unfolding word
   next-word j m = go (where-is H j)
     where
-      go : Where H j → after t a (rowOf t b) Next j ≡ unlessFree new j (nextIn j (siblings new j))
+      go : Where H j → rowFollowed t a (rowOf t b) Next j ≡ unlessFree new j (nextIn j (siblings new j))
       go (inOne h p) =
           next-one t D a (rowOf t b) n₂ j m (out-two j h) (old-list H j a h p (nextIn j))
           ∙ sym (joined-list H j a h stay-a p (nextIn j))
@@ -112,11 +112,11 @@ module _ {t : Forests} {a b : ℕ} (H : TwoHeaps t a b) where
           ∙ sym (joined-list H j b h (heap-moves a b) p (nextIn j))
       go (stays x y e) = next-kept t D a (rowOf t b) n₂ j m x ∙ sym (e (nextIn j))
 
-  prev-word : (j : ℕ) → j ≢ none → after t a (rowOf t b) Prev j ≡ word new Prev j
+  prev-word : (j : ℕ) → j ≢ none → rowFollowed t a (rowOf t b) Prev j ≡ word new Prev j
   unfolding word
   prev-word j m = go (where-is H j)
     where
-      go : Where H j → after t a (rowOf t b) Prev j ≡ unlessFree new j (prevIn none j (siblings new j))
+      go : Where H j → rowFollowed t a (rowOf t b) Prev j ≡ unlessFree new j (prevIn none j (siblings new j))
       go (inOne h p) =
           prev-kept t D a (rowOf t b) n₂ j (out-two j h)
           ∙ old-list H j a h p (prevIn none j)
@@ -172,7 +172,7 @@ module _ {t : Forests} {a b : ℕ} (H : TwoHeaps t a b) where
       let plain = apart-some moved (linkKinds (Row a)) f refl p in
       let same = plain-after t D a (rowOf t b) f b plain in
       rw (q Minimum refl, q Count refl, q State refl)
-      (empty-else t b (after t a (rowOf t b)) f (apart-some moved (Count ∷ nones) f refl p) same j
+      (empty-else t b (rowFollowed t a (rowOf t b)) f (apart-some moved (Count ∷ nones) f refl p) same j
       ∙ plain-after t D a (rowOf t b) f j plain
       ∙ kept-words (children ∷ parents ∷ keys ∷ []) moved t new refl refl refl refl f p j)
 

@@ -42,7 +42,7 @@ fn cut_if_before(s: &mut [u32], n: usize, h: u32, i: u32) -> u32
     cut_out(s, n, h, i)
 }
 
-// D: the key is lowered; i is cut only if it now comes before its parent.
+// D: the key is lowered, and i is cut if by the new key it comes before a parent.
 pub fn decrease_key(s: &mut [u32], n: usize, i: u32, k: u32, tally: Tally) -> Tally
     requires { ⌜ MayMove (now s) n (DecreaseKey i k) tally ⌝ }
     ensures { λ r. ⌜ Moves (calls.decreaseKey i k (forestsOf (now (s .entry)))) tally r (now (s .exit)) ⌝ }

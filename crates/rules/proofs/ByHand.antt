@@ -12,17 +12,23 @@ use Rattle.rules.specs.ByHand.{
   linesF1,
   linesF2,
   linesG,
+  linesJ,
   markedFrom,
   reply,
   runB,
   runC,
   runD,
   runE,
+  runEmptied,
   runF,
   runF1,
   runF2,
   runG,
   runH,
+  runJ,
+  runJoinAgain,
+  runM,
+  runMoved,
   runRelease,
   runTie,
   seen,
@@ -52,10 +58,10 @@ use Rattle.rules.specs.Lists.{setAll, sumBy, without}
 use Rattle.rules.specs.Order.{comesBefore, leastIn, leastOf, minimum}
 
 pub workedRuns : WorkedRuns
-unfolding table runB runC runD runE runF1 runF2 runF runG runH runTie runRelease linesB linesE linesF1
-    linesF2 linesF linesG byRules seen sees reply markedFrom familiesFrom lastAnswer allowed moves allowance price ifDone R
-    lastFrom after answers answer unlessRefused refused refusal isEmpty perform meld moveHeap delete deleteAs
-    decreaseKey hasParent extract removeRoot setFree release insert consolidate consolidateWithin occupied linkTrees
-    climb isFree link cutIf cutOut cutWithin cascadingCut nodeKind cut minimum leastIn leastOf comesBefore potential
-    marks trees count setAll without sumBy
+unfolding table runB runC runD runE runF1 runF2 runF runG runH runTie runRelease runJ runM runEmptied runMoved
+    runJoinAgain linesB linesE linesF1 linesF2 linesF linesG linesJ byRules seen sees reply markedFrom familiesFrom
+    lastAnswer allowed moves allowance price ifDone R lastFrom after answers answer unlessRefused refused refusal
+    isEmpty perform meld moveHeap delete deleteAs decreaseKey hasParent extract removeRoot setFree release insert
+    consolidate consolidateWithin occupied linkTrees climb isFree link cutIf cutOut cutWithin cascadingCut nodeKind
+    cut minimum leastIn leastOf comesBefore potential marks trees count setAll without sumBy
 workedRuns = refl

@@ -50,12 +50,12 @@ use Rattle.rules.proofs.Refusals.{decrease-ok, delete-ok, extract-ok, i
 use Rattle.rules.proofs.RemoveRootKeeps.{remove-formed}
 
 -- what a call is to keep
-pub record Kept (s : Forests) (o : Outcome) (price : ℕ) : Type 0 where
+pub record CallKept (s : Forests) (o : Outcome) (price : ℕ) : Type 0 where
   pub formed : Formed (o .next)
   pub paid : o .reply .links + o .reply .cuts + potential (o .next) ≤ potential s + price
 
 extract-kept : (s : Forests) → Formed s → (h x : ℕ) → 1 ≤ occurs x (rowOf s h)
-    → Kept s (extract h x s) (R (count s h))
+    → CallKept s (extract h x s) (R (count s h))
 unfolding extract
 extract-kept s S h x k =
     let r = row-root s (S .disjoint) h x k in
@@ -97,7 +97,7 @@ cutIf-kept t h i S hi false u v =
     InOrder : ℕ → Type 0
     InOrder y = heapOf t y ≢ 0 → parentOf t y ≢ none → precedes (t .key) (parentOf t y) y ≡ true
 
-decrease-kept : (s : Forests) → Formed s → (i k : ℕ) → heapOf s i ≢ 0 → k ≤ keyOf s i → Kept s (decreaseKey i k s) 4
+decrease-kept : (s : Forests) → Formed s → (i k : ℕ) → heapOf s i ≢ 0 → k ≤ keyOf s i → CallKept s (decreaseKey i k s) 4
 unfolding decreaseKey potential trees marks OrderedBut
 decrease-kept s S i k l low =
     let t : Forests = setKey i k s in
@@ -139,7 +139,7 @@ cut-child-formed s W i l =
     (λ x. rw (cutIf-key (hasParent s i) h i s) (W .keys x))
 
 delete-kept : (s : Forests) → Formed s → (i : ℕ) → heapOf s i ≢ 0 → (b : Bool)
-    → eqb (minimum s (heapNumber s i)) i ≡ b → Kept s (deleteAs b i s) (R (count s (heapNumber s i)) + 3)
+    → eqb (minimum s (heapNumber s i)) i ≡ b → CallKept s (deleteAs b i s) (R (count s (heapNumber s i)) + 3)
 unfolding deleteAs cutIf count
 delete-kept s S i l true e =
     let h : ℕ = heapNumber s i in
@@ -170,7 +170,7 @@ delete-kept s S i l false e =
     rooted true z = cutOut-root (heapNumber s i) i s (S .disjoint) l
     rooted false z = has-none s i z
 
-pub perform-kept : (s : Forests) → Formed s → (c : Call) → refusal s c ≡ 0 → Kept s (perform s c) (price s c)
+pub perform-kept : (s : Forests) → Formed s → (c : Call) → refusal s c ≡ 0 → CallKept s (perform s c) (price s c)
 unfolding perform price delete
 perform-kept s S (Insert h i k) e =
     let o = insert-ok s h i k e in
@@ -189,11 +189,11 @@ perform-kept s S (Meld a b) e =
       paid = omega (arith, meld-potential a b s (o .2));
     }
 
-pub answer-kept : (s : Forests) → Formed s → (l : Line) → Kept s (answer s l) (allowance s l)
+pub answer-kept : (s : Forests) → Formed s → (l : Line) → CallKept s (answer s l) (allowance s l)
 unfolding answer allowance unlessRefused refused ifDone
 answer-kept s S NoCall = record { formed = S; paid = omega arith }
 answer-kept s S (Yields c) = go (refusal s c) refl
   where
-    go : (r : ℕ) → refusal s c ≡ r → Kept s (unlessRefused r s c) (cond (eqb r 0) (price s c) 0)
+    go : (r : ℕ) → refusal s c ≡ r → CallKept s (unlessRefused r s c) (cond (eqb r 0) (price s c) 0)
     go zero e = perform-kept s S c e
     go (suc r) e = rw (ne-eqb (suc r) 0 (λ z. omega arith)) (record { formed = S; paid = omega arith })

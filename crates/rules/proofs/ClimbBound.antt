@@ -6,36 +6,40 @@ use mathlib.Core.Bool.{Bool, true, false}
 use native.Mathlib.Nat.{le-refl}
 use native.Mathlib.Omega.{arith}
 use borrow.Author.Tests.{eqb-false}
+use Rattle.rules.specs.Calls.{removeRoot}
 use Rattle.rules.specs.Consolidate.{
   Linking,
   climb,
   consolidate,
   consolidateWithin,
+  holder,
   isFree,
   linkAt,
   linkTrees,
   occupied,
   winner,
 }
-use Rattle.rules.specs.Forests.{rankOf, rowOf, setRow}
-use Rattle.rules.specs.Theorems.{ClimbBound}
-use Rattle.rules.proofs.ConsolidateKeeps.{Held, climb-held, low, met, start}
-use Rattle.rules.proofs.Excused.{to-formed}
+use Rattle.rules.specs.Forests.{Forests, rankOf, rowOf, setRow}
+use Rattle.rules.specs.Theorems.{ClimbBound, ClimbBoundExtract}
+use Rattle.rules.proofs.ConsolidateKeeps.{Held, climb-held, rank-low, held-linked, held-start}
+use Rattle.rules.proofs.Excused.{Formed, to-formed}
+use Rattle.rules.proofs.Members.{row-root}
+use Rattle.rules.proofs.RemoveRootKeeps.{remove-formed}
 
 climb-bound : (d d′ : ℕ) (f : Bool) (r x h : ℕ) (rest : List ℕ) (w : Linking) → h < 8 → isFree (w .places) r ≡ f
     → Held h (w .places) (x ∷ rest) (w .forests) → rankOf (w .forests) x ≡ r → 18 ≤ d + r → 18 ≤ d′ + r
     → climb d f r x w ≡ climb d′ f r x w
 unfolding climb isFree
 climb-bound zero d′ f r x h rest w hh e H q k k′ =
-    absurd (omega (arith, low h hh (w .places) rest x (w .forests) H))
+    absurd (omega (arith, rank-low h hh (w .places) rest x (w .forests) H))
 climb-bound (suc d) zero f r x h rest w hh e H q k k′ =
-    absurd (omega (arith, low h hh (w .places) rest x (w .forests) H))
+    absurd (omega (arith, rank-low h hh (w .places) rest x (w .forests) H))
 climb-bound (suc d) (suc d′) true r x h rest w hh e H q k k′ = refl
 climb-bound (suc d) (suc d′) false r x h rest w hh e H q k k′ =
     let v : Linking = linkAt r x w in
-    let m = met h hh (w .places) rest x (w .forests) H r q (eqb-false _ _ e) _ refl in
-    climb-bound d d′ (isFree (v .places) (suc r)) (suc r) (winner r x w) h rest v hh refl (m .0) (m .1)
-    (omega arith) (omega arith)
+    let m = held-linked h hh (w .places) rest x (w .forests) H r q (eqb-false _ _ e) _ refl in
+    climb-bound d d′ (isFree (v .places) (suc r)) (suc r) (winner (w .forests .key) (holder (w .places) r) x) h rest v
+    hh refl (m .0) (m .1) (omega arith) (omega arith)
 
 linkTrees-bound : (d d′ : ℕ) (xs : List ℕ) (h : ℕ) (w : Linking) → 18 ≤ d → 18 ≤ d′ → h < 8
     → Held h (w .places) xs (w .forests) → linkTrees d xs w ≡ linkTrees d′ xs w
@@ -48,9 +52,21 @@ linkTrees-bound d d′ (x ∷ xs) h w k k′ hh H =
     linkTrees-bound d d′ xs h v k k′ hh (climb-held d f r x h xs w hh refl H refl (omega arith))
     ∙ ap (linkTrees d′ xs) (climb-bound d d′ f r x h xs w hh refl H refl (omega arith) (omega arith))
 
-pub climbBound : ClimbBound
+consolidate-bound : (s : Forests) → Formed s → (h : ℕ) → h < 8 → (d : ℕ) → 18 ≤ d
+    → consolidateWithin d h s ≡ consolidate h s
 unfolding consolidate consolidateWithin
-climbBound s S h hh d k =
+consolidate-bound s S h hh d k =
     ap (λ (w : Linking). record
     { places = w .places; links = w .links; forests = setRow h (occupied (w .places)) (w .forests) })
-    (linkTrees-bound d 18 (rowOf s h) h _ k (le-refl 18) hh (start h s hh (to-formed s S)))
+    (linkTrees-bound d 18 (rowOf s h) h _ k (le-refl 18) hh (held-start h s hh S))
+
+pub climbBound : ClimbBound
+climbBound s S = consolidate-bound s (to-formed s S)
+
+pub climbBoundExtract : ClimbBoundExtract
+climbBoundExtract s S h x e =
+    let F = to-formed s S in
+    let r = row-root s (F .disjoint) h x (omega (arith, rw e at (F .disjoint .inRow h x))) in
+    consolidate-bound (removeRoot h x s)
+    (remove-formed s (F .disjoint) h x (r .0) (r .1) (F .ordered) (F .ranked))
+    h (omega (arith, F .disjoint .heaps x, r .0))

@@ -11,7 +11,7 @@ use Rattle.rules.specs.Lists.{delta, occurs, sumBy}
 use Rattle.rules.specs.Forests.{none}
 use Rattle.rules.specs.Words.{headOr, lastOr, nextIn, prevIn}
 use Rattle.rules.proofs.Occurs.{eqb-self, delta-self}
-use Rattle.rules.proofs.Siblings.{Once, once-tail, head-out, last-in, apart}
+use Rattle.rules.proofs.Siblings.{Once, once-tail, head-out, last-in, member-apart}
 
 -- what does not stand in a list has no neighbours there
 pub next-absent : (y : ℕ) (l : List ℕ) → occurs y l ≡ 0 → nextIn y l ≡ none
@@ -32,7 +32,7 @@ pub head-concat : (a b : List ℕ) → occurs none a ≡ 0
     → headOr none (a ++ b) ≡ cond (eqb (lastOr none a) none) (headOr none b) (headOr none a)
 unfolding headOr lastOr
 head-concat [] b n = refl
-head-concat (z ∷ zs) b n = rw (ne-eqb (lastOr z zs) none (apart (lastOr z zs) none (z ∷ zs) (last-in z zs) n))
+head-concat (z ∷ zs) b n = rw (ne-eqb (lastOr z zs) none (member-apart (lastOr z zs) none (z ∷ zs) (last-in z zs) n))
 
 pub last-concat : (d : ℕ) (a b : List ℕ) → lastOr d (a ++ b) ≡ lastOr (lastOr d a) b
 unfolding lastOr
@@ -58,7 +58,7 @@ next-before d y (z ∷ zs) b o m n =
         → headOr none (l ++ b) ≡ cond (eqb (lastOr z l) y) (headOr none b) (headOr none l)
     hit [] e p = rw (e, eqb-self y)
     hit (v ∷ vs) e p =
-        rw (ne-eqb (lastOr v vs) y (λ q. apart (lastOr v vs) z (v ∷ vs) (last-in v vs) p (q ∙ sym e)))
+        rw (ne-eqb (lastOr v vs) y (λ q. member-apart (lastOr v vs) z (v ∷ vs) (last-in v vs) p (q ∙ sym e)))
 
     go : (t : Bool) → eqb z y ≡ t
         → (z ≢ y → nextIn y (zs ++ b) ≡ cond (eqb (lastOr z zs) y) (headOr none b) (nextIn y zs))

@@ -14,6 +14,7 @@ use Rattle.rules.specs.Consolidate.{
   climb,
   consolidate,
   consolidateWithin,
+  holder,
   isFree,
   link,
   linkAt,
@@ -60,12 +61,12 @@ module _ (h : ℕ) (hh : h < 8) (ps rest : List ℕ) (x : ℕ) (s : Forests) (H 
   x-apart : occurs x (occupied ps) ≡ 0
   x-apart = omega (arith, occurs-ρ x, delta-self x, once s h ρ (H .formed) hh x x-in)
 
-  pub low : rankOf s x ≤ 16
-  low = root-rank-16 (setRow h ρ s) (H .formed) h x (rw (row-h s h ρ (H .formed) hh ρ) x-in)
+  pub rank-low : rankOf s x ≤ 16
+  rank-low = root-rank-16 (setRow h ρ s) (H .formed) h x (rw (row-h s h ρ (H .formed) hh ρ) x-in)
 
   -- the tree comes to rest
-  pub put : (r : ℕ) → rankOf s x ≡ r → getD ps r none ≡ none → Held h (set ps r x) rest s
-  put r q e = record {
+  pub held-put : (r : ℕ) → rankOf s x ≡ r → getD ps r none ≡ none → Held h (set ps r x) rest s
+  held-put r q e = record {
     formed = anew s h ρ (H .formed) hh (occupied (set ps r x) ++ rest)
         (λ z. omega
         (arith, occurs-append z (occupied (set ps r x)) rest, occupied-put ps r x z r-in e x-some, occurs-ρ z));
@@ -75,7 +76,7 @@ module _ (h : ℕ) (hh : h < 8) (ps rest : List ℕ) (x : ℕ) (s : Forests) (H 
   }
     where
       r-in : r < length ps
-      r-in = omega (arith, H .long, low, q)
+      r-in = omega (arith, H .long, rank-low, q)
 
   -- the place is taken by a tree of the same rank, and one of the two becomes the other's child
   module _ (r : ℕ) (q : rankOf s x ≡ r) (n : getD ps r none ≢ none) where
@@ -83,7 +84,7 @@ module _ (h : ℕ) (hh : h < 8) (ps rest : List ℕ) (x : ℕ) (s : Forests) (H 
     y = getD ps r none
 
     r-in : r < length ps
-    r-in = omega (arith, H .long, low, q)
+    r-in = omega (arith, H .long, rank-low, q)
 
     pub y-in : 1 ≤ occurs y ρ
     y-in = omega (arith, occurs-ρ y, occupied-extract ps r y r-in n, delta-self y)
@@ -124,11 +125,11 @@ module _ (h : ℕ) (hh : h < 8) (ps rest : List ℕ) (x : ℕ) (s : Forests) (H 
           (omega (arith, length-append (childrenOf s a) (l ∷ []), ra)),
     )
 
-    pub met : (b : Bool) → precedes (s .key) y x ≡ b
+    pub held-linked : (b : Bool) → precedes (s .key) y x ≡ b
         → Held h (set ps r none) (cond b y x ∷ rest) (link (cond b y x) (cond b x y) s) ×
         (rankOf (link (cond b y x) (cond b x y) s) (cond b y x) ≡ suc r)
-    met true e = linked y x y-in x-in y-apart (H .rank r n) q e (λ z. omega arith)
-    met false e =
+    held-linked true e = linked y x y-in x-in y-apart (H .rank r n) q e (λ z. omega arith)
+    held-linked false e =
         linked x y x-in y-in (λ z. y-apart (sym z)) q (H .rank r n) (precedes-total (s .key) y x y-apart e)
         (λ z. refl)
 
@@ -136,12 +137,13 @@ pub climb-held : (d : ℕ) (f : Bool) (r x h : ℕ) (rest : List ℕ) (w : Linki
     → Held h (w .places) (x ∷ rest) (w .forests) → rankOf (w .forests) x ≡ r → 18 ≤ d + r
     → Held h ((climb d f r x w) .places) rest ((climb d f r x w) .forests)
 unfolding climb isFree
-climb-held zero f r x h rest w hh e H q k = absurd (omega (arith, low h hh (w .places) rest x (w .forests) H))
-climb-held (suc d) true r x h rest w hh e H q k = put h hh (w .places) rest x (w .forests) H r q (eqb-true _ _ e)
+climb-held zero f r x h rest w hh e H q k = absurd (omega (arith, rank-low h hh (w .places) rest x (w .forests) H))
+climb-held (suc d) true r x h rest w hh e H q k = held-put h hh (w .places) rest x (w .forests) H r q (eqb-true _ _ e)
 climb-held (suc d) false r x h rest w hh e H q k =
     let v : Linking = linkAt r x w in
-    let m = met h hh (w .places) rest x (w .forests) H r q (eqb-false _ _ e) _ refl in
-    climb-held d (isFree (v .places) (suc r)) (suc r) (winner r x w) h rest v hh refl (m .0) (m .1) (omega arith)
+    let m = held-linked h hh (w .places) rest x (w .forests) H r q (eqb-false _ _ e) _ refl in
+    climb-held d (isFree (v .places) (suc r)) (suc r) (winner (w .forests .key) (holder (w .places) r) x) h rest v hh
+    refl (m .0) (m .1) (omega arith)
 
 linkTrees-held : (d : ℕ) (xs : List ℕ) (h : ℕ) (w : Linking) → 18 ≤ d → h < 8 → Held h (w .places) xs (w .forests)
     → Held h ((linkTrees d xs w) .places) [] ((linkTrees d xs w) .forests)
@@ -152,9 +154,9 @@ linkTrees-held d (x ∷ xs) h w k hh H =
     let v : Linking = climb d (isFree (w .places) r) r x w in
     linkTrees-held d xs h v k hh (climb-held d (isFree (w .places) r) r x h xs w hh refl H refl (omega arith))
 
-pub start : (h : ℕ) (s : Forests) → h < 8 → Formed s → Held h (replicate 17 none) (rowOf s h) s
+pub held-start : (h : ℕ) (s : Forests) → h < 8 → Formed s → Held h (replicate 17 none) (rowOf s h) s
 unfolding occupied
-start h s hh S =
+held-start h s hh S =
     record {
       formed = re-row s h (rowOf s h) S hh (λ z. refl);
       long = refl;
@@ -167,7 +169,7 @@ linked-row d h s = linkTrees d (rowOf s h) (record { places = replicate 17 none;
 pub linked-held : (h : ℕ) (s : Forests) → h < 8 → Formed s
     → Held h ((linked-row 18 h s) .places) [] ((linked-row 18 h s) .forests)
 unfolding linked-row
-linked-held h s hh S = linkTrees-held 18 (rowOf s h) h _ (le-refl 18) hh (start h s hh S)
+linked-held h s hh S = linkTrees-held 18 (rowOf s h) h _ (le-refl 18) hh (held-start h s hh S)
 
 pub consolidate-formed : (h : ℕ) (s : Forests) → h < 8 → Formed s → Formed ((consolidate h s) .forests)
 unfolding consolidate consolidateWithin linked-row occurs sumBy

@@ -1,4 +1,4 @@
--- The forests are read back from their words, so the words settle the forests.
+-- The forests are read back from their words, so the words determine the forests.
 use Prim.Native.Nat.{ℕ, zero, suc, _+_, _*_, _≤_, _<_}
 use mathlib.Core.Path.{_≡_, refl, sym, ap, _∙_}
 use mathlib.Core.Logic.{_≢_}

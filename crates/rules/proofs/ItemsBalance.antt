@@ -116,7 +116,8 @@ answer-items s S NoCall = omega arith
 answer-items s S (Yields c) = go (refusal s c) refl
   where
     go : (r : ℕ) → refusal s c ≡ r
-        → items ((unlessRefused r s c) .next) + cond (eqb r 0) (itemsRemoved c) 0 ≡ items s + cond (eqb r 0) (itemsInserted c) 0
+        → items ((unlessRefused r s c) .next) + cond (eqb r 0) (itemsRemoved c) 0
+        ≡ items s + cond (eqb r 0) (itemsInserted c) 0
     go zero e = perform-items s S c e
     go (suc r) e = rw (ne-eqb (suc r) 0 (λ z. omega arith)) (omega arith)
 

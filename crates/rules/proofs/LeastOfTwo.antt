@@ -14,7 +14,7 @@ use Rattle.rules.specs.Order.{comesBefore, keyIn, leastIn, leastOf, less
 use Rattle.rules.proofs.Minimum.{leastOf-in}
 use Rattle.rules.proofs.Occurs.{delta-self}
 use Rattle.rules.proofs.Order.{before-keys, is-precedes, not-precedes, precedes-is, precedes-other}
-use Rattle.rules.proofs.Siblings.{apart}
+use Rattle.rules.proofs.Siblings.{member-apart}
 
 module _ (key : List ℕ) where
   abbrev two : ℕ → ℕ → ℕ
@@ -60,7 +60,7 @@ module _ (key : List ℕ) where
 
   -- an item is not none, nor is the least of items
   least-item : (x : ℕ) (l : List ℕ) → occurs none (x ∷ l) ≡ 0 → leastOf key x l ≢ none
-  least-item x l n = apart (leastOf key x l) none (x ∷ l) (leastOf-in key x l) n
+  least-item x l n = member-apart (leastOf key x l) none (x ∷ l) (leastOf-in key x l) n
 
 -- where both are items it is the one that comes first
 pub lesser-two : (key : ℕ → ℕ) (a b : ℕ) → a ≢ none → b ≢ none → lesser key a b ≡ cond (comesBefore key b a) b a

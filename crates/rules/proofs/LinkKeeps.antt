@@ -154,7 +154,8 @@ module _ (s : Forests) (h : ℕ) (ρ : List ℕ) (S : Formed (setRow h ρ s)) (h
       free = byItem l (λ e. absurd (omega (arith, e, in-row l il .0)))
           (λ y n. rw (parent-o y n, getD-set-other (s .mark) l y) (S .disjoint .free y));
       bit = byItem l (rw mark-l zero-le) (λ y n. rw (getD-set-other (s .mark) l y) (S .disjoint .bit y));
-      rootsUnmarked = byItem l (λ _. mark-l) (λ y n. rw (parent-o y n, getD-set-other (s .mark) l y) (S .disjoint .rootsUnmarked y));
+      rootsUnmarked = byItem l (λ _. mark-l)
+          (λ y n. rw (parent-o y n, getD-set-other (s .mark) l y) (S .disjoint .rootsUnmarked y));
     }
 
     link-ordered : OrderedBut none (setRow h r (link a l s))

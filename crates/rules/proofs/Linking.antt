@@ -2,7 +2,7 @@
 use Prim.Native.Nat.{ℕ, zero, suc}
 use mathlib.Core.List.{List, [], _∷_}
 use mathlib.Core.Bool.{Bool, true, false}
-use Rattle.rules.specs.Consolidate.{Linking, climb, isFree, link, linkAt, linkTrees, loser, winner}
+use Rattle.rules.specs.Consolidate.{Linking, climb, holder, isFree, link, linkAt, linkTrees, loser, winner}
 use Rattle.rules.specs.Forests.{Forests, rankOf}
 
 module _ (P : Forests → Type 0) (keeps : (w l : ℕ) (t : Forests) → P t → P (link w l t)) where
@@ -12,8 +12,10 @@ module _ (P : Forests → Type 0) (keeps : (w l : ℕ) (t : Forests) → P t →
   climb-keeps (suc d) true r x w k = k
   climb-keeps (suc d) false r x w k =
       let v : Linking = linkAt r x w in
-      climb-keeps d (isFree (v .places) (suc r)) (suc r) (winner r x w) v
-      (keeps (winner r x w) (loser r x w) (w .forests) k)
+      let key = w .forests .key in
+      let y = holder (w .places) r in
+      climb-keeps d (isFree (v .places) (suc r)) (suc r) (winner key y x) v
+      (keeps (winner key y x) (loser key y x) (w .forests) k)
 
   pub linkTrees-keeps : (d : ℕ) (xs : List ℕ) (w : Linking) → P (w .forests) → P ((linkTrees d xs w) .forests)
   unfolding linkTrees

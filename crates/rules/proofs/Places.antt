@@ -58,7 +58,8 @@ number-onto k h =
 -- where a kind lies: among the words of the heaps, or as a column of words of the items
 data Lies (n : ℕ) (f : Field) : Type 0 where
   ofHeaps : fieldNumber f < 4 → fieldSize n f ≡ 8 → ((i : ℕ) → at n f i ≡ 4 * i + fieldNumber f) → Lies n f
-  ofItems : (c : ℕ) → fieldNumber f ≡ 4 + c → c < 8 → fieldSize n f ≡ n → ((i : ℕ) → at n f i ≡ 32 + (c * n + i)) → Lies n f
+  ofItems : (c : ℕ) → fieldNumber f ≡ 4 + c → c < 8 → fieldSize n f ≡ n
+      → ((i : ℕ) → at n f i ≡ 32 + (c * n + i)) → Lies n f
 
 lies : (n : ℕ) (f : Field) → Lies n f
 lies n FirstTree = ofHeaps (omega arith) refl (λ i. omega arith)
@@ -99,8 +100,8 @@ at-bound n f i h = go (lies n f)
         omega (arith, e i, digits-lt {q = c} {m = 8} {r = i} {c = n} b k)
 
 -- two places are one only where kind and number are
-one-place : (n : ℕ) (f g : Field) (i j : ℕ) → Lies n f → Lies n g → i < fieldSize n f → j < fieldSize n g → at n f i ≡ at n g j
-    → (fieldNumber f ≡ fieldNumber g) × (i ≡ j)
+one-place : (n : ℕ) (f g : Field) (i j : ℕ) → Lies n f → Lies n g → i < fieldSize n f → j < fieldSize n g
+    → at n f i ≡ at n g j → (fieldNumber f ≡ fieldNumber g) × (i ≡ j)
 one-place n f g i j (ofHeaps a r e) (ofHeaps a′ r′ e′) hi hj h = omega (arith, e i, e′ j)
 one-place n f g i j (ofHeaps a r e) (ofItems c p q r′ e′) hi hj h = absurd (omega (arith, e i, e′ j))
 one-place n f g i j (ofItems c p q r e) (ofHeaps a r′ e′) hi hj h = absurd (omega (arith, e i, e′ j))

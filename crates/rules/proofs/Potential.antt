@@ -16,6 +16,7 @@ use Rattle.rules.specs.Consolidate.{
   climb,
   consolidate,
   consolidateWithin,
+  holder,
   isFree,
   link,
   linkAt,
@@ -67,7 +68,7 @@ climb-count (suc d) false r x w e =
     let v : Linking = linkAt r x w in
     omega (
       arith,
-      climb-count d (isFree (v .places) (suc r)) (suc r) (winner r x w) v refl,
+      climb-count d (isFree (v .places) (suc r)) (suc r) (winner (w .forests .key) (holder (w .places) r) x) v refl,
       sumBy-set-le busy (w .places) r none none refl,
       taken-busy (w .places) r e,
     )

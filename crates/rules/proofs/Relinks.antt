@@ -12,7 +12,7 @@ use Rattle.rules.specs.Lists.{occurs, sumBy, without}
 use Rattle.rules.specs.Forests.{none}
 use Rattle.rules.specs.Words.{headOr, lastOr, nextIn, prevIn}
 use Rattle.rules.proofs.Occurs.{eqb-self, delta-other, occurs-one, occurs-without}
-use Rattle.rules.proofs.Siblings.{Once, apart}
+use Rattle.rules.proofs.Siblings.{Once, member-apart}
 use Rattle.rules.proofs.ConcatLinks.{
   next-absent,
   prev-absent,
@@ -47,7 +47,7 @@ stands y l = go (eqb (occurs y l) 0) refl
 -- the ends of a list are none, or stand in it
 pub at-end : (z y : ℕ) (l : List ℕ) → 1 ≤ occurs z (none ∷ l) → y ≢ none → occurs y l ≡ 0 → z ≢ y
 unfolding occurs sumBy
-at-end z y l k m n = apart z y (none ∷ l) k (omega (arith, delta-other y none (λ e. m (sym e))))
+at-end z y l k m n = member-apart z y (none ∷ l) k (omega (arith, delta-other y none (λ e. m (sym e))))
 
 other-out : (x y : ℕ) → y ≢ x → occurs y (x ∷ []) ≡ 0
 other-out x y m = omega (arith, occurs-one y x, delta-other y x (λ e. m (sym e)))

@@ -11,7 +11,7 @@ use Rattle.rules.specs.Lists.{delta, occurs, sumBy, without}
 use Rattle.rules.specs.Forests.{none}
 use Rattle.rules.specs.Words.{headOr, lastOr, nextIn, prevIn}
 use Rattle.rules.proofs.Occurs.{eqb-self, delta-self}
-use Rattle.rules.proofs.Siblings.{Once, once-tail, head-out, tail-in, apart}
+use Rattle.rules.proofs.Siblings.{Once, once-tail, head-out, tail-in, member-apart}
 
 pub prev-in : (d x : ℕ) (l : List ℕ) → 1 ≤ occurs x l → 1 ≤ occurs (prevIn d x l) (d ∷ l)
 unfolding prevIn occurs sumBy
@@ -36,7 +36,7 @@ head-without d x (z ∷ zs) n o k = go (eqb z x) refl
     go true e = rw (eqb-self d)
     go false e =
         rw (ne-eqb d (prevIn z x zs) (λ q.
-        apart (prevIn z x zs) d (z ∷ zs) (prev-in z x zs (tail-in x z zs e k)) n (sym q)))
+        member-apart (prevIn z x zs) d (z ∷ zs) (prev-in z x zs (tail-in x z zs e k)) n (sym q)))
 
 pub next-without : (d x y : ℕ) (l : List ℕ) → occurs d l ≡ 0 → Once l → 1 ≤ occurs x l → 1 ≤ occurs y l → y ≢ x
     → nextIn y (without x l) ≡ cond (eqb y (prevIn d x l)) (nextIn x l) (nextIn y l)
@@ -52,7 +52,7 @@ next-without d x y (z ∷ zs) n o k j m =
         ≡ cond (eqb y (cond t d (prevIn z x zs))) (cond t (headOr none zs) (nextIn x zs))
         (cond u (headOr none zs) (nextIn y zs))
     go true true e f ih = absurd (m (sym (eqb-true z y f) ∙ eqb-true z x e))
-    go true false e f ih = rw (ne-eqb y d (λ q. apart y d (z ∷ zs) j n q))
+    go true false e f ih = rw (ne-eqb y d (λ q. member-apart y d (z ∷ zs) j n q))
     go false true e f ih =
         rw f
         (subst (λ v. headOr none (without x zs) ≡ cond (eqb v (prevIn z x zs)) (nextIn x zs) (headOr none zs))

@@ -75,21 +75,24 @@ unfolding deleteAs extract
 delete-says true i s = record { code = refl; item = refl; key = refl }
 delete-says false i s = record { code = refl; item = refl; key = refl }
 
+-- a call that is performed answers 0
+pub perform-code : (s : Forests) (c : Call) → (perform s c) .reply .code ≡ 0
+unfolding perform extract decreaseKey delete
+perform-code s (Insert h i k) = refl
+perform-code s (FindMin h) = refl
+perform-code s (ExtractMin h) = refl
+perform-code s (DecreaseKey i k) = refl
+perform-code s (Delete i) = delete-says (eqb (minimum s (heapNumber s i)) i) i s .code
+perform-code s (Meld a b) = refl
+
 perform-small : (s : Forests) → WellFormed s → (c : Call) → refusal s c ≡ 0 → InRange (Yields c)
     → Small ((perform s c) .reply)
 unfolding KeysFit perform extract decreaseKey delete InRange
-perform-small s W c e f = record { code = code c; item = item c e; key = key c e f; moves = paid }
+perform-small s W c e f =
+    record { code = omega (arith, perform-code s c); item = item c e; key = key c e f; moves = paid }
   where
     D : Disjoint s
     D = W .disjoint
-
-    code : (c : Call) → (perform s c) .reply .code ≤ 13
-    code (Insert h i k) = zero-le
-    code (FindMin h) = zero-le
-    code (ExtractMin h) = zero-le
-    code (DecreaseKey i k) = zero-le
-    code (Delete i) = omega (arith, delete-says (eqb (minimum s (heapNumber s i)) i) i s .code)
-    code (Meld a b) = zero-le
 
     item : (c : Call) → refusal s c ≡ 0 → (perform s c) .reply .item ≤ 4096
     item (Insert h i k) e = omega (arith, insert-ok s h i k e .1, D .small)

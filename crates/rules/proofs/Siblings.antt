@@ -1,4 +1,4 @@
--- Lists without repetition, as chains of links: who stands in them.
+-- Lists without repetition: who stands in them.
 use Prim.Native.Nat.{ℕ, _≤_}
 use mathlib.Core.Path.{_≡_, ap}
 use mathlib.Core.Logic.{_≢_}
@@ -33,5 +33,5 @@ unfolding lastOr occurs sumBy
 last-in d [] = omega (arith, delta-self d)
 last-in d (z ∷ zs) = omega (arith, last-in z zs)
 
-pub apart : (x y : ℕ) (l : List ℕ) → 1 ≤ occurs x l → occurs y l ≡ 0 → x ≢ y
-apart x y l k e q = omega (arith, ap (λ z. occurs z l) q)
+pub member-apart : (x y : ℕ) (l : List ℕ) → 1 ≤ occurs x l → occurs y l ≡ 0 → x ≢ y
+member-apart x y l k e q = omega (arith, ap (λ z. occurs z l) q)

@@ -1,5 +1,5 @@
--- The laws of the sizes: a length and a number of items settle each other. With Places.antt, the only proofs that know
--- the layout.
+-- The laws of the sizes: a length and a number of items determine each other. With Places.antt, the only proofs that
+-- know the layout.
 use Prim.Native.Nat.{ℕ, _≤_}
 use mathlib.Core.Path.{_≡_, refl}
 use mathlib.Core.List.{List}

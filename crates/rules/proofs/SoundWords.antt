@@ -1,4 +1,4 @@
--- Sound words and the forests they stand for settle each other.
+-- Sound words and the forests they stand for determine each other.
 use Prim.Native.Nat.{ℕ}
 use mathlib.Core.Path.{_≡_, refl, sym, ap, _∙_}
 use mathlib.Core.List.{List}

@@ -25,7 +25,7 @@ refusal s (DecreaseKey i k) =
 refusal s (Delete i) = cond (leb (tableSize s) i) 8 (cond (eqb (heapOf s i) 0) 10 0)
 refusal s (Meld a b) = cond (ltb 7 a || ltb 7 b) 7 (cond (eqb a b) 13 0)
 
--- A refused line gives its code and four zeros, and changes nothing.
+-- Refused: the code, 0 for each other number, and the forests as they were.
 unfoldable pub refused : ℕ → Forests → Outcome
 refused code s = record { reply = record { code = code; item = 0; key = 0; links = 0; cuts = 0 }; next = s }
 

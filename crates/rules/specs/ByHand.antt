@@ -1,11 +1,11 @@
 -- The runs worked by hand: one table, and the claim that the rules give it. Rows (a) to (h) are the scope paper's; the
--- last two show what its runs do not reach.
+-- others show what its runs do not reach: equal keys, a marked child released, M and J.
 use Prim.Native.Nat.{ℕ, suc}
 use mathlib.Core.Path.{_≡_}
 use mathlib.Core.List.{List, [], _∷_, _++_, map}
 use mathlib.Core.Bool.{cond}
 use lib.Dec.{eqb}
-use Rattle.rules.specs.declared.Call.the-variants.{Insert, ExtractMin, DecreaseKey, Delete}
+use Rattle.rules.specs.declared.Call.the-variants.{Insert, FindMin, ExtractMin, DecreaseKey, Delete, Meld}
 use Rattle.rules.specs.declared.Line.{Line}
 use Rattle.rules.specs.declared.Line.the-variants.{Yields}
 use Rattle.rules.specs.declared.Answer.{Answer}
@@ -21,9 +21,9 @@ pub record Seen : Type 0 where
   pub row : List ℕ
   pub families : List (ℕ × List ℕ)
   pub marked : List ℕ
-  pub left : ℕ
-  pub moved : ℕ
-  pub may : ℕ
+  pub potentialLeft : ℕ
+  pub movesMade : ℕ
+  pub movesAllowed : ℕ
 
 unfoldable pub lastAnswer : Answer → List Answer → Answer
 lastAnswer a [] = a
@@ -41,15 +41,15 @@ unfoldable pub reply : ℕ → ℕ → ℕ → ℕ → ℕ → Answer
 reply code item key links cuts = record { code = code; item = item; key = key; links = links; cuts = cuts }
 
 unfoldable pub sees : Answer → List ℕ → List (ℕ × List ℕ) → List ℕ → ℕ → ℕ → ℕ → Seen
-sees last row families marked left moved may =
+sees last row families marked potentialLeft movesMade movesAllowed =
     record {
       last = last;
       row = row;
       families = families;
       marked = marked;
-      left = left;
-      moved = moved;
-      may = may;
+      potentialLeft = potentialLeft;
+      movesMade = movesMade;
+      movesAllowed = movesAllowed;
     }
 
 unfoldable pub seen : List Line → Seen
@@ -135,7 +135,7 @@ runH =
     run (linesG ++ Yields (ExtractMin 0) ∷ [])
     (sees (reply 0 7 3 3 0) (4 ∷ 6 ∷ []) ((1, 2 ∷ []) ∷ (4, 5 ∷ []) ∷ (6, 8 ∷ 1 ∷ []) ∷ []) [] 2 15 35)
 
--- ---- two more
+-- ---- what the paper's runs do not reach
 
 -- Of two equal keys the lower item is taken, wherever it stands in the row.
 unfoldable pub runTie : Row
@@ -149,10 +149,42 @@ runRelease =
     run (linesF2 ++ Yields (Delete 1) ∷ [])
     (sees (reply 0 1 10 0 0) (8 ∷ 6 ∷ 2 ∷ 3 ∷ 5 ∷ []) ((3, 4 ∷ []) ∷ (5, 7 ∷ []) ∷ []) (7 ∷ []) 7 9 28)
 
+-- Items 0 and 1 in heap 0, and in heap 1 item 3 with 4 below it; then J,0,1. It answers heap 0 and its four items, and
+-- 3 stands after 0 and 1.
+unfoldable pub linesJ : List Line
+linesJ =
+    Yields (Insert 0 0 6) ∷ Yields (Insert 0 1 4) ∷ Yields (Insert 1 2 1) ∷ Yields (Insert 1 3 3)
+    ∷ Yields (Insert 1 4 5) ∷ Yields (ExtractMin 1) ∷ Yields (Meld 0 1) ∷ []
+
+unfoldable pub runJ : Row
+runJ = run linesJ (sees (reply 0 0 4 0 0) (0 ∷ 1 ∷ 3 ∷ []) ((3, 4 ∷ []) ∷ []) [] 3 1 7)
+
+-- M: the minimum of heap 0 came from heap 1, which is now empty (12).
+unfoldable pub runM : Row
+runM =
+    run (linesJ ++ Yields (FindMin 0) ∷ []) (sees (reply 0 3 3 0 0) (0 ∷ 1 ∷ 3 ∷ []) ((3, 4 ∷ []) ∷ []) [] 3 1 7)
+
+unfoldable pub runEmptied : Row
+runEmptied =
+    run (linesJ ++ Yields (FindMin 1) ∷ []) (sees (reply 12 0 0 0 0) (0 ∷ 1 ∷ 3 ∷ []) ((3, 4 ∷ []) ∷ []) [] 3 1 7)
+
+-- What was below 3 in heap 1 is an item of heap 0: a cut takes it to that row.
+unfoldable pub runMoved : Row
+runMoved =
+    run (linesJ ++ Yields (DecreaseKey 4 2) ∷ [])
+    (sees (reply 0 4 2 0 1) (0 ∷ 1 ∷ 3 ∷ 4 ∷ []) [] [] 4 2 11)
+
+-- Heap 1 is used and joined again: item 5 comes last, and the minimum is the one that heap 0 had.
+unfoldable pub runJoinAgain : Row
+runJoinAgain =
+    run (linesJ ++ Yields (Insert 1 5 8) ∷ Yields (Meld 0 1) ∷ Yields (FindMin 0) ∷ [])
+    (sees (reply 0 3 3 0 0) (0 ∷ 1 ∷ 3 ∷ 5 ∷ []) ((3, 4 ∷ []) ∷ []) [] 4 1 8)
+
 unfoldable pub table : List Row
 table =
     rank 1 0 ∷ rank 2 1 ∷ rank 3 2 ∷ rank 4 2 ∷ rank 5 3 ∷ rank 8 4
-    ∷ runB ∷ runC ∷ runD ∷ runE ∷ runF1 ∷ runF2 ∷ runF ∷ runG ∷ runH ∷ runTie ∷ runRelease ∷ []
+    ∷ runB ∷ runC ∷ runD ∷ runE ∷ runF1 ∷ runF2 ∷ runF ∷ runG ∷ runH ∷ runTie ∷ runRelease
+    ∷ runJ ∷ runM ∷ runEmptied ∷ runMoved ∷ runJoinAgain ∷ []
 
 abbrev pub WorkedRuns : Type 0
 WorkedRuns = map byRules table ≡ table

@@ -58,7 +58,7 @@ release cs s =
 unfoldable pub setFree : ℕ → Forests → Forests
 setFree x s = setHeap x 0 (setMark x 0 (setKey x 0 (setParent x 0 (setChildren x [] s))))
 
--- The root x leaves row h and is free; its children join the end in their order, unmarked.
+-- The root x leaves row h and is free; its children follow what is left of the row, in their order and unmarked.
 unfoldable pub removeRoot : ℕ → ℕ → Forests → Forests
 removeRoot h x s =
     let cs = childrenOf s x in
@@ -67,25 +67,27 @@ removeRoot h x s =
 -- T: the minimum x of heap h leaves, then linking follows.
 unfoldable pub extract : ℕ → ℕ → Forests → Outcome
 extract h x s =
-    let w = consolidate h (removeRoot h x s) in
-    done x (keyOf s x) (w .links) 0 (w .forests)
+    let linked = consolidate h (removeRoot h x s) in
+    done x (keyOf s x) (linked .links) 0 (linked .forests)
 
 unfoldable pub hasParent : Forests → ℕ → Bool
 hasParent s i = not (eqb (parentOf s i) none)
 
--- D: the key is lowered; i is cut only if it now comes before its parent.
+-- D: the key is lowered, and i is cut if by the new key it comes before a parent.
 unfoldable pub decreaseKey : ℕ → ℕ → Forests → Outcome
-decreaseKey i k s =
-    let t = setKey i k s in
-    let c = cutIf (hasParent t i && precedes (t .key) i (parentOf t i)) (heapNumber s i) i t in
-    done i k 0 (c .cuts) (c .forests)
+decreaseKey i k before =
+    let lowered = setKey i k before in
+    let beforeParent = hasParent lowered i && precedes (lowered .key) i (parentOf lowered i) in
+    let cutFree = cutIf beforeParent (heapNumber before i) i lowered in
+    done i k 0 (cutFree .cuts) (cutFree .forests)
 
 -- X: a heap's minimum leaves as by T. Any other is cut if it has a parent, and then leaves its row with no linking.
 unfoldable pub deleteAs : Bool → ℕ → Forests → Outcome
-deleteAs true i s = extract (heapNumber s i) i s
-deleteAs false i s =
-    let c = cutIf (hasParent s i) (heapNumber s i) i s in
-    done i (keyOf s i) 0 (c .cuts) (removeRoot (heapNumber s i) i (c .forests))
+deleteAs true i before = extract (heapNumber before i) i before
+deleteAs false i before =
+    let h = heapNumber before i in
+    let cutFree = cutIf (hasParent before i) h i before in
+    done i (keyOf before i) 0 (cutFree .cuts) (removeRoot h i (cutFree .forests))
 
 unfoldable pub delete : ℕ → Forests → Outcome
 delete i s = deleteAs (eqb (minimum s (heapNumber s i)) i) i s

@@ -1,4 +1,4 @@
--- Linking: a row is walked over seventeen places, one for each rank 0 to 16.
+-- Linking: the trees of a row come, one after the other, to seventeen places, one to a rank.
 use Prim.Native.Nat.{ℕ, zero, suc}
 use mathlib.Core.List.{List, [], _∷_, _++_}
 use mathlib.Core.Bool.{Bool, true, false, cond}
@@ -27,23 +27,29 @@ pub record Linking : Type 0 where
   pub links : ℕ
   pub forests : Forests
 
+-- the tree at place r
+abbrev pub holder : List ℕ → ℕ → ℕ
+holder places r = getD places r none
+
 unfoldable pub isFree : List ℕ → ℕ → Bool
-isFree places r = eqb (getD places r none) none
+isFree places r = eqb (holder places r) none
 
--- The holder of place r and the tree x, each a root: the one that comes first, and the other.
-abbrev pub winner : ℕ → ℕ → Linking → ℕ
-winner r x w = cond (precedes (w .forests .key) (getD (w .places) r none) x) (getD (w .places) r none) x
+-- of two roots y and x, by their keys: the one that comes first, and the other
+abbrev pub winner : List ℕ → ℕ → ℕ → ℕ
+winner key y x = cond (precedes key y x) y x
 
-abbrev pub loser : ℕ → ℕ → Linking → ℕ
-loser r x w = cond (precedes (w .forests .key) (getD (w .places) r none) x) x (getD (w .places) r none)
+abbrev pub loser : List ℕ → ℕ → ℕ → ℕ
+loser key y x = cond (precedes key y x) x y
 
--- one link: the holder leaves place r, and the loser becomes the winner's child
+-- one link: the holder leaves place r, and of it and the tree x the loser becomes the winner's child
 abbrev pub linkAt : ℕ → ℕ → Linking → Linking
 linkAt r x w =
+    let key = w .forests .key in
+    let y = holder (w .places) r in
     record {
       places = set (w .places) r none;
       links = suc (w .links);
-      forests = link (winner r x w) (loser r x w) (w .forests);
+      forests = link (winner key y x) (loser key y x) (w .forests);
     }
 
 -- The tree x of rank r comes to place r, which is free or not: it rests there, or it is linked with the holder and the
@@ -53,7 +59,7 @@ climb zero free r x w = w
 climb (suc d) true r x w = record { places = set (w .places) r x; links = w .links; forests = w .forests }
 climb (suc d) false r x w =
     let v = linkAt r x w in
-    climb d (isFree (v .places) (suc r)) (suc r) (winner r x w) v
+    climb d (isFree (v .places) (suc r)) (suc r) (winner (w .forests .key) (holder (w .places) r) x) v
 
 -- one step for each tree, left to right
 unfoldable pub linkTrees : ℕ → List ℕ → Linking → Linking

@@ -19,8 +19,8 @@ unfoldable pub ifDone : (Call → ℕ) → Forests → Line → ℕ
 ifDone f s (Yields c) = cond (eqb (refusal s c) 0) (f c) 0
 ifDone f s NoCall = 0
 
--- What a call that is done may cost. For a taking n is the item count of h before the call, for a deletion that of
--- i's heap; a deletion that works as a taking is a deletion, and a lowering without a cut is a lowering.
+-- What a call that is done may cost, by its kind and whatever moves it made: a lowering that cuts nothing and a
+-- deletion that links cost as any other. R is taken of the heap's item count before the call.
 unfoldable pub price : Forests → Call → ℕ
 price s (Insert h i k) = 1
 price s (FindMin h) = 0

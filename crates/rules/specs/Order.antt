@@ -6,7 +6,7 @@ use lib.ListN.{getD}
 use lib.Dec.{ltb, eqb}
 use Rattle.rules.specs.Forests.{Forests, none, rowOf}
 
--- By a table of keys, item a comes before item b: its key is smaller, or the keys are equal and a < b.
+-- Item a comes before item b: by a table of keys, and by the item numbers where the keys do not decide.
 unfoldable pub comesBefore : (ℕ → ℕ) → ℕ → ℕ → Bool
 comesBefore key a b = ltb (key a) (key b) || (eqb (key a) (key b) && ltb a b)
 

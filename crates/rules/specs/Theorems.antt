@@ -25,11 +25,12 @@ use Rattle.rules.specs.Forests.{
 use Rattle.rules.specs.Order.{precedes, minimum}
 use Rattle.rules.specs.Cut.{cutWithin, cutOut}
 use Rattle.rules.specs.Consolidate.{consolidateWithin, consolidate}
+use Rattle.rules.specs.Calls.{removeRoot}
 use Rattle.rules.specs.Answers.{refusal, answer, after}
 use Rattle.rules.specs.Fibonacci.{F, R}
-use Rattle.rules.specs.WellFormed.{WellFormed}
+use Rattle.rules.specs.WellFormed.{WellFormed, isRootOf}
 use Rattle.rules.specs.Ledger.{ifDone}
-use Rattle.rules.specs.Words.{encode, decode, storeSize}
+use Rattle.rules.specs.Words.{encode, decode, forestsOf, storeSize, Sound}
 
 -- The empty forests of a fresh run are well-formed.
 abbrev pub EmptyWellFormed : Type 0
@@ -63,6 +64,12 @@ MarksFit = (s : Forests) → WellFormed s → marks s ≤ tableSize s
 abbrev pub ClimbBound : Type 0
 ClimbBound =
     (s : Forests) → WellFormed s → (h : ℕ) → h < 8 → (d : ℕ) → 18 ≤ d → consolidateWithin d h s ≡ consolidate h s
+
+-- the same where a call links: in the forests that a root x of heap h has left
+abbrev pub ClimbBoundExtract : Type 0
+ClimbBoundExtract =
+    (s : Forests) → WellFormed s → (h x : ℕ) → isRootOf s h x ≡ true → (d : ℕ) → 18 ≤ d
+    → consolidateWithin d h (removeRoot h x s) ≡ consolidate h (removeRoot h x s)
 
 -- R(n) is the largest k with F(k + 2) ≤ n, and F(k + 2) is 1 more than the sum of F(0) to F(k).
 pub record RLargest : Type 0 where
@@ -128,7 +135,7 @@ ItemsBalance =
     (s : Forests) → WellFormed s → (ls : List Line)
     → items (after s ls) + total itemsRemoved s ls ≡ items s + total itemsInserted s ls
 
--- The words settle the forests.
+-- The words determine the forests.
 abbrev pub EncodeLength : Type 0
 EncodeLength = (s : Forests) → length (encode s) ≡ storeSize (tableSize s)
 
@@ -137,3 +144,12 @@ DecodeEncode = (s : Forests) → WellFormed s → decode (tableSize s) (encode s
 
 abbrev pub EncodeInjective : Type 0
 EncodeInjective = (s t : Forests) → WellFormed s → WellFormed t → encode s ≡ encode t → s ≡ t
+
+-- So of words: every line, done or refused, leaves a sound store sound, and a refused one leaves every word of it.
+abbrev pub KeepsSound : Type 0
+KeepsSound = (w : List ℕ) → Sound w → (l : Line) → InRange l → Sound (encode ((answer (forestsOf w) l) .next))
+
+abbrev pub RefusedKeepsWords : Type 0
+RefusedKeepsWords =
+    (w : List ℕ) → Sound w → (l : Line) → (answer (forestsOf w) l) .reply .code ≢ 0
+    → encode ((answer (forestsOf w) l) .next) ≡ w

@@ -115,7 +115,7 @@ siblings s i = cond (eqb (parentOf s i) none) (rowOf s (heapNumber s i)) (childr
 unfoldable pub unlessFree : Forests → ℕ → ℕ → ℕ
 unlessFree s i v = cond (eqb (heapOf s i) 0) 0 v
 
--- 0 for a free item, else 1 + 2 × heap + mark; and back
+-- the state word of a heap field and a mark, and both read back from it
 unfoldable pub stateOf : ℕ → ℕ → ℕ
 stateOf zero mark = 0
 stateOf (suc h) mark = 1 + 2 * h + mark
@@ -147,19 +147,21 @@ abbrev pub fields : List Field
 fields =
     FirstTree ∷ LastTree ∷ Minimum ∷ Count ∷ Key ∷ Parent ∷ FirstChild ∷ LastChild ∷ Next ∷ Prev ∷ Rank ∷ State ∷ []
 
--- the first k words of one kind stored, then all words of several kinds
-unfoldable pub storeField : ℕ → (Field → ℕ → ℕ) → Field → ℕ → List ℕ → List ℕ
-storeField n v f zero w = w
-storeField n v f (suc k) w = set (storeField n v f k w) (at n f k) (v f k)
+-- w with v i stored at the place of i, for each i below k
+unfoldable pub storeField : (ℕ → ℕ) → (ℕ → ℕ) → ℕ → List ℕ → List ℕ
+storeField place v zero w = w
+storeField place v (suc k) w = set (storeField place v k w) (place k) (v k)
 
+-- w with every word of these kinds stored, at its place, as v says it
 unfoldable pub storeFields : ℕ → (Field → ℕ → ℕ) → List Field → List ℕ → List ℕ
 storeFields n v [] w = w
-storeFields n v (f ∷ fs) w = storeFields n v fs (storeField n v f (fieldSize n f) w)
+storeFields n v (f ∷ fs) w = storeFields n v fs (storeField (at n f) (v f) (fieldSize n f) w)
 
--- the words that say v: v f i at the place of word i of kind f
+-- the words that say v: those of all kinds, stored where each lies
 unfoldable pub wordsOf : ℕ → (Field → ℕ → ℕ) → List ℕ
 wordsOf n v = storeFields n v fields (replicate (storeSize n) 0)
 
+-- the words of forests
 unfoldable pub encode : Forests → List ℕ
 encode s = wordsOf (tableSize s) (word s)
 

@@ -12,7 +12,7 @@ pub enum Call {
     Meld { into: u32, from: u32 },
 }
 
-// A line of a sheet yields a call, or none, and is then refused.
+// A line of a sheet: the call that it yields, or that it yields none and is refused.
 pub enum Line {
     Yields(Call),
     NoCall,

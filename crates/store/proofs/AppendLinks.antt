@@ -30,7 +30,7 @@ use Rattle.store.proofs.Families.{
   row-relisted,
   children-relisted,
 }
-use Rattle.store.proofs.Listed.{absent, not-none}
+use Rattle.store.proofs.Listed.{absent, item-not-none}
 
 module _ (n : ℕ) (t : Forests) (x : ℕ) (S : Shape n t) (k : x < n) where
   -- another parent of x changes no list
@@ -83,7 +83,7 @@ module _ (n : ℕ) (t : Forests) (o : Owner) (x : ℕ) (S : Shape n t) (F : Fami
 
   -- who is not in the list is not its last
   last-apart : (j : ℕ) → j < n → occurs j (listOf t o) ≡ 0 → lastOr none (listOf t o) ≢ j
-  last-apart j h a = at-end (lastOr none (listOf t o)) j (listOf t o) (last-in none (listOf t o)) (not-none S j h) a
+  last-apart j h a = at-end (lastOr none (listOf t o)) j (listOf t o) (last-in none (listOf t o)) (item-not-none S j h) a
 
   -- the next word of any item j; l is the last of the list before, and the links of x were open
   pub next-law : (l a j : ℕ) → l ≡ lastOr none (listOf t o) → j < n
@@ -103,7 +103,7 @@ module _ (n : ℕ) (t : Forests) (o : Owner) (x : ℕ) (S : Shape n t) (F : Fami
       go false e (inside m d) =
           let ne : j ≢ x = λ z. eqb-false x j e (sym z) in
           rw (inside-word t o j (nextIn j) m d, inside-relisted R j (nextIn j) ne m d)
-          (sym (next-appended x j (listOf t o) (F .once) ne (not-none S j h)))
+          (sym (next-appended x j (listOf t o) (F .once) ne (item-not-none S j h)))
       go false e (outside m) =
           rw (ne-eqb (lastOr none (listOf t o)) j (last-apart j h (absent n t o F j m)))
           (sym (outside-relisted R j (nextIn j) (λ z. eqb-false x j e (sym z)) m))

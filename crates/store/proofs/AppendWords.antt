@@ -47,8 +47,8 @@ module _ (n : ℕ) (counts minima : ℕ → ℕ) (t : Forests) (x a b : ℕ) (S 
 
   row-word : (h : ℕ) → Family n t (Row h) → occurs x (listOf t (Row h)) ≡ 0 → MayJoin t (Row h) x → (f : Field)
       → Appends (Row h) f
-  unfolding appended joined setLast setFirst setNext firstOf lastOf addRank parentIn withLinks wordBut appendTo listOf word
-      unlessFree
+  unfolding appended joined setLast setFirst setNext firstOf lastOf addRank parentIn withLinks wordBut appendTo listOf
+      word unlessFree
   row-word h F out J =
       by-kinds rowKinds (Appends (Row h))
       (λ j i. set-at (t .rows) h j _ (rowOf t h ++ (x ∷ [])) (λ _. headOr none) (omega (arith, F .present, S .rows8))
@@ -66,8 +66,8 @@ module _ (n : ℕ) (counts minima : ℕ → ℕ) (t : Forests) (x a b : ℕ) (S 
 
   children-word : (p : ℕ) → Family n t (Children p) → occurs x (listOf t (Children p)) ≡ 0 → MayJoin t (Children p) x
       → (f : Field) → Appends (Children p) f
-  unfolding appended joined setLast setFirst setNext firstOf lastOf addRank parentIn withLinks wordBut appendTo listOf word
-      unlessFree
+  unfolding appended joined setLast setFirst setNext firstOf lastOf addRank parentIn withLinks wordBut appendTo listOf
+      word unlessFree
   children-word p F out J =
       let live = ne-eqb (heapOf t p) 0 (F .present .1) in
       by-kinds childKinds (Appends (Children p))

@@ -1,4 +1,4 @@
--- The words after a chain from x to y was joined to the list of an owner.
+-- The words after the siblings from x to y were joined to the list of an owner.
 use Prim.Native.Nat.{ℕ}
 use mathlib.Core.Path.{_≡_, refl}
 use mathlib.Core.Logic.{_≢_}
@@ -37,12 +37,12 @@ abbrev pub linkKinds : Owner → List Field
 linkKinds o = firstKind o ∷ lastKind o ∷ Next ∷ Prev ∷ []
 
 module _ (x y : ℕ) (v : Values) where
-  -- an empty chain changes nothing
+  -- where x is none nothing changes
   pub concat-none : (o : Owner) → x ≡ none → (f : Field) (i : ℕ) → concatenated o x y v f i ≡ v f i
   unfolding concatenated
   concat-none o e f i = rw e
 
-  -- nor does any chain change words of other kinds
+  -- and words of other kinds never do
   pub concat-other : (o : Owner) (f : Field) (i : ℕ) → Apart (linkKinds o) f → concatenated o x y v f i ≡ v f i
   unfolding concatenated joined setNext setFirst setLast firstOf lastOf
   concat-other o f i a = go (eqb x none)

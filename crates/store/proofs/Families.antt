@@ -16,21 +16,21 @@ use Rattle.store.specs.declared.Owner.the-variants.{Row, Children}
 use Rattle.store.specs.Families.{listOf, ownerOf}
 
 -- two owners are one, or not
-pub data Same (o q : Owner) : Type 0 where
-  same : q ≡ o → Same o q
-  other : q ≢ o → Same o q
+pub data SameOwner (o q : Owner) : Type 0 where
+  same : q ≡ o → SameOwner o q
+  other : q ≢ o → SameOwner o q
 
-same-owner : (o q : Owner) → Same o q
+same-owner : (o q : Owner) → SameOwner o q
 same-owner (Row h) (Row g) = go (eqb g h) refl
   where
-    go : (t : Bool) → eqb g h ≡ t → Same (Row h) (Row g)
+    go : (t : Bool) → eqb g h ≡ t → SameOwner (Row h) (Row g)
     go true e = same (ap Row (eqb-true g h e))
     go false e = other (λ d. eqb-false g h e (cc))
 same-owner (Row h) (Children p) = other (λ d. let z : _≡_ {A = ℕ} 0 1 = cc in omega arith)
 same-owner (Children p) (Row h) = other (λ d. let z : _≡_ {A = ℕ} 0 1 = cc in omega arith)
 same-owner (Children p) (Children q) = go (eqb q p) refl
   where
-    go : (t : Bool) → eqb q p ≡ t → Same (Children p) (Children q)
+    go : (t : Bool) → eqb q p ≡ t → SameOwner (Children p) (Children q)
     go true e = same (ap Children (eqb-true q p e))
     go false e = other (λ d. eqb-false q p e (cc))
 
@@ -61,7 +61,7 @@ pub data Stand (t : Forests) (o : Owner) (j : ℕ) : Type 0 where
 pub stand : (t : Forests) (o : Owner) (j : ℕ) → Stand t o j
 stand t o j = go (eqb (heapOf t j) 0) refl (same-owner o (ownerOf t j))
   where
-    go : (b : Bool) → eqb (heapOf t j) 0 ≡ b → Same o (ownerOf t j) → Stand t o j
+    go : (b : Bool) → eqb (heapOf t j) 0 ≡ b → SameOwner o (ownerOf t j) → Stand t o j
     go true e s = outside (λ m _. m (eqb-true (heapOf t j) 0 e))
     go false e (same d) = inside (eqb-false (heapOf t j) 0 e) d
     go false e (other d) = outside (λ _. d)

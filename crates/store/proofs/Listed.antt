@@ -38,5 +38,5 @@ module _ (n : ℕ) (t : Forests) (o : Owner) where
   pub absent : Family n t o → (j : ℕ) → (heapOf t j ≢ 0 → ownerOf t j ≡ o → ⊥) → occurs j (listOf t o) ≡ 0
   absent F j m = not-in j (listOf t o) (λ i. let b = F .owned j i in m (b .0) (b .1))
 
-pub not-none : {n : ℕ} {t : Forests} → Shape n t → (j : ℕ) → j < n → j ≢ none
-not-none S j h e = omega (arith, e, S .small)
+pub item-not-none : {n : ℕ} {t : Forests} → Shape n t → (j : ℕ) → j < n → j ≢ none
+item-not-none S j h e = omega (arith, e, S .small)

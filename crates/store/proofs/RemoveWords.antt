@@ -35,7 +35,7 @@ use Rattle.store.proofs.Families.{
   children-relisted,
 }
 use Rattle.store.proofs.KeptWords.{kept-but}
-use Rattle.store.proofs.Listed.{none-out, absent, not-none}
+use Rattle.store.proofs.Listed.{none-out, absent, item-not-none}
 use Rattle.store.proofs.SetAt.{cond-same, set-at}
 
 -- only the list of o changes
@@ -67,10 +67,10 @@ module _ (n : ℕ) (t : Forests) (o : Owner) (x : ℕ) (S : Shape n t) (F : Fami
   unfolding word
   next-past j h ne (inside m d) =
       rw (inside-word t o j (nextIn j) m d, inside-relisted R j (nextIn j) ne m d)
-      (sym (next-removed x (listOf t o) (F .once) (none-out n t o S F) k j ne (not-none S j h)))
+      (sym (next-removed x (listOf t o) (F .once) (none-out n t o S F) k j ne (item-not-none S j h)))
   next-past j h ne (outside m) =
       rw (ne-eqb (prevIn none x (listOf t o)) j (at-end (prevIn none x (listOf t o)) j (listOf t o)
-      (prev-in none x (listOf t o) k) (not-none S j h) (absent n t o F j m)))
+      (prev-in none x (listOf t o) k) (item-not-none S j h) (absent n t o F j m)))
       (sym (outside-relisted R j (nextIn j) ne m))
 
   prev-past : (j : ℕ) → j < n → j ≢ x → Stand t o j
@@ -79,9 +79,9 @@ module _ (n : ℕ) (t : Forests) (o : Owner) (x : ℕ) (S : Shape n t) (F : Fami
   unfolding word
   prev-past j h ne (inside m d) =
       rw (inside-word t o j (prevIn none j) m d, inside-relisted R j (prevIn none j) ne m d)
-      (sym (prev-removed x (listOf t o) (F .once) (none-out n t o S F) k j ne (not-none S j h)))
+      (sym (prev-removed x (listOf t o) (F .once) (none-out n t o S F) k j ne (item-not-none S j h)))
   prev-past j h ne (outside m) =
-      rw (ne-eqb (nextIn x (listOf t o)) j (next-out x j (listOf t o) (absent n t o F j m) (not-none S j h)))
+      rw (ne-eqb (nextIn x (listOf t o)) j (next-out x j (listOf t o) (absent n t o F j m) (item-not-none S j h)))
       (sym (outside-relisted R j (prevIn none j) ne m))
 
   -- the link of x is left as it is: f one of its two links, g the other

@@ -43,8 +43,8 @@ unfoldable pub removeFrom : Owner → ℕ → Forests → Forests
 removeFrom (Row h) x t = setRow h (without x (rowOf t h)) t
 removeFrom (Children p) x t = setChildren p (without x (childrenOf t p)) t
 
--- The words within a call: the counts and the minima of the heaps may lag behind the forests, and are given beside
--- them.
+-- The words within a call: the counts and the minima of the heaps need not be those of the forests yet, and are given
+-- beside them.
 unfoldable pub wordBut : (ℕ → ℕ) → (ℕ → ℕ) → Forests → Values
 wordBut counts minima t f i =
     cond (eqb (fieldNumber Count) (fieldNumber f)) (counts i)

@@ -70,11 +70,11 @@ unfoldable pub dropRank : Owner → Values → Values
 dropRank (Row h) v = v
 dropRank (Children p) v = setWord Rank p (v Rank p - 1) v
 
--- A chain of siblings from x to y is joined to the end of the list, whose last was l.
+-- The siblings from x to y, each linked to the next, are joined to the end of the list, whose last was l.
 unfoldable pub joined : Owner → ℕ → ℕ → ℕ → Values → Values
 joined o l x y v = setLast o y (setWord Prev x l (setNext o l x v))
 
--- The same where x may be none: the chain is empty then. Links alone change: the parents and marks of the chain's items
+-- The same where x may be none, and nothing is joined then. Links alone change: the parents and marks of the siblings
 -- and the rank of the owner stay.
 unfoldable pub concatenated : Owner → ℕ → ℕ → Values → Values
 concatenated o x y v = cond (eqb x none) v (joined o (lastOf o v) x y v)

@@ -288,7 +288,7 @@ fn drop_rank(s: &mut [u32], n: usize, o: Owner)
     }
 }
 
-// The chain of siblings from x to y joined to the end of a list, whose last is l.
+// The siblings from x to y, each linked to the next, joined to the end of a list, whose last is l.
 fn join(s: &mut [u32], n: usize, o: Owner, l: u32, x: u32, y: u32)
     requires { ⌜ JoinReady n (now s) o l x ⌝ }
     ensures { λ r. ⌜ Changes n (now (s .entry)) (joined o l x y) (now (s .exit)) ⌝ }
@@ -298,8 +298,8 @@ fn join(s: &mut [u32], n: usize, o: Owner, l: u32, x: u32, y: u32)
     put_last(s, n, o, y);
 }
 
-// The same where the chain may be empty: x is NONE then. Only links are joined: the parents and marks of the chain's
-// items and the rank of the owner are the caller's.
+// The same where x may be NONE, and nothing is joined then. Only links change: the parents and marks of the siblings and
+// the rank of the owner are the caller's.
 pub fn concat(s: &mut [u32], n: usize, o: Owner, x: u32, y: u32)
     requires { ⌜ ConcatReady n (now s) o x ⌝ }
     ensures { λ r. ⌜ Changes n (now (s .entry)) (concatenated o x y) (now (s .exit)) ⌝ }

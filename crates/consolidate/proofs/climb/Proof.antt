@@ -7,7 +7,7 @@ use borrow.Author.Needs.{needs}
 use lib.ListN.{length}
 use Rattle.rules.specs.Consolidate.{occupied}
 use Rattle.rules.specs.Forests.{Forests}
-use Rattle.consolidate.specs.Consolidating.{Consolidating, Settles, settle}
+use Rattle.consolidate.specs.Consolidating.{Consolidating, Climbs, climbTree}
 use Rattle.consolidate.proofs.Climbing.{Climbing, climb-ends, climb-starts, rank-inside, tree-inside}
 use Rattle.consolidate.proofs.ClimbLink.{climb-step, links-fit}
 use Rattle.consolidate.proofs.ClimbMeeting.{holder-inside, link-ready}
@@ -19,7 +19,7 @@ Inv-loop s₀ n tree places₀ x₀ t₀ r₀ s places x t r =
     (length s ≡ length s₀) × (t .cuts ≡ t₀ .cuts) ×
     ((h base k : ℕ) (u : Forests) (rest : List ℕ) → Consolidating n h s₀ places₀ (x₀ ∷ rest) rest u
     → t₀ .links ≡ base + k → t₀ .links + length (occupied places₀) ≤ 4294967295
-    → Climbing n h base rest (settle places₀ k u x₀) s places x r (t .links))
+    → Climbing n h base rest (climbTree places₀ k u x₀) s places x r (t .links))
 
 abbrev μ-loop : tie.MeasureT-loop
 μ-loop s₀ n tree places₀ x₀ t₀ r₀ s places x t r = 17 - r
@@ -28,7 +28,7 @@ abbrev μ-loop : tie.MeasureT-loop
 here : (c : tie.At-loop Inv-loop μ-loop) →
     let a = c .before .before .before .before .args in
     let p = c .before .before .before .before .pre in
-    Climbing (a .n) (p .inHeap) 0 (p .rest) (settle (a .held) (a .tally .links) (p .forests) (a .tree)) (c .loop .s)
+    Climbing (a .n) (p .inHeap) 0 (p .rest) (climbTree (a .held) (a .tally .links) (p .forests) (a .tree)) (c .loop .s)
     (c .loop .places) (c .loop .x) (c .loop .r) (c .loop .t .links)
 here c =
     let p = c .before .before .before .before .pre in
@@ -121,7 +121,7 @@ same-length : tie.Need-same-length Inv-loop μ-loop
 same-length c = search needs
 
 returns : tie.Need-returns Inv-loop μ-loop
-unfolding Settles
+unfolding Climbs
 returns c =
     let c2 = c .before .before in
     let c3 = c2 .before in

@@ -29,7 +29,7 @@ returns c =
           record {
             words = c3 .write-row .ensures (l .forests) (S .state)
                 ∙ ap (λ q. encode (setRow (c11 .args .h) (occupied q) (l .forests))) (S .places);
-            count = S .count;
+            tallied = S .tallied;
           },
       c8 .link-row .ensures .1,
     )

@@ -2,7 +2,7 @@
 use borrow.Author.Needs.{needs}
 use Rattle.consolidate.proofs.Extracting.{
   consolidate-ready,
-  extracted,
+  extract-performs,
   heap-inside,
   least-inside,
   remove-ready,
@@ -43,7 +43,7 @@ returns c =
     let c8 = c6 .before .before in
     let c10 = c8 .before .before in
     let c13 = c10 .before .before .before in (
-      extracted (c13 .pre) (c10 .get .ensures) _ (c6 .remove-root .ensures) _ (c8 .get2 .ensures)
+      extract-performs (c13 .pre) (c10 .get .ensures) _ (c6 .remove-root .ensures) _ (c8 .get2 .ensures)
           (c2 .consolidate .ensures .0),
       c2 .consolidate .ensures .1,
     )

@@ -10,8 +10,8 @@ use Rattle.rules.specs.WellFormed.{WellFormed}
 use Rattle.rules.specs.Words.{follow, look}
 use Rattle.consolidate.specs.Consolidating.{LinksRow, linkRow}
 use Rattle.consolidate.specs.Stored.{Rowed}
-use Rattle.consolidate.proofs.Walking.{
-  Walking,
+use Rattle.consolidate.proofs.LinkingRow.{
+  LinkingRow,
   walk-ends,
   walk-inside,
   walk-left,
@@ -26,7 +26,7 @@ abbrev Inv-loop : tie.InvT-loop
 Inv-loop s₀ n h places₀ t₀ x₀ s places t x =
     (length s ≡ length s₀) × (t .cuts ≡ t₀ .cuts) ×
     ((m : ℕ) (u : Forests) → Rowed n h m s₀ u → WellFormed u
-    → Walking n h (t₀ .links) (linkRow h u) s places x (t .links))
+    → LinkingRow n h (t₀ .links) (linkRow h u) s places x (t .links))
 
 -- the trees to come, read off the words
 abbrev μ-loop : tie.MeasureT-loop
@@ -52,7 +52,7 @@ loop-holds c =
 here : (c : tie.At-loop Inv-loop μ-loop) →
     let a = c .before .before .before .before .args in
     let p = c .before .before .before .before .pre in
-    Walking (a .n) (a .h) (a .tally .links) (linkRow (a .h) (p .forests)) (c .loop .s) (c .loop .places) (c .loop .x)
+    LinkingRow (a .n) (a .h) (a .tally .links) (linkRow (a .h) (p .forests)) (c .loop .s) (c .loop .places) (c .loop .x)
     (c .loop .t .links)
 here c =
     let p = c .before .before .before .before .pre in

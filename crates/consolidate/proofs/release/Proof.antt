@@ -5,14 +5,14 @@ use mathlib.Core.List.{List}
 use native.Mathlib.Omega.{arith}
 use borrow.Author.Needs.{needs}
 use lib.ListN.{length}
-use Rattle.consolidate.specs.Released.{Listed, Releases}
+use Rattle.consolidate.specs.Released.{ListFrom, Releases}
 use Rattle.consolidate.proofs.Releasing.{Releasing, child-inside, release-ends, release-starts, release-step}
 use Rattle.consolidate.proofs.release.Statement.{statement}
 use Rattle.consolidate.proofs.release.Tie as tie
 
 abbrev Inv-loop : tie.InvT-loop
 Inv-loop s₀ n h child count state c₀ k₀ s c k =
-    (length s ≡ length s₀) × ((cs : List ℕ) → Listed n s₀ c₀ k₀ cs → Releasing n h s₀ cs s c k)
+    (length s ≡ length s₀) × ((cs : List ℕ) → ListFrom n s₀ c₀ k₀ cs → Releasing n h s₀ cs s c k)
 
 abbrev μ-loop : tie.MeasureT-loop
 μ-loop s₀ n h child count state c₀ k₀ s c k = k

@@ -9,7 +9,7 @@ use Rattle.rules.specs.Consolidate.{occupied}
 use Rattle.rules.specs.Forests.{Forests, none, rowOf, setRow}
 use Rattle.rules.specs.WellFormed.{Disjoint}
 use Rattle.consolidate.specs.Consolidating.{WritesRow}
-use Rattle.consolidate.specs.Writing.{Writing, WritesTree}
+use Rattle.consolidate.specs.Writing.{WritingRow, WritesTree}
 use Rattle.consolidate.proofs.RowWritten.{
   coming,
   place-written,
@@ -24,8 +24,8 @@ use Rattle.consolidate.proofs.write_row.Tie as tie
 abbrev Inv-loop : tie.InvT-loop
 Inv-loop s₀ n h places m₀ r₀ s m r =
     (length s ≡ length s₀) ×
-    ((t : Forests) → Disjoint t → rowOf t h ≡ occupied places → Writing n h s₀ [] none t
-    → Writing n h s (occupied (take r places)) m t)
+    ((t : Forests) → Disjoint t → rowOf t h ≡ occupied places → WritingRow n h s₀ [] none t
+    → WritingRow n h s (occupied (take r places)) m t)
 
 abbrev μ-loop : tie.MeasureT-loop
 μ-loop s₀ n h places m₀ r₀ s m r = 17 - r
@@ -48,7 +48,7 @@ loop-holds c = (refl, λ t D e W. W)
 -- the state at the loop's head, for the forests that the caller has
 here : (c : tie.At-loop Inv-loop μ-loop) →
     let c10 = c .before .before .before .before .before .before .before .before .before .before in
-    Writing (c10 .args .n) (c10 .args .h) (c .loop .s) (occupied (take (c .loop .r) (c10 .args .t4))) (c .loop .m)
+    WritingRow (c10 .args .n) (c10 .args .h) (c .loop .s) (occupied (take (c .loop .r) (c10 .args .t4))) (c .loop .m)
     (setRow (c10 .args .h) (occupied (c10 .args .t4)) (c10 .pre .forests))
 here c =
     let c3 = c .before .before .before in

@@ -10,7 +10,7 @@ use Rattle.rules.specs.Cut.{nodeKind, cascadingCut}
 use Rattle.store.specs.Families.{Holds}
 use Rattle.cut.specs.Ready.{Member}
 use Rattle.cut.proofs.Cutting.{member-item, parent-word, state-word, state-small}
-use Rattle.cut.proofs.Cascading.{Going, going-start, going-end, going-root, going-mark, going-turn}
+use Rattle.cut.proofs.Cascading.{Cascading, cascade-start, cascade-end, cascade-root, cascade-mark, cascade-turn}
 use Rattle.cut.proofs.cascading_cut.Statement.{statement}
 use Rattle.cut.proofs.cascading_cut.Tie as tie
 
@@ -18,7 +18,7 @@ abbrev Inv-loop : tie.InvT-loop
 Inv-loop s₀ n h x p₀ cuts₀ left₀ s p cuts left =
     (length s ≡ length s₀) × (cuts + left ≡ n + 1)
     × ((c m : ℕ → ℕ) (t : Forests) → Holds n s₀ c m t none → Member t h x
-    → Going n s c m (cascadingCut (suc n) (nodeKind t x) h x t) h p cuts left)
+    → Cascading n s c m (cascadingCut (suc n) (nodeKind t x) h x t) h p cuts left)
 
 abbrev μ-loop : tie.MeasureT-loop
 μ-loop s₀ n h x p₀ cuts₀ left₀ s p cuts left = left
@@ -27,7 +27,7 @@ abbrev μ-loop : tie.MeasureT-loop
 here : (c : tie.At-loop Inv-loop μ-loop) →
     let a = c .before .before .args in
     let p = c .before .before .pre in
-    Going (a .n) (c .loop .s) (p .counts) (p .minima)
+    Cascading (a .n) (c .loop .s) (p .counts) (p .minima)
     (cascadingCut (suc (a .n)) (nodeKind (p .forests) (a .x)) (a .h) (a .x) (p .forests))
     (a .h) (c .loop .p) (c .loop .cuts) (c .loop .left)
 here c =
@@ -46,7 +46,7 @@ returns : tie.Need-returns Inv-loop μ-loop
 returns c = λ counts minima t H M.
     let l = c .before .before .before .before in
     let G = l .loop .inv .2 counts minima t H M in
-    going-root (l .loop .left) G (c .before .before .before .loop-test .taken)
+    cascade-root (l .loop .left) G (c .before .before .before .loop-test .taken)
     (sym (parent-word (G .holds) (member-item (G .holds) (G .member))) ∙ sym (c .before .get .ensures) ∙ c .if1 .taken)
 
 get-requires-2 : tie.Need-get-requires-2 Inv-loop μ-loop
@@ -79,7 +79,7 @@ returns-2 c = λ counts minima t H M.
     let l = c10 .before in
     let G = l .loop .inv .2 counts minima t H M in
     let i = member-item (G .holds) (G .member) in
-    going-mark _ (l .loop .left) G (c10 .loop-test .taken)
+    cascade-mark _ (l .loop .left) G (c10 .loop-test .taken)
     (λ z. c7 .if1 .left (c8 .get .ensures ∙ parent-word (G .holds) i ∙ z))
     (c4 .before .get2 .ensures ∙ state-word (G .holds) i) (c4 .if2 .taken) (c2 .put .ensures)
 
@@ -120,7 +120,7 @@ loop-again c =
           let i = member-item (G .holds) (G .member) in
           let ne : parentOf (G .here) (l .loop .p) ≢ none =
           λ z. c7 .if1 .left (c8 .get .ensures ∙ parent-word (G .holds) i ∙ z) in
-          going-turn _ (l .loop .left) _ G (c10 .loop-test .taken) ne
+          cascade-turn _ (l .loop .left) _ G (c10 .loop-test .taken) ne
           (c4 .before .get2 .ensures ∙ state-word (G .holds) i) (c4 .if2 .left)
           (c8 .get .ensures ∙ parent-word (G .holds) i)
           (c2 .cut .ensures counts minima (G .here) (G .holds) (record { member = G .member; child = ne })),
@@ -129,7 +129,7 @@ loop-again c =
 returns-3 : tie.Need-returns-3 Inv-loop μ-loop
 returns-3 c = λ counts minima t H M.
     let l = c .before in
-    going-end (l .loop .left) (l .loop .inv .2 counts minima t H M) (omega arith)
+    cascade-end (l .loop .left) (l .loop .inv .2 counts minima t H M) (omega arith)
 
 pub cascading-cut-spec : {M : Type 1} → statement M
 cascading-cut-spec =
@@ -138,7 +138,7 @@ cascading-cut-spec =
     Inv-loop
     μ-loop
     (λ c. omega (arith, c .before .pre .holds .says .sized .small))
-    (λ c. (refl, omega arith, λ counts minima t H M. going-start H M))
+    (λ c. (refl, omega arith, λ counts minima t H M. cascade-start H M))
     get-requires
     (λ c. search needs)
     returns

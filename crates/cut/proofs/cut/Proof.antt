@@ -1,6 +1,6 @@
 -- `cut::cut` meets its contract.
 use borrow.Author.Needs.{needs}
-use mathlib.Core.Path.{_∙_}
+use mathlib.Core.Path.{refl, _∙_}
 use native.Mathlib.Omega.{arith}
 use Rattle.cut.proofs.Cutting.{
   member-heap,
@@ -47,7 +47,7 @@ append-requires c κs =
     let c9 = c7 .before .before in
     let p = c9 .before .before .before .pre in
     let e = parent-word (p .holds) (member-item (p .holds) (p .child .member)) in
-    cut-append-ready (p .holds) (p .child) (c9 .get .ensures ∙ e) (c7 .remove .ensures) (c3 .put .ensures)
+    cut-append-ready (p .holds) (p .child) (c9 .get .ensures ∙ e) (c7 .remove .ensures) (c3 .put .ensures) (λ v. refl)
 
 returns : tie.Need-returns
 returns c = λ counts minima t H C.

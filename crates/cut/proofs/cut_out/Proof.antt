@@ -3,7 +3,7 @@ use borrow.Author.Needs.{needs}
 use mathlib.Core.Path.{_∙_}
 use native.Mathlib.Omega.{arith}
 use Rattle.cut.proofs.Cutting.{member-item, parent-word}
-use Rattle.cut.proofs.CutOut.{parent-member, few, out}
+use Rattle.cut.proofs.CutOut.{parent-member, cuts-few, cut-out-holds}
 use Rattle.cut.proofs.cut_out.Statement.{statement}
 use Rattle.cut.proofs.cut_out.Tie as tie
 
@@ -38,7 +38,7 @@ add-result c =
     let e = c8 .get .ensures ∙ parent-word (p .holds) (member-item (p .holds) (p .child .member)) in
     let a = c6 .cut .ensures (p .counts) (p .minima) (p .forests) (p .holds) (p .child) in
     let b = c2 .cascading-cut .ensures (p .counts) (p .minima) _ a (parent-member (p .holds) (p .child) e) in
-    omega (arith, few (p .holds) (p .child) e a b)
+    omega (arith, cuts-few (p .holds) (p .child) e a b)
 
 same-length : tie.Need-same-length
 same-length c = search needs
@@ -50,7 +50,7 @@ returns c = λ counts minima t H C.
     let c8 = c6 .before .before in
     let e = c8 .get .ensures ∙ parent-word H (member-item H (C .member)) in
     let a = c6 .cut .ensures counts minima t H C in
-    out H C e a (c2 .cascading-cut .ensures counts minima _ a (parent-member H C e))
+    cut-out-holds H C e a (c2 .cascading-cut .ensures counts minima _ a (parent-member H C e))
 
 pub cut-out-spec : {M : Type 1} → statement M
 cut-out-spec =

@@ -1,4 +1,4 @@
--- `heap::decrease::cut_if_before` meets its contract, by a law for each way out.
+-- `heap::decrease::cut_if_before` meets its contract, by a law for each return.
 use borrow.Author.Needs.{needs}
 use Rattle.cut.proofs.Cutting.{member-item}
 use Rattle.heap.proofs.CutIf.{before-cut, child, kept, later-kept, no-parent, parent-inside}

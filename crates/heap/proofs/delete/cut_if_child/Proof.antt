@@ -1,4 +1,4 @@
--- `heap::delete::cut_if_child` meets its contract, by a law for each way out.
+-- `heap::delete::cut_if_child` meets its contract, by a law for each return.
 use borrow.Author.Needs.{needs}
 use Rattle.cut.proofs.Cutting.{member-item}
 use Rattle.heap.proofs.CutIf.{child, child-cut, kept, no-parent}

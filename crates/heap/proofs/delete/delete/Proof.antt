@@ -19,10 +19,8 @@ get-requires c κs =
 
 extract-min-requires : tie.Need-extract-min-requires
 extract-min-requires c κs =
-    let c2 = c .before .before in
-    let c4 = c2 .before .before in
-    let e = c4 .heap-of .ensures in
-    as-extract (c4 .before .before .before .pre) e (rw e at (c2 .get .ensures)) (c .before .if1 .taken)
+    let c4 = c .before .before .before .before in
+    as-extract (c4 .before .before .before .pre) (c4 .heap-of .ensures)
 
 returns : tie.Need-returns
 returns c =

@@ -12,34 +12,34 @@ use Rattle.rules.specs.Forests.{Forests, none, rankOf, rowOf, setRow}
 use Rattle.rules.specs.Lists.{occurs, sumBy}
 use Rattle.rules.specs.WellFormed.{KeysFit, WellFormed}
 use Rattle.rules.specs.Words.{follow, headOr, look, nextIn}
-use Rattle.rules.proofs.ConsolidateKeeps.{start}
+use Rattle.rules.proofs.ConsolidateKeeps.{held-start}
 use Rattle.rules.proofs.Excused.{to-formed, well-formed}
 use Rattle.rules.proofs.Occurs.{delta-self, eqb-self}
 use Rattle.rules.proofs.Potential.{climb-count, length-occupied}
 use Rattle.rules.proofs.Siblings.{head-out}
-use Rattle.consolidate.specs.Consolidating.{ClimbReady, Consolidating, Settled, Settles, linkRow, settle}
+use Rattle.consolidate.specs.Consolidating.{ClimbReady, Consolidating, Climbed, Climbs, linkRow, climbTree}
 use Rattle.consolidate.specs.Stored.{Rowed}
 use Rattle.consolidate.proofs.LinkedLists.{head-none}
 use Rattle.consolidate.proofs.TreesToCome.{comes-inside, comes-once, follows, none-comes, rest-short}
 
 -- The trees of rest are to come, x first: what is left to do from here gives the goal.
-pub record Walking (n h base : ℕ) (goal : Linking) (w ps : List ℕ) (x links : ℕ) : Type 0 where
+pub record LinkingRow (n h base : ℕ) (goal : Linking) (w ps : List ℕ) (x links : ℕ) : Type 0 where
   pub here : Forests
   pub made : ℕ
   pub rest : List ℕ
   pub state : Consolidating n h w ps rest rest here
   pub head : x ≡ headOr none rest
-  pub count : links ≡ base + made
+  pub tallied : links ≡ base + made
   pub fits : links + length (occupied ps) + length rest ≤ 4294967295
   pub whole : linkTrees 18 rest (record { places = ps; links = made; forests = here }) ≡ goal
 
 -- all trees of the row are to come, and all places are free
 pub walk-starts : {n h m : ℕ} {w : List ℕ} {t : Forests} (x links : ℕ) → Rowed n h m w t → WellFormed t → h < 8
     → x ≡ look n w FirstTree h → links + 4096 ≤ 4294967295
-    → Walking n h links (linkRow h t) w (replicate 17 none) x links
+    → LinkingRow n h links (linkRow h t) w (replicate 17 none) x links
 unfolding linkRow KeysFit occupied
 walk-starts {n} {h} {m} {w} {t} x links R W k e f =
-    let H = start h t k (to-formed t W) in
+    let H = held-start h t k (to-formed t W) in
     let C : Consolidating n h w (replicate 17 none) (rowOf t h) (rowOf t h) t =
     record {
       heap = k;
@@ -57,30 +57,30 @@ walk-starts {n} {h} {m} {w} {t} x links R W k e f =
       rest = rowOf t h;
       state = C;
       head = e ∙ R .says .says FirstTree h k ∙ R .row .front;
-      count = omega arith;
+      tallied = omega arith;
       fits = omega (arith, rest-short C, C .says .sized .small);
       whole = refl;
     }
 
-module _ {n h base : ℕ} {goal : Linking} {w ps : List ℕ} {x links : ℕ} (G : Walking n h base goal w ps x links) where
+module _ {n h base : ℕ} {goal : Linking} {w ps : List ℕ} {x links : ℕ} (G : LinkingRow n h base goal w ps x links) where
   -- as many are to come as the next words lead to
   pub walk-left : length (follow n (look n w Next) x) ≡ length (G .rest)
   walk-left = rw (G .head) (ap length (follows (G .state)))
 
   -- ---- no tree is left
 
-  pub walk-ends : x ≡ none → Settled n h base [] w ps links goal
+  pub walk-ends : x ≡ none → Climbed n h base [] w ps links goal
   unfolding linkTrees
   walk-ends e =
       go (G .rest) (head-none (G .rest) (none-comes (G .state)) (sym (G .head) ∙ e)) (G .state) (G .whole)
     where
       go : (l : List ℕ) → l ≡ [] → Consolidating n h w ps l l (G .here)
           → linkTrees 18 l (record { places = ps; links = G .made; forests = G .here }) ≡ goal
-          → Settled n h base [] w ps links goal
+          → Climbed n h base [] w ps links goal
       go [] z C q =
           record {
             places = ap (λ l. l .places) q;
-            count = G .count ∙ ap (λ l. base + l .links) q;
+            tallied = G .tallied ∙ ap (λ l. base + l .links) q;
             state = subst (λ l. Consolidating n h w ps [] [] (l .forests)) q C;
           }
       go (y ∷ l) z C q = absurd (omega (arith, ap length z))
@@ -142,15 +142,15 @@ module _ {n h base : ℕ} {goal : Linking} {w ps : List ℕ} {x links : ℕ} (G 
 
     -- one tree fewer is to come
     pub record Step (w′ ps′ : List ℕ) (x′ links′ : ℕ) : Type 0 where
-      pub next : Walking n h base goal w′ ps′ x′ links′
+      pub next : LinkingRow n h base goal w′ ps′ x′ links′
       pub less : length (next .rest) < length (G .rest)
 
-    pub walk-step : {w′ ps′ : List ℕ} {x′ links′ : ℕ} → x′ ≡ look n w Next x → Settles n w ps x links w′ ps′ links′
+    pub walk-step : {w′ ps′ : List ℕ} {x′ links′ : ℕ} → x′ ≡ look n w Next x → Climbs n w ps x links w′ ps′ links′
         → Step w′ ps′ x′ links′
-    unfolding Settles settle linkTrees nextIn occurs sumBy
+    unfolding Climbs climbTree linkTrees nextIn occurs sumBy
     walk-step {w′} {ps′} {x′} {links′} e f =
-        let S = f h base (G .made) (G .here) (first .tail) climbing (G .count) in
-        let L : Linking = settle ps (G .made) (G .here) x in
+        let S = f h base (G .made) (G .here) (first .tail) climbing (G .tallied) in
+        let L : Linking = climbTree ps (G .made) (G .here) x in
         let q : linkTrees 18 (x ∷ first .tail) (record { places = ps; links = G .made; forests = G .here }) ≡ goal =
         rw (first .is) at (G .whole) in
         let p : _≡_ {A = Linking} (record { places = ps′; links = L .links; forests = L .forests }) L =
@@ -165,12 +165,12 @@ module _ {n h base : ℕ} {goal : Linking} {w ps : List ℕ} {x links : ℕ} (G 
                 ∙ whole-state .says .says Next x walk-inside
                 ∙ whole-state .ahead x (omega (arith, delta-self x))
                 ∙ rw (eqb-self x);
-            count = S .count;
+            tallied = S .tallied;
             fits = omega (
               arith,
               room,
-              S .count,
-              G .count,
+              S .tallied,
+              G .tallied,
               ap length (ap occupied (S .places)),
               length-occupied ps,
               length-occupied (L .places),
