@@ -21,29 +21,33 @@ use Rattle.rules.specs.Words.{
   storeFields,
   wordsOf,
   encode,
+  follow,
+  listFrom,
 }
 use Rattle.store.specs.ItemOrder.{itemKey}
-use Rattle.store.specs.Heaps.{have, heapIs}
 use Rattle.soundness.specs.Check.{
   allTo,
   heapAt,
   markAt,
-  linkOk,
-  lengthFrom,
-  listLength,
-  rootOk,
-  childOk,
-  parentOk,
-  memberOk,
-  freeOk,
-  itemOk,
-  leastOk,
-  minimumOk,
   countAt,
+  namesOwner,
+  linked,
+  listOk,
+  rootUnmarked,
+  minimumFirst,
+  parentInHeap,
+  inHeapOrder,
+  parentOk,
+  minimumRight,
+  childRankOk,
+  childRanksOk,
+  freeZero,
+  memberOk,
+  itemOk,
+  countRight,
   heapOk,
   treesAt,
   ranksAt,
-  membersAt,
   allOk,
   soundWords,
 }
@@ -61,8 +65,8 @@ use Rattle.soundness.specs.Examples.{
 
 pub examplesHold : ExamplesHold
 unfolding ExamplesHold examples byCheck but sample full small ownParent threeTrees soundWords isStore itemsIn
-    storeSize allOk membersAt ranksAt treesAt
-    heapOk heapIs have countAt minimumOk leastOk itemOk freeOk memberOk parentOk childOk rootOk listLength
-    lengthFrom linkOk itemKey markAt heapAt allTo encode wordsOf storeFields storeField word stateMark stateHeap
+    storeSize allOk ranksAt treesAt heapOk countRight itemOk memberOk freeZero childRanksOk childRankOk minimumRight
+    parentOk inHeapOrder parentInHeap minimumFirst rootUnmarked listOk linked namesOwner listFrom follow countAt
+    itemKey markAt heapAt allTo encode wordsOf storeFields storeField word stateMark stateHeap
     stateOf unlessFree siblings prevIn nextIn lastOr headOr minimum leastIn leastOf comesBefore sumTo sumBy count
 examplesHold = refl

@@ -9,8 +9,8 @@ use lib.ListN.{length}
 use lib.Dec.{eqb, eqb·zero-suc}
 use Rattle.rules.specs.declared.Field.the-variants.{
   FirstTree,
-  LastTree,
   Minimum,
+  Count,
   Key,
   Parent,
   FirstChild,
@@ -30,8 +30,7 @@ use Rattle.rules.proofs.Members.{out-heap, heap-in, root-row, row-root, free-ch
 use Rattle.rules.proofs.Minimum.{leastOf-in, none-before, minimum-in-row}
 use Rattle.rules.proofs.Occurs.{delta-self}
 use Rattle.rules.proofs.SumTo.{sumTo-cong}
-use Rattle.store.proofs.Heaps.{room-heap, word-heap}
-use Rattle.soundness.specs.Check.{heapAt, rowAt, listLength, treesAt, ranksAt, membersAt}
+use Rattle.soundness.specs.Check.{heapAt, countAt, rowAt, listOf, treesAt, ranksAt}
 use Rattle.soundness.proofs.Passed.{Passed}
 use Rattle.soundness.proofs.Encoded.{
   says,
@@ -39,13 +38,17 @@ use Rattle.soundness.proofs.Encoded.{
   mark-is,
   precedes-is,
   count-is,
-  row-length,
-  children-length,
+  row-are,
+  row-passes,
+  children-passes,
+  children-rank,
+  children-ranks,
 }
-use Rattle.soundness.proofs.HeapTests.{Least, HeapRight}
+use Rattle.soundness.proofs.HeapTests.{HeapRight}
 use Rattle.soundness.proofs.ItemTests.{Free, Root, Child, Member}
+use Rattle.soundness.proofs.Lists.{Owned}
 use Rattle.soundness.proofs.States.{state-low}
-use Rattle.soundness.proofs.Tight.{both-sum, one-place}
+use Rattle.soundness.proofs.Tight.{both-sum, one-place, both-ways}
 
 module _ (s : Forests) (W : WellFormed s) where
   abbrev n : ℕ
@@ -114,7 +117,9 @@ module _ (s : Forests) (W : WellFormed s) where
         key = omega (arith, says s W Key i k, W .keys i);
         root = root i k h;
         child = child i k h;
-        children = children-length s W i k h;
+        children = children-passes s W i k h;
+        rank = children-rank s W i k h;
+        ranks = children-ranks s W i k h;
       }
 
   -- ---- heaps
@@ -144,21 +149,19 @@ module _ (s : Forests) (W : WellFormed s) where
   heap h k =
       let v : look n w Minimum h ≡ minimum s h = says s W Minimum h k in
       record {
-        row = λ z. omega (arith, row-length s W h k);
+        row = row-passes s W h k;
         noTree = λ m. v ∙ no-tree h k m;
         least =
             λ m.
             let d = row-root s D h (minimum s h) (some-tree h k m) in
             let j : minimum s h < n = heap-in s (minimum s h) (λ z. omega (arith, d .0)) in
-            subst (Least n w h) (sym v)
+            subst (Owned n w (rowAt n w h)) (sym v)
             (record {
               inside = j;
               heap = heap-is s W (minimum s h) j ∙ d .0;
-              root = says s W Parent (minimum s h) j ∙ d .1;
+              parent = says s W Parent (minimum s h) j ∙ d .1;
             });
-        words = λ f o.
-            rw (says s W FirstTree h k, says s W LastTree h k, v, count-is s W h)
-            (says s W f h (rw (room-heap n f o) k) ∙ word-heap s h f o);
+        count = says s W Count h k ∙ sym (count-is s W h);
       }
 
   -- ---- the count
@@ -182,13 +185,14 @@ module _ (s : Forests) (W : WellFormed s) where
         ap (λ v. indicator (not (eqb v 0))) (heap-is s W x k),
       )
 
-  total : treesAt n w + ranksAt n w ≡ membersAt n w
-  unfolding treesAt ranksAt membersAt word
+  total : treesAt n w + ranksAt n w + countAt n w 0 ≡ n
+  unfolding treesAt ranksAt countAt word
   total =
       omega (
         arith,
-        sumTo-cong 8 (λ h. listLength n w (rowAt n w h) - 1) (λ h. length (rowOf s h))
-            (λ h k. omega (arith, row-length s W h k)),
+        both-ways n (λ i. eqb (heapAt n w i) 0),
+        sumTo-cong 8 (λ h. length (listOf n w (rowAt n w h))) (λ h. length (rowOf s h))
+            (λ h k. ap length (row-are s W h k)),
         sumTo-cong n (λ i. look n w Rank i) (λ p. length (childrenOf s p)) (says s W Rank),
         both-sum 8 n (rowOf s) (childrenOf s) (λ _ _. 0) (λ _ _. 0) row-out children-out,
         sumTo-cong n (λ x. sumTo 8 (λ h. occurs x (rowOf s h)) + sumTo n (λ p. occurs x (childrenOf s p)))

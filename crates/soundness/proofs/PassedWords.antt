@@ -39,13 +39,12 @@ use Rattle.rules.proofs.Members.{root-row, parent-child}
 use Rattle.rules.proofs.Minimum.{minimum-unique}
 use Rattle.rules.proofs.Occurs.{delta-self}
 use Rattle.rules.proofs.Words.{words-equal}
-use Rattle.store.specs.Heaps.{ofHeap}
 use Rattle.store.specs.ItemOrder.{itemKey}
-use Rattle.store.proofs.Heaps.{by-heaps, room-heap, word-heap}
-use Rattle.soundness.specs.Check.{heapAt, markAt, rowAt, listLength}
+use Rattle.store.proofs.Heaps.{HeapWords, by-heaps}
+use Rattle.soundness.specs.Check.{heapAt, markAt, rowAt}
 use Rattle.soundness.proofs.Passed.{Passed, byZero}
 use Rattle.soundness.proofs.PassedForests.{disjoint}
-use Rattle.soundness.proofs.PassedLists.{Whole, row-list, children-list, rank-is}
+use Rattle.soundness.proofs.PassedLists.{row-list, children-list, rank-is}
 use Rattle.soundness.proofs.Decoded.{
   key-at,
   parent-at,
@@ -56,6 +55,7 @@ use Rattle.soundness.proofs.Decoded.{
   count-at,
 }
 use Rattle.soundness.proofs.Links.{prevs-in}
+use Rattle.soundness.proofs.Lists.{Listed}
 use Rattle.soundness.proofs.States.{state-again}
 
 module _ (n : ℕ) (w : List ℕ) (A : Passed n w) where
@@ -105,7 +105,7 @@ module _ (n : ℕ) (w : List ℕ) (A : Passed n w) where
   unfolding occurs sumBy headOr
   row-nil h k e = go (rowOf s h) (row-list n w A h k)
     where
-      go : (l : List ℕ) → Whole n w A (rowAt n w h) (listLength n w (rowAt n w h) - 1) l → l ≡ []
+      go : (l : List ℕ) → Listed n w (rowAt n w h) l → l ≡ []
       go [] r = refl
       go (x ∷ l) r = absurd (omega (arith, r .own x (omega (arith, delta-self x)) .inside, r .head, e, A .small))
 
@@ -117,7 +117,7 @@ module _ (n : ℕ) (w : List ℕ) (A : Passed n w) where
       (omega (
         arith,
         root-row s (disjoint n w A) h least (heap-at n w least (c .inside) ∙ c .heap)
-            (parent-at n w least (c .inside) ∙ c .root),
+            (parent-at n w least (c .inside) ∙ c .parent),
       ))
       (λ z j.
       let o = row-list n w A h k .own z j in
@@ -139,17 +139,20 @@ module _ (n : ℕ) (w : List ℕ) (A : Passed n w) where
 
   -- ---- every word
 
-  heap-says : (f : Field) → ofHeap f ≡ true → (h : ℕ) → h < fieldSize n f → look n w f h ≡ word s f h
-  heap-says f o h k =
-      let j : h < 8 = rw (room-heap n f o) at k in
-      let r = row-list n w A h j in
-      rw (word-heap s h f o, r .head, r .last, minimum-at h j, count-at n w h) (A .heap h j .words f o)
+  heap-words : (h : ℕ) → h < 8 → HeapWords n w s h
+  heap-words h k =
+      let r = row-list n w A h k in
+      record {
+        first = sym (r .head);
+        last = sym (r .last);
+        least = sym (minimum-at h k);
+        items = A .heap h k .count ∙ sym (count-at n w h);
+      }
 
   says : (f : Field) (i : ℕ) → i < fieldSize n f → look n w f i ≡ word s f i
   unfolding word heapAt markAt
   says =
-      by-heaps (λ f. (i : ℕ) → i < fieldSize n f → look n w f i ≡ word s f i)
-      heap-says
+      by-heaps n w s heap-words
       (λ i k. sym (key-at n w i k))
       (λ i k. sym (parent-at n w i k))
       (λ i k.
