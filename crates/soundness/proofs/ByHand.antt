@@ -1,7 +1,7 @@
 -- The table of examples holds, by computation.
 use mathlib.Core.Path.{refl}
 use Rattle.rules.specs.Forests.{count}
-use Rattle.rules.specs.Lists.{sumBy, sumTo}
+use Rattle.rules.specs.Lists.{sumBy, sumTo, tabulateFrom}
 use Rattle.rules.specs.Order.{comesBefore, leastOf, leastIn, minimum}
 use Rattle.rules.specs.Words.{
   storeSize,
@@ -23,6 +23,7 @@ use Rattle.rules.specs.Words.{
   encode,
   follow,
   listFrom,
+  decode,
 }
 use Rattle.store.specs.ItemOrder.{itemKey}
 use Rattle.soundness.specs.Check.{
@@ -34,7 +35,6 @@ use Rattle.soundness.specs.Check.{
   linked,
   listOk,
   rootUnmarked,
-  minimumFirst,
   parentInHeap,
   inHeapOrder,
   parentOk,
@@ -66,7 +66,7 @@ use Rattle.soundness.specs.Examples.{
 pub examplesHold : ExamplesHold
 unfolding ExamplesHold examples byCheck but sample full small ownParent threeTrees soundWords isStore itemsIn
     storeSize allOk ranksAt treesAt heapOk countRight itemOk memberOk freeZero childRanksOk childRankOk minimumRight
-    parentOk inHeapOrder parentInHeap minimumFirst rootUnmarked listOk linked namesOwner listFrom follow countAt
+    parentOk inHeapOrder parentInHeap rootUnmarked listOk linked namesOwner listFrom follow decode countAt
     itemKey markAt heapAt allTo encode wordsOf storeFields storeField word stateMark stateHeap
-    stateOf unlessFree siblings prevIn nextIn lastOr headOr minimum leastIn leastOf comesBefore sumTo sumBy count
+    stateOf unlessFree siblings prevIn nextIn lastOr headOr minimum leastIn leastOf comesBefore sumTo sumBy tabulateFrom count
 examplesHold = refl

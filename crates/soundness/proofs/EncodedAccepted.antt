@@ -26,6 +26,7 @@ use Rattle.rules.specs.Order.{leastIn, minimum}
 use Rattle.rules.specs.WellFormed.{isRootOf, isChildOf, Disjoint, HeapOrdered, KeysFit, WellFormed}
 use Rattle.rules.specs.Words.{look, headOr, unlessFree, word, encode}
 use Rattle.rules.proofs.Excused.{to-formed}
+use Rattle.rules.proofs.DecodeEncode.{decode-encode}
 use Rattle.rules.proofs.Members.{out-heap, heap-in, root-row, row-root, free-children}
 use Rattle.rules.proofs.Minimum.{leastOf-in, none-before, minimum-in-row}
 use Rattle.rules.proofs.Occurs.{delta-self}
@@ -45,7 +46,7 @@ use Rattle.soundness.proofs.Encoded.{
   children-ranks,
 }
 use Rattle.soundness.proofs.HeapTests.{HeapRight}
-use Rattle.soundness.proofs.ItemTests.{Free, Root, Child, Member}
+use Rattle.soundness.proofs.ItemTests.{Free, Child, Member}
 use Rattle.soundness.proofs.Lists.{Owned}
 use Rattle.soundness.proofs.States.{state-low}
 use Rattle.soundness.proofs.Tight.{both-sum, one-place, both-ways}
@@ -77,24 +78,6 @@ module _ (s : Forests) (W : WellFormed s) where
         rank = says s W Rank i k ∙ ap length (free-children s D i k h);
       }
 
-  root : (i : ℕ) → i < n → heapOf s i ≢ 0 → look n w Parent i ≡ none → Root n w i (look n w Minimum (heapAt n w i - 1))
-  unfolding word
-  root i k m e =
-      let p : parentOf s i ≡ none = sym (says s W Parent i k) ∙ e in
-      let h = heapNumber s i in
-      let hh : heapOf s i ≡ suc h = omega arith in
-      let q : h ≡ heapAt n w i - 1 = omega (arith, heap-is s W i k) in
-      let v : look n w Minimum h ≡ minimum s h = says s W Minimum h (omega (arith, D .heaps i)) in
-      let d =
-      row-root s D h (minimum s h) (minimum-in-row s h i (omega (arith, root-row s D h i hh p))) in
-      let j : minimum s h < n = heap-in s (minimum s h) (λ z. omega (arith, d .0, z)) in
-      subst (λ g. Root n w i (look n w Minimum g)) q
-      (record {
-        unmarked = mark-is s W i k ∙ D .rootsUnmarked i p;
-        inside = rw v j;
-        order = rw v (precedes-is s W i (minimum s h) k j ∙ none-before s (to-formed s W) h i hh);
-      })
-
   child : (i : ℕ) → i < n → heapOf s i ≢ 0 → look n w Parent i ≢ none → Child n w i (look n w Parent i)
   unfolding word HeapOrdered
   child i k m e =
@@ -115,7 +98,7 @@ module _ (s : Forests) (W : WellFormed s) where
       record {
         state = state-low (look n w State i) (omega (arith, heap-is s W i k, D .heaps i));
         key = omega (arith, says s W Key i k, W .keys i);
-        root = root i k h;
+        root = λ e. mark-is s W i k ∙ D .rootsUnmarked i (sym (says s W Parent i k) ∙ e);
         child = child i k h;
         children = children-passes s W i k h;
         rank = children-rank s W i k h;
@@ -124,43 +107,12 @@ module _ (s : Forests) (W : WellFormed s) where
 
   -- ---- heaps
 
-  -- a heap with a tree has its minimum in the row, one without has none
-  some-tree : (h : ℕ) → h < 8 → look n w FirstTree h ≢ none → 1 ≤ occurs (minimum s h) (rowOf s h)
-  unfolding word minimum leastIn headOr
-  some-tree h k m = go (rowOf s h) (says s W FirstTree h k)
-    where
-      go : (l : List ℕ) → look n w FirstTree h ≡ headOr none l → 1 ≤ occurs (leastIn (s .key) l) l
-      go [] e = absurd (m e)
-      go (x ∷ l) e = leastOf-in (s .key) x l
-
-  no-tree : (h : ℕ) → h < 8 → look n w FirstTree h ≡ none → minimum s h ≡ none
-  unfolding word minimum leastIn headOr occurs sumBy
-  no-tree h k m = go (rowOf s h) (row-root s D h) (sym (says s W FirstTree h k) ∙ m)
-    where
-      go : (l : List ℕ) → ((x : ℕ) → 1 ≤ occurs x l → (heapOf s x ≡ suc h) × (parentOf s x ≡ none))
-          → headOr none l ≡ none → leastIn (s .key) l ≡ none
-      go [] f e = refl
-      go (x ∷ l) f e =
-          let z : heapOf s x ≢ 0 = λ q. omega (arith, f x (omega (arith, delta-self x)) .0) in
-          absurd (omega (arith, heap-in s x z, D .small))
-
   heap : (h : ℕ) → h < 8 → HeapRight n w h
   unfolding word
   heap h k =
-      let v : look n w Minimum h ≡ minimum s h = says s W Minimum h k in
       record {
         row = row-passes s W h k;
-        noTree = λ m. v ∙ no-tree h k m;
-        least =
-            λ m.
-            let d = row-root s D h (minimum s h) (some-tree h k m) in
-            let j : minimum s h < n = heap-in s (minimum s h) (λ z. omega (arith, d .0)) in
-            subst (Owned n w (rowAt n w h)) (sym v)
-            (record {
-              inside = j;
-              heap = heap-is s W (minimum s h) j ∙ d .0;
-              parent = says s W Parent (minimum s h) j ∙ d .1;
-            });
+        least = says s W Minimum h k ∙ ap (λ t. minimum t h) (sym (decode-encode s D));
         count = says s W Count h k ∙ sym (count-is s W h);
       }
 

@@ -1,14 +1,13 @@
 -- The tests of an item, taken apart: what they say when they pass.
-use Prim.Native.Nat.{ℕ, _-_, _≤_, _<_}
+use Prim.Native.Nat.{ℕ, _≤_, _<_}
 use mathlib.Core.Path.{_≡_, refl}
 use mathlib.Core.Logic.{_≢_}
 use mathlib.Core.List.{List}
 use mathlib.Core.Bool.{Bool, true, false, cond, _&&_}
 use lib.ListN.{length}
 use lib.Dec.{eqb}
-use borrow.Author.Tests.{eqb-true, eqb-false, ltb-true, lt-ltb, leb-true, le-leb, eq-eqb, ne-eqb, not-true}
+use borrow.Author.Tests.{eqb-true, eqb-false, ltb-true, lt-ltb, leb-true, le-leb, eq-eqb, ne-eqb}
 use Rattle.rules.specs.declared.Field.the-variants.{
-  Minimum,
   Key,
   Parent,
   FirstChild,
@@ -30,7 +29,6 @@ use Rattle.soundness.specs.Check.{
   listOf,
   listOk,
   rootUnmarked,
-  minimumFirst,
   parentInHeap,
   inHeapOrder,
   parentOk,
@@ -51,11 +49,6 @@ module _ (n : ℕ) (w : List ℕ) where
     pub prev : look n w Prev i ≡ 0
     pub rank : look n w Rank i ≡ 0
 
-  pub record Root (i least : ℕ) : Type 0 where
-    pub unmarked : markAt n w i ≡ 0
-    pub inside : least < n
-    pub order : comesBefore (itemKey (look n w)) i least ≡ false
-
   pub record Child (i p : ℕ) : Type 0 where
     pub inside : p < n
     pub heap : heapAt n w p ≡ heapAt n w i
@@ -65,7 +58,7 @@ module _ (n : ℕ) (w : List ℕ) where
   pub record Member (i : ℕ) : Type 0 where
     pub state : look n w State i ≤ 16
     pub key : look n w Key i ≤ 4294967295
-    pub root : look n w Parent i ≡ none → Root i (look n w Minimum (heapAt n w i - 1))
+    pub root : look n w Parent i ≡ none → markAt n w i ≡ 0
     pub child : look n w Parent i ≢ none → Child i (look n w Parent i)
     pub children : listOk n w (childrenAt n w i) ≡ true
     pub rank : length (listOf n w (childrenAt n w i)) ≡ look n w Rank i
@@ -92,18 +85,6 @@ module _ (n : ℕ) (w : List ℕ) where
         rank = eqb-true (look n w Rank i) 0 (a .1);
       }
 
-  is-root : (i : ℕ) → (rootUnmarked n w i && minimumFirst n w i) ≡ true → Root i (look n w Minimum (heapAt n w i - 1))
-  unfolding rootUnmarked minimumFirst
-  is-root i e =
-      let least = look n w Minimum (heapAt n w i - 1) in
-      let a = and-split _ _ e in
-      let b = and-split _ _ (a .1) in
-      record {
-        unmarked = eqb-true (markAt n w i) 0 (a .0);
-        inside = ltb-true least n (b .0);
-        order = not-true (comesBefore (itemKey (look n w)) i least) (b .1);
-      }
-
   is-child : (i : ℕ) → (parentInHeap n w i && inHeapOrder n w i) ≡ true → Child i (look n w Parent i)
   unfolding parentInHeap inHeapOrder
   is-child i e =
@@ -117,7 +98,7 @@ module _ (n : ℕ) (w : List ℕ) where
       }
 
   pub is-member : (i : ℕ) → itemOk n w i ≡ true → look n w State i ≢ 0 → Member i
-  unfolding itemOk memberOk parentOk
+  unfolding itemOk memberOk parentOk rootUnmarked
   is-member i e z =
       let a = and-split _ _ (rw (ne-eqb (look n w State i) 0 z) at e) in
       let b = and-split _ _ (a .0) in
@@ -127,7 +108,7 @@ module _ (n : ℕ) (w : List ℕ) where
       record {
         state = leb-true (look n w State i) 16 (f .0);
         key = leb-true (look n w Key i) 4294967295 (f .1);
-        root = λ p. is-root i (rw (eq-eqb (look n w Parent i) none p) at (d .1));
+        root = λ p. eqb-true (markAt n w i) 0 (rw (eq-eqb (look n w Parent i) none p) at (d .1));
         child = λ p. is-child i (rw (ne-eqb (look n w Parent i) none p) at (d .1));
         children = c .1;
         rank = eqb-true (length (listOf n w (childrenAt n w i))) (look n w Rank i) (b .1);
@@ -142,14 +123,12 @@ module _ (n : ℕ) (w : List ℕ) where
       rw (eq-eqb (look n w State i) 0 z, r .key, r .parent, r .first, r .last, r .next, r .prev, r .rank)
 
   parent-passes : (i : ℕ) → Member i → parentOk n w i ≡ true
-  unfolding parentOk rootUnmarked minimumFirst parentInHeap inHeapOrder
+  unfolding parentOk rootUnmarked parentInHeap inHeapOrder
   parent-passes i r = go (eqb (look n w Parent i) none) refl
     where
       go : (t : Bool) → eqb (look n w Parent i) none ≡ t
-          → cond t (rootUnmarked n w i && minimumFirst n w i) (parentInHeap n w i && inHeapOrder n w i) ≡ true
-      go true e =
-          let a = r .root (eqb-true (look n w Parent i) none e) in
-          rw (a .unmarked, a .order, lt-ltb (look n w Minimum (heapAt n w i - 1)) n (a .inside))
+          → cond t (rootUnmarked n w i) (parentInHeap n w i && inHeapOrder n w i) ≡ true
+      go true e = eq-eqb (markAt n w i) 0 (r .root (eqb-true (look n w Parent i) none e))
       go false e =
           let a = r .child (eqb-false (look n w Parent i) none e) in
           rw (

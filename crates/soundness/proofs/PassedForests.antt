@@ -74,7 +74,7 @@ module _ (n : ℕ) (w : List ℕ) (A : Passed n w) where
       byPlace n x
       (λ i.
       byZero (heapAt n w x) (λ h. free x (heap-at n w x i ∙ h) .2)
-      (λ m. mark-at n w x i ∙ A .member x i m .root (sym (parent-at n w x i) ∙ e) .unmarked))
+      (λ m. mark-at n w x i ∙ A .member x i m .root (sym (parent-at n w x i) ∙ e)))
       (λ o. out-mark n w x o)
 
   pub disjoint : Disjoint s

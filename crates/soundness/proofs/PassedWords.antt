@@ -99,44 +99,6 @@ module _ (n : ℕ) (w : List ℕ) (A : Passed n w) where
           let r = children-list n w A (parentOf s i) g hp in
           (r .next i j, prevs-in (look n w Prev) none i (childrenOf s (parentOf s i)) (r .prevs) j)
 
-  -- ---- the heaps' words
-
-  row-nil : (h : ℕ) → h < 8 → look n w FirstTree h ≡ none → rowOf s h ≡ []
-  unfolding occurs sumBy headOr
-  row-nil h k e = go (rowOf s h) (row-list n w A h k)
-    where
-      go : (l : List ℕ) → Listed n w (rowAt n w h) l → l ≡ []
-      go [] r = refl
-      go (x ∷ l) r = absurd (omega (arith, r .own x (omega (arith, delta-self x)) .inside, r .head, e, A .small))
-
-  minimum-some : (h : ℕ) → h < 8 → look n w FirstTree h ≢ none → minimum s h ≡ look n w Minimum h
-  minimum-some h k m =
-      let least = look n w Minimum h in
-      let c = A .heap h k .least m in
-      minimum-unique s (disjoint n w A) h least
-      (omega (
-        arith,
-        root-row s (disjoint n w A) h least (heap-at n w least (c .inside) ∙ c .heap)
-            (parent-at n w least (c .inside) ∙ c .parent),
-      ))
-      (λ z j.
-      let o = row-list n w A h k .own z j in
-      let d : heapAt n w z ≢ 0 = λ e. omega (arith, o .heap) in
-      let r = A .member z (o .inside) d .root (o .parent) in
-      precedes-at n w z least (o .inside) (c .inside)
-      ∙ subst (λ g. comesBefore (itemKey (look n w)) z (look n w Minimum g) ≡ false) (omega (arith, o .heap))
-      (r .order))
-
-  minimum-at : (h : ℕ) → h < 8 → minimum s h ≡ look n w Minimum h
-  unfolding minimum leastIn
-  minimum-at h k = go (eqb (look n w FirstTree h) none) refl
-    where
-      go : (t : Bool) → eqb (look n w FirstTree h) none ≡ t → minimum s h ≡ look n w Minimum h
-      go true e =
-          let q = eqb-true (look n w FirstTree h) none e in
-          rw (row-nil h k q) (sym (A .heap h k .noTree q))
-      go false e = minimum-some h k (eqb-false (look n w FirstTree h) none e)
-
   -- ---- every word
 
   heap-words : (h : ℕ) → h < 8 → HeapWords n w s h
@@ -145,7 +107,7 @@ module _ (n : ℕ) (w : List ℕ) (A : Passed n w) where
       record {
         first = sym (r .head);
         last = sym (r .last);
-        least = sym (minimum-at h k);
+        least = A .heap h k .least;
         items = A .heap h k .count ∙ sym (count-at n w h);
       }
 

@@ -2,7 +2,7 @@
 -- kind and number; where it lies is not said here.
 use Prim.Native.Nat.{ℕ, zero, suc, _+_, _-_}
 use mathlib.Core.List.{List, [], _∷_}
-use mathlib.Core.Bool.{Bool, true, cond, not, _&&_}
+use mathlib.Core.Bool.{Bool, true, cond, _&&_}
 use lib.ListN.{length}
 use lib.Dec.{eqb, ltb, leb}
 use Rattle.rules.specs.declared.Field.the-variants.{
@@ -22,8 +22,8 @@ use Rattle.rules.specs.declared.Field.the-variants.{
 use Rattle.soundness.specs.declared.Siblings.{Siblings}
 use Rattle.rules.specs.Lists.{indicator, sumTo}
 use Rattle.rules.specs.Forests.{none}
-use Rattle.rules.specs.Order.{comesBefore}
-use Rattle.rules.specs.Words.{itemsIn, isStore, look, headOr, lastOr, stateHeap, stateMark, listFrom}
+use Rattle.rules.specs.Order.{comesBefore, minimum}
+use Rattle.rules.specs.Words.{itemsIn, isStore, look, headOr, lastOr, stateHeap, stateMark, listFrom, decode}
 use Rattle.store.specs.ItemOrder.{itemKey}
 use Rattle.store.specs.Says.{Values}
 
@@ -49,10 +49,6 @@ module _ (n : ℕ) (w : List ℕ) where
   -- how many items have this heap
   unfoldable pub countAt : ℕ → ℕ
   countAt heap = sumTo n (λ i. indicator (eqb (heapAt i) heap))
-
-  -- by their keys, item a comes before item b
-  abbrev pub before : ℕ → ℕ → Bool
-  before a b = comesBefore (itemKey v) a b
 
   -- the row of heap h and the children of item i: what each item there must name, and the words for the two ends
   abbrev pub rowAt : ℕ → Siblings
@@ -82,33 +78,21 @@ module _ (n : ℕ) (w : List ℕ) where
   listOk l =
       linked l none (listOf l) && eqb (l .first) (headOr none (listOf l)) && eqb (l .last) (lastOr none (listOf l))
 
-  -- ---- heap order, marks, minima and ranks
+  -- ---- heap order, marks and ranks
 
   -- a root is unmarked
   unfoldable pub rootUnmarked : ℕ → Bool
   rootUnmarked i = eqb (markAt i) 0
 
-  -- a root does not come before the minimum of its heap, which is an item
-  unfoldable pub minimumFirst : ℕ → Bool
-  minimumFirst i = let least = v Minimum (heapAt i - 1) in ltb least n && not (before i least)
-
-  -- the parent is an item of the same heap
+  -- the parent is an item of the same heap, and comes before its child
   unfoldable pub parentInHeap : ℕ → Bool
   parentInHeap i = ltb (v Parent i) n && eqb (heapAt (v Parent i)) (heapAt i)
 
-  -- the parent comes before its child
   unfoldable pub inHeapOrder : ℕ → Bool
-  inHeapOrder i = before (v Parent i) i
+  inHeapOrder i = comesBefore (itemKey v) (v Parent i) i
 
-  -- the first two are for roots, the others for items with a parent
   unfoldable pub parentOk : ℕ → Bool
-  parentOk i =
-      cond (eqb (v Parent i) none) (rootUnmarked i && minimumFirst i) (parentInHeap i && inHeapOrder i)
-
-  -- the minimum of heap h: none where there is no tree, else a root of this heap
-  unfoldable pub minimumRight : ℕ → Bool
-  minimumRight h =
-      cond (eqb (v FirstTree h) none) (eqb (v Minimum h) none) (namesOwner (rowAt h) (v Minimum h))
+  parentOk i = cond (eqb (v Parent i) none) (rootUnmarked i) (parentInHeap i && inHeapOrder i)
 
   -- item c may be the i-th child (from 1): its rank is at least i - 1, or i - 2 if it is marked
   unfoldable pub childRankOk : ℕ → ℕ → Bool
@@ -138,7 +122,10 @@ module _ (n : ℕ) (w : List ℕ) where
 
   -- ---- a heap
 
-  -- the count is the number of its items
+  -- the minimum is that of the forests that are read, and the count is the number of items that name the heap
+  unfoldable pub minimumRight : ℕ → Bool
+  minimumRight h = eqb (v Minimum h) (minimum (decode n w) h)
+
   unfoldable pub countRight : ℕ → Bool
   countRight h = eqb (v Count h) (countAt (suc h))
 
