@@ -1,14 +1,13 @@
 -- The words of well-formed forests pass.
-use Prim.Native.Nat.{ℕ, suc, _+_, _-_, _≤_, _<_}
-use mathlib.Core.Path.{_≡_, refl, sym, ap, _∙_, subst}
+use Prim.Native.Nat.{ℕ, _+_, _≤_, _<_}
+use mathlib.Core.Path.{_≡_, sym, ap, _∙_, subst}
 use mathlib.Core.Logic.{_≢_}
-use mathlib.Core.List.{List, [], _∷_}
+use mathlib.Core.List.{List}
 use mathlib.Core.Bool.{not}
 use native.Mathlib.Omega.{arith}
 use lib.ListN.{length}
 use lib.Dec.{eqb, eqb·zero-suc}
 use Rattle.rules.specs.declared.Field.the-variants.{
-  FirstTree,
   Minimum,
   Count,
   Key,
@@ -20,16 +19,13 @@ use Rattle.rules.specs.declared.Field.the-variants.{
   Rank,
   State,
 }
-use Rattle.rules.specs.Lists.{indicator, sumBy, sumTo, occurs}
-use Rattle.rules.specs.Forests.{Forests, none, rowOf, childrenOf, parentOf, heapOf, heapNumber, tableSize}
-use Rattle.rules.specs.Order.{leastIn, minimum}
+use Rattle.rules.specs.Lists.{indicator, sumTo, occurs}
+use Rattle.rules.specs.Forests.{Forests, none, rowOf, childrenOf, parentOf, heapOf, tableSize}
+use Rattle.rules.specs.Order.{minimum}
 use Rattle.rules.specs.WellFormed.{isRootOf, isChildOf, Disjoint, HeapOrdered, KeysFit, WellFormed}
-use Rattle.rules.specs.Words.{look, headOr, unlessFree, word, encode}
-use Rattle.rules.proofs.Excused.{to-formed}
+use Rattle.rules.specs.Words.{look, unlessFree, word, encode}
 use Rattle.rules.proofs.DecodeEncode.{decode-encode}
-use Rattle.rules.proofs.Members.{out-heap, heap-in, root-row, row-root, free-children}
-use Rattle.rules.proofs.Minimum.{leastOf-in, none-before, minimum-in-row}
-use Rattle.rules.proofs.Occurs.{delta-self}
+use Rattle.rules.proofs.Members.{out-heap, free-children}
 use Rattle.rules.proofs.SumTo.{sumTo-cong}
 use Rattle.soundness.specs.Check.{heapAt, countAt, rowAt, listOf, treesAt, ranksAt}
 use Rattle.soundness.proofs.Passed.{Passed}
@@ -47,7 +43,6 @@ use Rattle.soundness.proofs.Encoded.{
 }
 use Rattle.soundness.proofs.HeapTests.{HeapRight}
 use Rattle.soundness.proofs.ItemTests.{Free, Child, Member}
-use Rattle.soundness.proofs.Lists.{Owned}
 use Rattle.soundness.proofs.States.{state-low}
 use Rattle.soundness.proofs.Tight.{both-sum, one-place, both-ways}
 

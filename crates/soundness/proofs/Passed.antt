@@ -9,7 +9,7 @@ use borrow.Author.Tests.{eqb-true, eqb-false, ltb-true, ltb-false, eq-eqb}
 use Rattle.rules.specs.declared.Field.the-variants.{State}
 use Rattle.rules.specs.Words.{look}
 use Rattle.rules.proofs.Occurs.{and-split}
-use Rattle.soundness.specs.Check.{allTo, heapAt, countAt, itemOk, heapOk, treesAt, ranksAt, allOk}
+use Rattle.soundness.specs.Check.{heapAt, countAt, itemOk, heapOk, treesAt, ranksAt, allOk}
 use Rattle.soundness.proofs.Booleans.{allTo-at, allTo-all}
 use Rattle.soundness.proofs.HeapTests.{HeapRight, is-heap, heap-passes}
 use Rattle.soundness.proofs.ItemTests.{Free, Member, is-free, is-member, free-passes, member-passes}

@@ -1,8 +1,8 @@
 -- The words of a store that passes are those of the forests that are read from it.
-use Prim.Native.Nat.{ℕ, suc, _-_, _≤_, _<_}
-use mathlib.Core.Path.{_≡_, refl, sym, _∙_, subst}
+use Prim.Native.Nat.{ℕ, suc, _≤_, _<_}
+use mathlib.Core.Path.{_≡_, refl, sym, _∙_}
 use mathlib.Core.Logic.{_≢_}
-use mathlib.Core.List.{List, [], _∷_}
+use mathlib.Core.List.{List}
 use mathlib.Core.Bool.{Bool, true, false, cond}
 use native.Mathlib.Omega.{arith}
 use lib.ListN.{length}
@@ -10,17 +10,14 @@ use lib.Dec.{eqb}
 use borrow.Author.Tests.{eqb-true, eqb-false, ne-eqb}
 use Rattle.rules.specs.declared.Field.{Field}
 use Rattle.rules.specs.declared.Field.the-variants.{
-  FirstTree,
-  Minimum,
   FirstChild,
   LastChild,
   Next,
   Prev,
   State,
 }
-use Rattle.rules.specs.Lists.{sumBy, occurs}
+use Rattle.rules.specs.Lists.{occurs}
 use Rattle.rules.specs.Forests.{Forests, none, rowOf, childrenOf, parentOf, heapOf, heapNumber}
-use Rattle.rules.specs.Order.{comesBefore, leastIn, minimum}
 use Rattle.rules.specs.Words.{
   storeSize,
   fieldSize,
@@ -36,12 +33,9 @@ use Rattle.rules.specs.Words.{
   decode,
 }
 use Rattle.rules.proofs.Members.{root-row, parent-child}
-use Rattle.rules.proofs.Minimum.{minimum-unique}
-use Rattle.rules.proofs.Occurs.{delta-self}
 use Rattle.rules.proofs.Words.{words-equal}
-use Rattle.store.specs.ItemOrder.{itemKey}
 use Rattle.store.proofs.Heaps.{HeapWords, by-heaps}
-use Rattle.soundness.specs.Check.{heapAt, markAt, rowAt}
+use Rattle.soundness.specs.Check.{heapAt, markAt}
 use Rattle.soundness.proofs.Passed.{Passed, byZero}
 use Rattle.soundness.proofs.PassedForests.{disjoint}
 use Rattle.soundness.proofs.PassedLists.{row-list, children-list, rank-is}
@@ -51,11 +45,9 @@ use Rattle.soundness.proofs.Decoded.{
   heap-at,
   mark-at,
   length-heap,
-  precedes-at,
   count-at,
 }
 use Rattle.soundness.proofs.Links.{prevs-in}
-use Rattle.soundness.proofs.Lists.{Listed}
 use Rattle.soundness.proofs.States.{state-again}
 
 module _ (n : ℕ) (w : List ℕ) (A : Passed n w) where

@@ -6,7 +6,7 @@ use mathlib.Core.Path.{_≡_, _∙_}
 use native.Mathlib.Numerals.{add-one}
 use native.Mathlib.Omega.{arith}
 use Rattle.soundness.proofs.Booleans.{told-true, told-false}
-use Rattle.audit.specs.Promises.{stepOk, ifOk, lengthIfOk}
+use Rattle.audit.specs.Promises.{stepOk, lengthIfOk}
 use Rattle.audit.proofs.Walks.{
   lengthFrom,
   step-inside,
