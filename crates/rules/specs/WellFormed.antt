@@ -52,8 +52,8 @@ unfoldable pub HeapOrdered : Forests → Type 0
 HeapOrdered s =
     (x : ℕ) → heapOf s x ≢ 0 → parentOf s x ≢ none → precedes (s .key) (parentOf s x) x ≡ true
 
--- Of children that are the i-th (from 1), the next and so on: the i-th has a rank of at least i - 1, or i - 2 if it is
--- marked (0 where that is negative).
+-- The children from the i-th on, counted from 1: its rank is at least i - 1, or i - 2 if it is marked; then the next.
+-- (A difference below 0 is 0 here, and asks nothing of a first child that is marked.)
 abbrev pub ChildRanks : Forests → ℕ → List ℕ → Type 0
 ChildRanks s i [] = Unit {0}
 ChildRanks s i (c ∷ cs) = (i - (1 + markOf s c) ≤ rankOf s c) × ChildRanks s (suc i) cs

@@ -1,5 +1,6 @@
--- The check of a kept store: tests on its words alone (scope paper, Store, "Sound", and code 5). A word is read by its
--- kind and number; where it lies is not said here.
+-- The check of a kept store: tests on its words alone (scope paper, Store, "Sound", and code 5), a test for each thing
+-- that the paper says. `SoundExact` (Theorems) says that together they accept the sound words and no others. A word is
+-- read by its kind and number; where it lies is not said here.
 use Prim.Native.Nat.{ℕ, zero, suc, _+_, _-_}
 use mathlib.Core.List.{List, [], _∷_}
 use mathlib.Core.Bool.{Bool, true, cond, _&&_}
@@ -35,45 +36,45 @@ allTo (suc n) f = allTo n f && f n
 module _ (n : ℕ) (w : List ℕ) where
   -- ---- what the words of a store for n items say
 
-  -- word i of a kind
+  -- v f i: word i of kind f
   abbrev v : Values
   v = look n w
 
-  -- the heap (0 for a free item, else 1 + its number) and the mark of an item
+  -- the heap of an item, 1 + its number (0 for a free item), and its mark
   unfoldable pub heapAt : ℕ → ℕ
   heapAt i = stateHeap (v State i)
 
   unfoldable pub markAt : ℕ → ℕ
   markAt i = stateMark (v State i)
 
-  -- how many items have this heap
+  -- how many items are in such a heap (0: are free)
   unfoldable pub countAt : ℕ → ℕ
   countAt heap = sumTo n (λ i. indicator (eqb (heapAt i) heap))
 
-  -- the row of heap h and the children of item i: what each item there must name, and the words for the two ends
+  -- the row of heap h and the children of item i: the heap and the parent of all in it, and the words for its two ends
   abbrev pub rowAt : ℕ → Siblings
   rowAt h = record { heap = suc h; parent = none; first = v FirstTree h; last = v LastTree h }
 
   abbrev pub childrenAt : ℕ → Siblings
   childrenAt i = record { heap = heapAt i; parent = i; first = v FirstChild i; last = v LastChild i }
 
-  -- the items of such a list, as `decode` follows them
+  -- the items of such a list, followed from the first for n items at most, as `decode` does
   abbrev pub listOf : Siblings → List ℕ
   listOf l = listFrom n w (l .first)
 
-  -- ---- disjoint forests: no item stands in two lists, or twice in one
+  -- ---- lists: an item stands in no list but the one that its words name, and there once
 
-  -- item x is in the table and names the heap and the parent of the list
+  -- item x is in the table, and its heap and parent are those of the list
   unfoldable pub namesOwner : Siblings → ℕ → Bool
   namesOwner l x = ltb x n && eqb (heapAt x) (l .heap) && eqb (v Parent x) (l .parent)
 
-  -- each item names its owner, and the items before and after it; the first has prev before it
+  -- each item of the list xs names its owner, and the items before and after it; prev stands before the first
   unfoldable pub linked : Siblings → ℕ → List ℕ → Bool
   linked l prev [] = true
   linked l prev (x ∷ xs) =
       namesOwner l x && eqb (v Prev x) prev && eqb (v Next x) (headOr none xs) && linked l x xs
 
-  -- the list is linked, and the two words for its ends name them
+  -- a list is linked, and the words for its ends name them (so a circle fails: what is read of it has no end)
   unfoldable pub listOk : Siblings → Bool
   listOk l =
       linked l none (listOf l) && eqb (l .first) (headOr none (listOf l)) && eqb (l .last) (lastOr none (listOf l))
@@ -84,10 +85,11 @@ module _ (n : ℕ) (w : List ℕ) where
   unfoldable pub rootUnmarked : ℕ → Bool
   rootUnmarked i = eqb (markAt i) 0
 
-  -- the parent is an item of the same heap, and comes before its child
+  -- any other item has a parent in the same heap
   unfoldable pub parentInHeap : ℕ → Bool
   parentInHeap i = ltb (v Parent i) n && eqb (heapAt (v Parent i)) (heapAt i)
 
+  -- which comes before it
   unfoldable pub inHeapOrder : ℕ → Bool
   inHeapOrder i = comesBefore (itemKey v) (v Parent i) i
 
@@ -98,20 +100,20 @@ module _ (n : ℕ) (w : List ℕ) where
   unfoldable pub childRankOk : ℕ → ℕ → Bool
   childRankOk i c = leb (i - (1 + markAt c)) (v Rank c)
 
-  -- so it is with children that are the i-th, the next and so on
+  -- the same of all children from the i-th on
   unfoldable pub childRanksOk : ℕ → List ℕ → Bool
   childRanksOk i [] = true
   childRanksOk i (c ∷ cs) = childRankOk i c && childRanksOk (suc i) cs
 
   -- ---- an item
 
-  -- all words of a free item are 0 (its state is)
+  -- free, its state being 0: so are its other words
   unfoldable pub freeZero : ℕ → Bool
   freeZero i =
       eqb (v Key i) 0 && eqb (v Parent i) 0 && eqb (v FirstChild i) 0 && eqb (v LastChild i) 0 && eqb (v Next i) 0
       && eqb (v Prev i) 0 && eqb (v Rank i) 0
 
-  -- any other is in one of eight heaps and has a key of 32 bits; its children are as many as its rank says
+  -- in one of eight heaps, with a key of 32 bits; its children are as many as its rank
   unfoldable pub memberOk : ℕ → Bool
   memberOk i =
       leb (v State i) 16 && leb (v Key i) 4294967295 && parentOk i && listOk (childrenAt i)
@@ -122,10 +124,11 @@ module _ (n : ℕ) (w : List ℕ) where
 
   -- ---- a heap
 
-  -- the minimum is that of the forests that are read, and the count is the number of items that name the heap
+  -- its minimum is the least root, as in the forests that are read from the words
   unfoldable pub minimumRight : ℕ → Bool
   minimumRight h = eqb (v Minimum h) (minimum (decode n w) h)
 
+  -- its count is the number of its items
   unfoldable pub countRight : ℕ → Bool
   countRight h = eqb (v Count h) (countAt (suc h))
 
