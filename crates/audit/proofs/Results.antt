@@ -17,7 +17,7 @@ use Rattle.soundness.specs.Check.{
   allTo,
   rowAt,
   childrenAt,
-  listOf,
+  listAt,
   listOk,
   parentOk,
   childRanksOk,
@@ -62,8 +62,8 @@ module _ (n : ℕ) (w : List ℕ) (i : ℕ) where
   -- what is tested of an item in a heap besides its state and key, whose parent's test is p
   abbrev tests : Bool → ℕ → Bool
   tests p rank =
-      p && listOk n w (childrenAt n w i) && eqb (length (listOf n w (childrenAt n w i))) rank
-      && childRanksOk n w 1 (listOf n w (childrenAt n w i))
+      p && listOk n w (childrenAt n w i) && eqb (length (listAt n w (childrenAt n w i))) rank
+      && childRanksOk n w 1 (listAt n w (childrenAt n w i))
 
   pub children-tests : (p : Bool) (rank : ℕ) → i < n → n ≤ 4096
       → (p && eqb (lengthIfOk n w (childrenAt n w i)) (rank + 1)) ≡ tests p rank
@@ -82,7 +82,7 @@ module _ (n : ℕ) (w : List ℕ) (i : ℕ) where
 module _ (n : ℕ) (w : List ℕ) (h : ℕ) where
   -- the answer on its row
   abbrev pub rowIfOk : ℕ
-  rowIfOk = ifOk (listOk n w (rowAt n w h)) (length (listOf n w (rowAt n w h)))
+  rowIfOk = ifOk (listOk n w (rowAt n w h)) (length (listAt n w (rowAt n w h)))
 
   pub row-answer : (heap first last r : ℕ) → heap ≡ h + 1 → first ≡ look n w FirstTree h → last ≡ look n w LastTree h
       → r ≡ lengthIfOk n w (record { heap = heap; parent = none; first = first; last = last }) → r ≡ rowIfOk
@@ -91,7 +91,7 @@ module _ (n : ℕ) (w : List ℕ) (h : ℕ) where
 
   pub row-wrong : (r : ℕ) → r ≡ rowIfOk → r ≡ 0 → 0 ≡ heapIfOk n w h
   unfolding heapOk
-  row-wrong r e z = rw (ok-zero (listOk n w (rowAt n w h)) (length (listOf n w (rowAt n w h))) r e z)
+  row-wrong r e z = rw (ok-zero (listOk n w (rowAt n w h)) (length (listAt n w (rowAt n w h))) r e z)
 
   -- what is tested besides, and the answer then
   pub heap-tests : (r : ℕ) → r ≡ rowIfOk → r ≢ 0 → (t : Bool) → (minimumRight n w h && countRight n w h) ≡ t
@@ -99,7 +99,7 @@ module _ (n : ℕ) (w : List ℕ) (h : ℕ) where
   unfolding heapOk
   heap-tests r e m t q =
       let l : listOk n w (rowAt n w h) ≡ true =
-      ok-more (listOk n w (rowAt n w h)) (length (listOf n w (rowAt n w h))) r e m .0 in
+      ok-more (listOk n w (rowAt n w h)) (length (listAt n w (rowAt n w h))) r e m .0 in
       rw (e, l, q)
 
   pub row-inside : h < 8 → (r : ℕ) → r ≡ rowIfOk → r ≢ 0 → RowInside n w h
@@ -108,7 +108,7 @@ module _ (n : ℕ) (w : List ℕ) (h : ℕ) where
         heap = k;
         inside = λ x i.
             is-listed n w (rowAt n w h)
-            (ok-more (listOk n w (rowAt n w h)) (length (listOf n w (rowAt n w h))) r e m .0) .own x i .inside;
+            (ok-more (listOk n w (rowAt n w h)) (length (listAt n w (rowAt n w h))) r e m .0) .own x i .inside;
       }
 
 -- ---- the store

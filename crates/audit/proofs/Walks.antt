@@ -15,9 +15,9 @@ use Rattle.rules.specs.Forests.{none}
 use Rattle.rules.specs.Words.{look, headOr, lastOr, follow, listFrom}
 use Rattle.rules.proofs.Occurs.{and-split, and-true, and-false, eqb-self}
 use Rattle.soundness.specs.declared.Siblings.{Siblings}
-use Rattle.soundness.specs.Check.{namesOwner, linked, listOk, childRankOk, childRanksOk}
+use Rattle.soundness.specs.Check.{namesOwner, linksOk, listOk, childRankOk, childRanksOk}
 use Rattle.soundness.proofs.Lists.{is-owned}
-use Rattle.audit.specs.Promises.{stepOk, siblingsOk, ifOk, lengthIfOk}
+use Rattle.audit.specs.Promises.{linkOk, siblingsOk, ifOk, lengthIfOk}
 
 -- as the code compares a child's rank
 pub rank-test : (i rank mark : ℕ) → leb i (rank + mark + 1) ≡ leb (i - (1 + mark)) rank
@@ -64,45 +64,45 @@ module _ (n : ℕ) (w : List ℕ) where
 
 module _ (n : ℕ) (w : List ℕ) (l : Siblings) where
   -- the tests of the rest of a list, which starts with item x, the i-th, and has prev before it
-  unfoldable pub rest : ℕ → ℕ → ℕ → List ℕ → Bool
-  rest prev i x xs =
-      linked n w l prev xs && eqb x (headOr none xs) && eqb (l .last) (lastOr prev xs)
+  unfoldable pub restOk : ℕ → ℕ → ℕ → List ℕ → Bool
+  restOk prev i x xs =
+      linksOk n w l prev xs && eqb x (headOr none xs) && eqb (l .last) (lastOr prev xs)
       && (eqb (l .parent) none || childRanksOk n w i xs)
 
   -- the answer, if j items are passed
   unfoldable pub lengthFrom : ℕ → ℕ → ℕ → ℕ
   lengthFrom j prev x =
-      ifOk (rest prev (suc j) x (follow (n - j) (next n w) x)) (j + length (follow (n - j) (next n w) x))
+      ifOk (restOk prev (suc j) x (follow (n - j) (next n w) x)) (j + length (follow (n - j) (next n w) x))
 
-  pub step-inside : (prev i x : ℕ) → stepOk n w l prev i x ≡ true → x < n
-  unfolding stepOk
-  step-inside prev i x e = is-owned n w l x (and-split _ _ (and-split _ _ e .0) .0) .inside
+  pub link-inside : (prev i x : ℕ) → linkOk n w l prev i x ≡ true → x < n
+  unfolding linkOk
+  link-inside prev i x e = is-owned n w l x (and-split _ _ (and-split _ _ e .0) .0) .inside
 
   pub walk-start : lengthFrom 0 none (l .first) ≡ lengthIfOk n w l
-  unfolding lengthFrom rest siblingsOk listOk listFrom
+  unfolding lengthFrom restOk siblingsOk listOk listFrom
   walk-start = let e : n - 0 ≡ n = omega arith in rw (e, zero-add)
 
-  rest-fails : (prev i x : ℕ) (xs : List ℕ) → stepOk n w l prev i x ≡ false → rest prev i x (x ∷ xs) ≡ false
-  unfolding rest stepOk linked childRanksOk
+  rest-fails : (prev i x : ℕ) (xs : List ℕ) → linkOk n w l prev i x ≡ false → restOk prev i x (x ∷ xs) ≡ false
+  unfolding restOk linkOk linksOk childRanksOk
   rest-fails prev i x xs e =
       tests-fail (namesOwner n w l x) _ _ _ _ _ (eqb (l .parent) none) (childRankOk n w i x)
       (childRanksOk n w (suc i) xs) e
 
-  rest-goes-on : (prev i x : ℕ) (xs : List ℕ) → stepOk n w l prev i x ≡ true
-      → rest prev i x (x ∷ xs) ≡ rest x (suc i) (next n w x) xs
-  unfolding rest stepOk linked headOr lastOr childRanksOk
+  rest-goes-on : (prev i x : ℕ) (xs : List ℕ) → linkOk n w l prev i x ≡ true
+      → restOk prev i x (x ∷ xs) ≡ restOk x (suc i) (next n w x) xs
+  unfolding restOk linkOk linksOk headOr lastOr childRanksOk
   rest-goes-on prev i x xs e =
       rw (eqb-self x)
       (tests-hold (namesOwner n w l x) _ _ _ _ (eqb (l .parent) none) (childRankOk n w i x)
       (childRanksOk n w (suc i) xs) e)
 
   -- nothing is left of a list that has ended, or is too long
-  rest-ended : (prev i x : ℕ) → rest prev i x [] ≡ (eqb x none && eqb (l .last) prev)
-  unfolding rest linked headOr lastOr childRanksOk
+  rest-ended : (prev i x : ℕ) → restOk prev i x [] ≡ (eqb x none && eqb (l .last) prev)
+  unfolding restOk linksOk headOr lastOr childRanksOk
   rest-ended prev i x = rw (or-true, and-true)
 
   -- the ways out of the walk, whose answer is a
-  pub walk-refused : (j prev x a : ℕ) → j < n → x ≢ none → stepOk n w l prev (j + 1) x ≡ false
+  pub walk-refused : (j prev x a : ℕ) → j < n → x ≢ none → linkOk n w l prev (j + 1) x ≡ false
       → lengthFrom j prev x ≡ a → 0 ≡ a
   unfolding lengthFrom
   walk-refused j prev x a h m e i =
@@ -116,7 +116,7 @@ module _ (n : ℕ) (w : List ℕ) (l : Siblings) where
       sym (rw (nothing-left n w j x o, rest-ended prev (suc j) x, z)) ∙ i
 
   -- one step
-  pub walk-more : (j prev x : ℕ) → j < n → x ≢ none → stepOk n w l prev (j + 1) x ≡ true
+  pub walk-more : (j prev x : ℕ) → j < n → x ≢ none → linkOk n w l prev (j + 1) x ≡ true
       → lengthFrom (j + 1) x (next n w x) ≡ lengthFrom j prev x
   unfolding lengthFrom
   walk-more j prev x h m e =

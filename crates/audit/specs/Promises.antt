@@ -15,7 +15,7 @@ use Rattle.soundness.specs.Check.{
   allTo,
   countAt,
   rowAt,
-  listOf,
+  listAt,
   namesOwner,
   listOk,
   childRankOk,
@@ -53,16 +53,16 @@ pub record Counts (n : ℕ) (w : List ℕ) (counts : List ℕ) : Type 0 where
 -- all items that the row of heap h leads to are in the table
 pub record RowInside (n : ℕ) (w : List ℕ) (h : ℕ) : Type 0 where
   pub heap : h < 8
-  pub inside : (x : ℕ) → 1 ≤ occurs x (listOf n w (rowAt n w h)) → x < n
+  pub inside : (x : ℕ) → 1 ≤ occurs x (listAt n w (rowAt n w h)) → x < n
 
 -- item x may be the i-th (from 1) of the list l, after item prev
-unfoldable pub stepOk : ℕ → List ℕ → Siblings → ℕ → ℕ → ℕ → Bool
-stepOk n w l prev i x =
+unfoldable pub linkOk : ℕ → List ℕ → Siblings → ℕ → ℕ → ℕ → Bool
+linkOk n w l prev i x =
     namesOwner n w l x && eqb (look n w Prev x) prev && (eqb (l .parent) none || childRankOk n w i x)
 
 -- a list passes, and among children each has its rank
 unfoldable pub siblingsOk : ℕ → List ℕ → Siblings → Bool
-siblingsOk n w l = listOk n w l && (eqb (l .parent) none || childRanksOk n w 1 (listOf n w l))
+siblingsOk n w l = listOk n w l && (eqb (l .parent) none || childRanksOk n w 1 (listAt n w l))
 
 -- one more than a number if the test holds, else 0
 abbrev pub ifOk : Bool → ℕ → ℕ
@@ -70,13 +70,13 @@ ifOk ok k = cond ok (suc k) 0
 
 -- the answers on one list, on all items, on one heap and on all heaps
 abbrev pub lengthIfOk : ℕ → List ℕ → Siblings → ℕ
-lengthIfOk n w l = ifOk (siblingsOk n w l) (length (listOf n w l))
+lengthIfOk n w l = ifOk (siblingsOk n w l) (length (listAt n w l))
 
 abbrev pub ranksIfOk : ℕ → List ℕ → ℕ
 ranksIfOk n w = ifOk (allTo n (itemOk n w)) (ranksAt n w)
 
 abbrev pub heapIfOk : ℕ → List ℕ → ℕ → ℕ
-heapIfOk n w h = ifOk (heapOk n w h) (length (listOf n w (rowAt n w h)))
+heapIfOk n w h = ifOk (heapOk n w h) (length (listAt n w (rowAt n w h)))
 
 abbrev pub treesIfOk : ℕ → List ℕ → ℕ
 treesIfOk n w = ifOk (allTo 8 (heapOk n w)) (treesAt n w)

@@ -7,7 +7,7 @@ ghost use Rattle.rules.specs.Words.{look, stateHeap, stateMark, decode};
 ghost use Rattle.store.specs.Says.{Sized, Within};
 ghost use Rattle.soundness.specs.Check.{parentOk, freeZero, itemOk, countAt, allOk, soundWords};
 ghost use Rattle.audit.specs.Promises.{Item, HasState, StatesLow, RowInside, AtMost, Counts};
-ghost use Rattle.audit.specs.Promises.{stepOk, lengthIfOk, ranksIfOk, heapIfOk, treesIfOk};
+ghost use Rattle.audit.specs.Promises.{linkOk, lengthIfOk, ranksIfOk, heapIfOk, treesIfOk};
 use rules::Field;
 use soundness::Siblings;
 use store::get;
@@ -42,7 +42,7 @@ fn mark_of(state: usize) -> usize
 // Item x may be the i-th (from 1) of a list, after item prev.
 fn link_ok(store: &[u32], n: usize, l: Siblings, prev: usize, i: usize, x: usize) -> bool
     requires { ⌜ Sized n (now store) ⌝ }
-    ensures { λ r. ⌜ r ≡ stepOk n (now (store .entry)) l prev i x ⌝ }
+    ensures { λ r. ⌜ r ≡ linkOk n (now (store .entry)) l prev i x ⌝ }
 {
     if x >= n {
         return false;

@@ -32,7 +32,7 @@ use Rattle.soundness.specs.Check.{
   markAt,
   countAt,
   namesOwner,
-  linked,
+  linksOk,
   listOk,
   rootUnmarked,
   parentInHeap,
@@ -66,7 +66,7 @@ use Rattle.soundness.specs.Examples.{
 pub examplesHold : ExamplesHold
 unfolding ExamplesHold examples byCheck but sample full small ownParent threeTrees soundWords isStore itemsIn
     storeSize allOk ranksAt treesAt heapOk countRight itemOk memberOk freeZero childRanksOk childRankOk minimumRight
-    parentOk inHeapOrder parentInHeap rootUnmarked listOk linked namesOwner listFrom follow decode countAt
+    parentOk inHeapOrder parentInHeap rootUnmarked listOk linksOk namesOwner listFrom follow decode countAt
     itemKey markAt heapAt allTo encode wordsOf storeFields storeField word stateMark stateHeap
     stateOf unlessFree siblings prevIn nextIn lastOr headOr minimum leastIn leastOf comesBefore sumTo sumBy tabulateFrom count
 examplesHold = refl

@@ -37,7 +37,7 @@ use Rattle.soundness.specs.Check.{
   countAt,
   rowAt,
   childrenAt,
-  listOf,
+  listAt,
   listOk,
   childRanksOk,
 }
@@ -83,7 +83,7 @@ module _ (s : Forests) (W : WellFormed s) where
   -- ---- the lists
 
   -- a list of siblings passes
-  list-passes : (l : Siblings) (xs : List ℕ) → listOf n w l ≡ xs → Once xs
+  list-passes : (l : Siblings) (xs : List ℕ) → listAt n w l ≡ xs → Once xs
       → ((x : ℕ) → 1 ≤ occurs x xs → (heapOf s x ≢ 0) × (siblings s x ≡ xs))
       → ((x : ℕ) → 1 ≤ occurs x xs → (heapOf s x ≡ l .heap) × (parentOf s x ≡ l .parent))
       → l .first ≡ headOr none xs → l .last ≡ lastOr none xs → listOk n w l ≡ true
@@ -98,7 +98,7 @@ module _ (s : Forests) (W : WellFormed s) where
       (λ x i. says Next x (inside x i) ∙ rw (ne-eqb (heapOf s x) 0 (sb x i .0), sb x i .1))
       hd la
 
-  pub row-are : (h : ℕ) → h < 8 → listOf n w (rowAt n w h) ≡ rowOf s h
+  pub row-are : (h : ℕ) → h < 8 → listAt n w (rowAt n w h) ≡ rowOf s h
   row-are h k = sym (row-at n w h k) ∙ ap (λ t. rowOf t h) back
 
   pub row-passes : (h : ℕ) → h < 8 → listOk n w (rowAt n w h) ≡ true
@@ -108,7 +108,7 @@ module _ (s : Forests) (W : WellFormed s) where
       (says FirstTree h k) (says LastTree h k)
 
   module _ (i : ℕ) (k : i < n) (m : heapOf s i ≢ 0) where
-    pub children-are : listOf n w (childrenAt n w i) ≡ childrenOf s i
+    pub children-are : listAt n w (childrenAt n w i) ≡ childrenOf s i
     unfolding heapAt
     children-are =
         let z : look n w State i ≢ 0 = λ e. m (sym (heap-is i k) ∙ zero-heap (look n w State i) e) in
@@ -128,11 +128,11 @@ module _ (s : Forests) (W : WellFormed s) where
         (member-word FirstChild (headOr none (childrenOf s i)) i k refl m)
         (member-word LastChild (lastOr none (childrenOf s i)) i k refl m)
 
-    pub children-rank : length (listOf n w (childrenAt n w i)) ≡ look n w Rank i
+    pub children-rank : length (listAt n w (childrenAt n w i)) ≡ look n w Rank i
     unfolding word
     children-rank = ap length children-are ∙ sym (says Rank i k)
 
-    pub children-ranks : childRanksOk n w 1 (listOf n w (childrenAt n w i)) ≡ true
+    pub children-ranks : childRanksOk n w 1 (listAt n w (childrenAt n w i)) ≡ true
     unfolding word RankRule
     children-ranks =
         rw children-are

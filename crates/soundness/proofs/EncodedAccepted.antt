@@ -27,7 +27,7 @@ use Rattle.rules.specs.Words.{look, unlessFree, word, encode}
 use Rattle.rules.proofs.DecodeEncode.{decode-encode}
 use Rattle.rules.proofs.Members.{out-heap, free-children}
 use Rattle.rules.proofs.SumTo.{sumTo-cong}
-use Rattle.soundness.specs.Check.{heapAt, countAt, rowAt, listOf, treesAt, ranksAt}
+use Rattle.soundness.specs.Check.{heapAt, countAt, rowAt, listAt, treesAt, ranksAt}
 use Rattle.soundness.proofs.Passed.{Passed}
 use Rattle.soundness.proofs.Encoded.{
   says,
@@ -138,7 +138,7 @@ module _ (s : Forests) (W : WellFormed s) where
       omega (
         arith,
         both-ways n (λ i. eqb (heapAt n w i) 0),
-        sumTo-cong 8 (λ h. length (listOf n w (rowAt n w h))) (λ h. length (rowOf s h))
+        sumTo-cong 8 (λ h. length (listAt n w (rowAt n w h))) (λ h. length (rowOf s h))
             (λ h k. ap length (row-are s W h k)),
         sumTo-cong n (λ i. look n w Rank i) (λ p. length (childrenOf s p)) (says s W Rank),
         both-sum 8 n (rowOf s) (childrenOf s) (λ _ _. 0) (λ _ _. 0) row-out children-out,

@@ -26,7 +26,7 @@ use Rattle.soundness.specs.Check.{
   heapAt,
   markAt,
   childrenAt,
-  listOf,
+  listAt,
   listOk,
   rootUnmarked,
   parentInHeap,
@@ -61,8 +61,8 @@ module _ (n : ℕ) (w : List ℕ) where
     pub root : look n w Parent i ≡ none → markAt n w i ≡ 0
     pub child : look n w Parent i ≢ none → Child i (look n w Parent i)
     pub children : listOk n w (childrenAt n w i) ≡ true
-    pub rank : length (listOf n w (childrenAt n w i)) ≡ look n w Rank i
-    pub ranks : childRanksOk n w 1 (listOf n w (childrenAt n w i)) ≡ true
+    pub rank : length (listAt n w (childrenAt n w i)) ≡ look n w Rank i
+    pub ranks : childRanksOk n w 1 (listAt n w (childrenAt n w i)) ≡ true
 
   -- ---- what passes
 
@@ -111,7 +111,7 @@ module _ (n : ℕ) (w : List ℕ) where
         root = λ p. eqb-true (markAt n w i) 0 (rw (eq-eqb (look n w Parent i) none p) at (d .1));
         child = λ p. is-child i (rw (ne-eqb (look n w Parent i) none p) at (d .1));
         children = c .1;
-        rank = eqb-true (length (listOf n w (childrenAt n w i))) (look n w Rank i) (b .1);
+        rank = eqb-true (length (listAt n w (childrenAt n w i))) (look n w Rank i) (b .1);
         ranks = a .1;
       }
 
@@ -146,6 +146,6 @@ module _ (n : ℕ) (w : List ℕ) where
         le-leb (look n w Key i) 4294967295 (r .key),
         parent-passes i r,
         r .children,
-        eq-eqb (length (listOf n w (childrenAt n w i))) (look n w Rank i) (r .rank),
+        eq-eqb (length (listAt n w (childrenAt n w i))) (look n w Rank i) (r .rank),
         r .ranks,
       )

@@ -14,7 +14,7 @@ use Rattle.rules.specs.Words.{look, headOr, lastOr, nextIn, prevIn}
 use Rattle.rules.proofs.Occurs.{and-split, delta-self, eqb-self}
 use Rattle.rules.proofs.Siblings.{Once, once-tail, head-out, tail-in}
 use Rattle.soundness.specs.declared.Siblings.{Siblings}
-use Rattle.soundness.specs.Check.{heapAt, listOf, namesOwner, linked, listOk}
+use Rattle.soundness.specs.Check.{heapAt, listAt, namesOwner, linksOk, listOk}
 use Rattle.soundness.proofs.Links.{Prevs}
 
 module _ (n : ℕ) (w : List ℕ) (l : Siblings) where
@@ -25,7 +25,7 @@ module _ (n : ℕ) (w : List ℕ) (l : Siblings) where
     pub parent : look n w Parent x ≡ l .parent
 
   -- `xs` is what the words of its items and its owner say
-  pub record Listed (xs : List ℕ) : Type 0 where
+  pub record OwnList (xs : List ℕ) : Type 0 where
     pub own : (y : ℕ) → 1 ≤ occurs y xs → Owned y
     pub prevs : Prevs (look n w Prev) none xs
     pub next : (y : ℕ) → 1 ≤ occurs y xs → nextIn y xs ≡ look n w Next y
@@ -52,16 +52,16 @@ module _ (n : ℕ) (w : List ℕ) (l : Siblings) where
         eq-eqb (look n w Parent x) (l .parent) (o .parent),
       )
 
-  linked-all : (prev : ℕ) (xs : List ℕ) → linked n w l prev xs ≡ true
+  links-all : (prev : ℕ) (xs : List ℕ) → linksOk n w l prev xs ≡ true
       → ((y : ℕ) → 1 ≤ occurs y xs → Owned y) × Prevs (look n w Prev) prev xs
       × ((y : ℕ) → 1 ≤ occurs y xs → nextIn y xs ≡ look n w Next y)
-  unfolding linked occurs sumBy nextIn
-  linked-all prev [] e = (λ y i. absurd (omega arith), tt, λ y i. absurd (omega arith))
-  linked-all prev (x ∷ xs) e =
+  unfolding linksOk occurs sumBy nextIn
+  links-all prev [] e = (λ y i. absurd (omega arith), tt, λ y i. absurd (omega arith))
+  links-all prev (x ∷ xs) e =
       let a = and-split _ _ e in
       let b = and-split _ _ (a .0) in
       let c = and-split _ _ (b .0) in
-      let r = linked-all x xs (a .1) in (
+      let r = links-all x xs (a .1) in (
         λ y i. pick y (eqb x y) refl i (is-owned x (c .0)) (r .0),
         (eqb-true (look n w Prev x) prev (c .1), r .1),
         λ y i. after y (eqb x y) refl i (eqb-true (look n w Next x) (headOr none xs) (b .1)) (r .2),
@@ -78,27 +78,27 @@ module _ (n : ℕ) (w : List ℕ) (l : Siblings) where
       after y true f i e r = sym e ∙ ap (look n w Next) (eqb-true x y f)
       after y false f i e r = r y (tail-in y x xs f i)
 
-  pub is-listed : listOk n w l ≡ true → Listed (listOf n w l)
+  pub is-listed : listOk n w l ≡ true → OwnList (listAt n w l)
   unfolding listOk
   is-listed e =
       let a = and-split _ _ e in
       let b = and-split _ _ (a .0) in
-      let r = linked-all none (listOf n w l) (b .0) in
+      let r = links-all none (listAt n w l) (b .0) in
       record {
         own = r .0;
         prevs = r .1;
         next = r .2;
-        head = sym (eqb-true (l .first) (headOr none (listOf n w l)) (b .1));
-        last = sym (eqb-true (l .last) (lastOr none (listOf n w l)) (a .1));
+        head = sym (eqb-true (l .first) (headOr none (listAt n w l)) (b .1));
+        last = sym (eqb-true (l .last) (lastOr none (listAt n w l)) (a .1));
       }
 
   -- a list all of whose items are linked right passes
-  linked-passes : (prev : ℕ) (xs : List ℕ) → Once xs → ((y : ℕ) → 1 ≤ occurs y xs → Owned y)
+  links-pass : (prev : ℕ) (xs : List ℕ) → Once xs → ((y : ℕ) → 1 ≤ occurs y xs → Owned y)
       → ((y : ℕ) → 1 ≤ occurs y xs → look n w Prev y ≡ prevIn prev y xs)
-      → ((y : ℕ) → 1 ≤ occurs y xs → look n w Next y ≡ nextIn y xs) → linked n w l prev xs ≡ true
-  unfolding linked occurs sumBy headOr prevIn nextIn
-  linked-passes prev [] o own pv nx = refl
-  linked-passes prev (y ∷ ys) o own pv nx =
+      → ((y : ℕ) → 1 ≤ occurs y xs → look n w Next y ≡ nextIn y xs) → linksOk n w l prev xs ≡ true
+  unfolding linksOk occurs sumBy headOr prevIn nextIn
+  links-pass prev [] o own pv nx = refl
+  links-pass prev (y ∷ ys) o own pv nx =
       let i : 1 ≤ occurs y (y ∷ ys) = omega (arith, delta-self y) in
       let far : (v : ℕ) → 1 ≤ occurs v ys → y ≢ v =
       λ v k e. omega (arith, head-out y ys o, ap (λ u. occurs u ys) e) in
@@ -107,11 +107,11 @@ module _ (n : ℕ) (w : List ℕ) (l : Siblings) where
         eq-eqb (look n w Prev y) prev (pv y i ∙ rw (eqb-self y)),
         eq-eqb (look n w Next y) (headOr none ys) (nx y i ∙ rw (eqb-self y)),
       )
-      (linked-passes y ys (once-tail y ys o) (λ v k. own v (omega arith))
+      (links-pass y ys (once-tail y ys o) (λ v k. own v (omega arith))
       (λ v k. pv v (omega arith) ∙ rw (ne-eqb y v (far v k)))
       (λ v k. nx v (omega arith) ∙ rw (ne-eqb y v (far v k))))
 
-  pub listed-passes : (xs : List ℕ) → listOf n w l ≡ xs → Once xs → ((y : ℕ) → 1 ≤ occurs y xs → Owned y)
+  pub listed-passes : (xs : List ℕ) → listAt n w l ≡ xs → Once xs → ((y : ℕ) → 1 ≤ occurs y xs → Owned y)
       → ((y : ℕ) → 1 ≤ occurs y xs → look n w Prev y ≡ prevIn none y xs)
       → ((y : ℕ) → 1 ≤ occurs y xs → look n w Next y ≡ nextIn y xs)
       → l .first ≡ headOr none xs → l .last ≡ lastOr none xs → listOk n w l ≡ true
@@ -119,7 +119,7 @@ module _ (n : ℕ) (w : List ℕ) (l : Siblings) where
   listed-passes xs e o own pv nx hd la =
       rw (
         e,
-        linked-passes none xs o own pv nx,
+        links-pass none xs o own pv nx,
         eq-eqb (l .first) (headOr none xs) hd,
         eq-eqb (l .last) (lastOr none xs) la,
       )

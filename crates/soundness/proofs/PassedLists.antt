@@ -17,11 +17,11 @@ use Rattle.rules.proofs.Occurs.{eqb-self}
 use Rattle.rules.proofs.Siblings.{Once}
 use Rattle.rules.proofs.SumTo.{sumTo-cong}
 use Rattle.soundness.specs.declared.Siblings.{Siblings}
-use Rattle.soundness.specs.Check.{heapAt, countAt, rowAt, childrenAt, listOf, treesAt, ranksAt}
+use Rattle.soundness.specs.Check.{heapAt, countAt, rowAt, childrenAt, listAt, treesAt, ranksAt}
 use Rattle.soundness.proofs.Passed.{Passed, byPlace, byZero}
 use Rattle.soundness.proofs.Decoded.{parent-at, heap-at, row-at, children-at, out-row, out-heap}
 use Rattle.soundness.proofs.Links.{prevs-once, occurs-bound}
-use Rattle.soundness.proofs.Lists.{Listed, is-listed}
+use Rattle.soundness.proofs.Lists.{OwnList, is-listed}
 use Rattle.soundness.proofs.States.{heap-zero, zero-heap, heap-low}
 use Rattle.soundness.proofs.Tight.{tight-rows, tight-children, one-place, both-ways}
 
@@ -29,15 +29,15 @@ module _ (n : ℕ) (w : List ℕ) (A : Passed n w) where
   abbrev s : Forests
   s = decode n w
 
-  pub row-list : (h : ℕ) → h < 8 → Listed n w (rowAt n w h) (rowOf s h)
+  pub row-list : (h : ℕ) → h < 8 → OwnList n w (rowAt n w h) (rowOf s h)
   row-list h k = rw (row-at n w h k) (is-listed n w (rowAt n w h) (A .heap h k .row))
 
-  pub children-are : (i : ℕ) → i < n → heapAt n w i ≢ 0 → childrenOf s i ≡ listOf n w (childrenAt n w i)
+  pub children-are : (i : ℕ) → i < n → heapAt n w i ≢ 0 → childrenOf s i ≡ listAt n w (childrenAt n w i)
   unfolding heapAt
   children-are i k m =
       children-at n w i k ∙ rw (ne-eqb (look n w State i) 0 (λ e. m (zero-heap (look n w State i) e)))
 
-  pub children-list : (i : ℕ) → i < n → heapAt n w i ≢ 0 → Listed n w (childrenAt n w i) (childrenOf s i)
+  pub children-list : (i : ℕ) → i < n → heapAt n w i ≢ 0 → OwnList n w (childrenAt n w i) (childrenOf s i)
   children-list i k m = rw (children-are i k m) (is-listed n w (childrenAt n w i) (A .member i k m .children))
 
   pub no-children : (i : ℕ) → i < n → heapAt n w i ≡ 0 → childrenOf s i ≡ []
@@ -51,11 +51,11 @@ module _ (n : ℕ) (w : List ℕ) (A : Passed n w) where
 
   -- ---- no list holds an item outside the table, or twice, or one that is not its own
 
-  none-out : (l : Siblings) (xs : List ℕ) → Listed n w l xs → (x : ℕ) → n ≤ x → occurs x xs ≡ 0
+  none-out : (l : Siblings) (xs : List ℕ) → OwnList n w l xs → (x : ℕ) → n ≤ x → occurs x xs ≡ 0
   none-out l xs r x h =
       byZero (occurs x xs) (λ e. e) (λ f. absurd (omega (arith, r .own x (omega arith) .inside)))
 
-  once : (l : Siblings) (xs : List ℕ) → Listed n w l xs → Once xs
+  once : (l : Siblings) (xs : List ℕ) → OwnList n w l xs → Once xs
   once l xs r = prevs-once (look n w Prev) none xs (none-out l xs r none (omega (arith, A .small))) (r .prevs)
 
   row-bound : (h : ℕ) → h < 8 → (x : ℕ) → occurs x (rowOf s h) ≤ indicator (isRootOf s h x)
@@ -113,7 +113,7 @@ module _ (n : ℕ) (w : List ℕ) (A : Passed n w) where
         arith,
         A .total,
         both-ways n (λ i. eqb (heapAt n w i) 0),
-        sumTo-cong 8 (λ h. length (rowOf s h)) (λ h. length (listOf n w (rowAt n w h)))
+        sumTo-cong 8 (λ h. length (rowOf s h)) (λ h. length (listAt n w (rowAt n w h)))
             (λ h k. ap length (row-at n w h k)),
         sumTo-cong n (λ i. look n w Rank i) (λ p. length (childrenOf s p)) rank-is,
         sumTo-cong n

@@ -14,11 +14,11 @@ use Rattle.rules.proofs.Occurs.{and-split, delta-self}
 use Rattle.soundness.specs.Check.{markAt, childRankOk, childRanksOk}
 
 module _ (n : ℕ) (w : List ℕ) (s : Forests) where
-  pub record Agrees (c : ℕ) : Type 0 where
+  pub record SameRank (c : ℕ) : Type 0 where
     pub rank : look n w Rank c ≡ rankOf s c
     pub mark : markAt n w c ≡ markOf s c
 
-  pub ranks-rule : (i : ℕ) (l : List ℕ) → ((c : ℕ) → 1 ≤ occurs c l → Agrees c) → childRanksOk n w i l ≡ true
+  pub ranks-rule : (i : ℕ) (l : List ℕ) → ((c : ℕ) → 1 ≤ occurs c l → SameRank c) → childRanksOk n w i l ≡ true
       → ChildRanks s i l
   unfolding childRanksOk childRankOk occurs sumBy
   ranks-rule i [] f e = tt
@@ -29,7 +29,7 @@ module _ (n : ℕ) (w : List ℕ) (s : Forests) where
         ranks-rule (suc i) l (λ d k. f d (omega arith)) (a .1),
       )
 
-  pub rule-ranks : (i : ℕ) (l : List ℕ) → ((c : ℕ) → 1 ≤ occurs c l → Agrees c) → ChildRanks s i l
+  pub rule-ranks : (i : ℕ) (l : List ℕ) → ((c : ℕ) → 1 ≤ occurs c l → SameRank c) → ChildRanks s i l
       → childRanksOk n w i l ≡ true
   unfolding childRanksOk childRankOk occurs sumBy
   rule-ranks i [] f t = refl

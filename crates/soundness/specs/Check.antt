@@ -59,8 +59,8 @@ module _ (n : ℕ) (w : List ℕ) where
   childrenAt i = record { heap = heapAt i; parent = i; first = v FirstChild i; last = v LastChild i }
 
   -- the items of such a list, followed from the first for n items at most, as `decode` does
-  abbrev pub listOf : Siblings → List ℕ
-  listOf l = listFrom n w (l .first)
+  abbrev pub listAt : Siblings → List ℕ
+  listAt l = listFrom n w (l .first)
 
   -- ---- lists: an item stands in no list but the one that its words name, and there once
 
@@ -69,15 +69,15 @@ module _ (n : ℕ) (w : List ℕ) where
   namesOwner l x = ltb x n && eqb (heapAt x) (l .heap) && eqb (v Parent x) (l .parent)
 
   -- each item of the list xs names its owner, and the items before and after it; prev stands before the first
-  unfoldable pub linked : Siblings → ℕ → List ℕ → Bool
-  linked l prev [] = true
-  linked l prev (x ∷ xs) =
-      namesOwner l x && eqb (v Prev x) prev && eqb (v Next x) (headOr none xs) && linked l x xs
+  unfoldable pub linksOk : Siblings → ℕ → List ℕ → Bool
+  linksOk l prev [] = true
+  linksOk l prev (x ∷ xs) =
+      namesOwner l x && eqb (v Prev x) prev && eqb (v Next x) (headOr none xs) && linksOk l x xs
 
-  -- a list is linked, and the words for its ends name them (so a circle fails: what is read of it has no end)
+  -- a list is linksOk, and the words for its ends name them (so a circle fails: what is read of it has no end)
   unfoldable pub listOk : Siblings → Bool
   listOk l =
-      linked l none (listOf l) && eqb (l .first) (headOr none (listOf l)) && eqb (l .last) (lastOr none (listOf l))
+      linksOk l none (listAt l) && eqb (l .first) (headOr none (listAt l)) && eqb (l .last) (lastOr none (listAt l))
 
   -- ---- heap order, marks and ranks
 
@@ -117,7 +117,7 @@ module _ (n : ℕ) (w : List ℕ) where
   unfoldable pub memberOk : ℕ → Bool
   memberOk i =
       leb (v State i) 16 && leb (v Key i) 4294967295 && parentOk i && listOk (childrenAt i)
-      && eqb (length (listOf (childrenAt i))) (v Rank i) && childRanksOk 1 (listOf (childrenAt i))
+      && eqb (length (listAt (childrenAt i))) (v Rank i) && childRanksOk 1 (listAt (childrenAt i))
 
   unfoldable pub itemOk : ℕ → Bool
   itemOk i = cond (eqb (v State i) 0) (freeZero i) (memberOk i)
@@ -139,7 +139,7 @@ module _ (n : ℕ) (w : List ℕ) where
 
   -- how many items stand in rows, and how many among children
   unfoldable pub treesAt : ℕ
-  treesAt = sumTo 8 (λ h. length (listOf (rowAt h)))
+  treesAt = sumTo 8 (λ h. length (listAt (rowAt h)))
 
   unfoldable pub ranksAt : ℕ
   ranksAt = sumTo n (v Rank)

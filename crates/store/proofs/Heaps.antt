@@ -30,12 +30,12 @@ module _ (n : ℕ) (w : List ℕ) (s : Forests) where
     pub items : look n w Count h ≡ count s h
 
   -- the words of a kind are those of the forests
-  abbrev pub Kind : Field → Type 0
-  Kind f = (i : ℕ) → i < fieldSize n f → look n w f i ≡ word s f i
+  abbrev pub Agree : Field → Type 0
+  Agree f = (i : ℕ) → i < fieldSize n f → look n w f i ≡ word s f i
 
   -- Nothing else is said of a heap: these settle its words, and with the kinds of an item all words.
-  pub by-heaps : ((h : ℕ) → h < 8 → HeapWords h) → Kind Key → Kind Parent → Kind FirstChild → Kind LastChild
-      → Kind Next → Kind Prev → Kind Rank → Kind State → (f : Field) → Kind f
+  pub by-heaps : ((h : ℕ) → h < 8 → HeapWords h) → Agree Key → Agree Parent → Agree FirstChild → Agree LastChild
+      → Agree Next → Agree Prev → Agree Rank → Agree State → (f : Field) → Agree f
   unfolding word
   by-heaps heap key parent first last next prev rank state FirstTree = λ h k. heap h k .first
   by-heaps heap key parent first last next prev rank state LastTree = λ h k. heap h k .last

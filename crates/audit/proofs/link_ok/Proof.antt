@@ -4,13 +4,13 @@ use borrow.Author.Needs.{needs}
 use borrow.Author.Tests.{lt-ltb, le-ltb}
 use native.Mathlib.Omega.{arith}
 use Rattle.soundness.specs.Check.{heapAt, markAt, namesOwner, childRankOk}
-use Rattle.audit.specs.Promises.{stepOk}
+use Rattle.audit.specs.Promises.{linkOk}
 use Rattle.audit.proofs.Walks.{rank-test}
 use Rattle.audit.proofs.link_ok.Statement.{statement}
 use Rattle.audit.proofs.link_ok.Tie as tie
 
 returns : tie.Need-returns
-unfolding stepOk namesOwner
+unfolding linkOk namesOwner
 returns c = rw (le-ltb _ _ (c .if1 .taken))
 
 word-at-requires : tie.Need-word-at-requires
@@ -38,7 +38,7 @@ add-result-2 : tie.Need-add-result-2
 add-result-2 c = search needs
 
 returns-2 : tie.Need-returns-2
-unfolding stepOk namesOwner childRankOk heapAt markAt
+unfolding linkOk namesOwner childRankOk heapAt markAt
 returns-2 c =
     let a = c .before .before .before .before .before .before .before .before .before .before .before .args in
     let h : a .x < a .n = omega arith in

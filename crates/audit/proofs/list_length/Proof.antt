@@ -6,10 +6,10 @@ use mathlib.Core.Path.{_≡_, _∙_}
 use native.Mathlib.Numerals.{add-one}
 use native.Mathlib.Omega.{arith}
 use Rattle.soundness.proofs.Booleans.{told-true, told-false}
-use Rattle.audit.specs.Promises.{stepOk, lengthIfOk}
+use Rattle.audit.specs.Promises.{linkOk, lengthIfOk}
 use Rattle.audit.proofs.Walks.{
   lengthFrom,
-  step-inside,
+  link-inside,
   walk-start,
   walk-refused,
   walk-ended,
@@ -43,7 +43,7 @@ returns c =
           walk-refused (a .n) (a .store .now) (a .l) (l .j) (l .prev) (l .x) _
           (c .before .before .before .loop-test .taken)
           (c .before .before .if1 .left)
-          (told-false (c .before .link-ok .result) (stepOk (a .n) (a .store .now) (a .l) (l .prev) (l .j + 1) (l .x))
+          (told-false (c .before .link-ok .result) (linkOk (a .n) (a .store .now) (a .l) (l .prev) (l .j + 1) (l .x))
           (c .before .link-ok .ensures) (c .if2 .taken)) (l .inv .1);
       most = omega arith;
     }
@@ -55,8 +55,8 @@ word-at-requires c κs =
     record {
       sized = c .before .before .before .before .before .before .pre;
       inside =
-          step-inside (a .n) (a .store .now) (a .l) (l .prev) (l .j + 1) (l .x)
-          (told-true (c .before .link-ok .result) (stepOk (a .n) (a .store .now) (a .l) (l .prev) (l .j + 1) (l .x))
+          link-inside (a .n) (a .store .now) (a .l) (l .prev) (l .j + 1) (l .x)
+          (told-true (c .before .link-ok .result) (linkOk (a .n) (a .store .now) (a .l) (l .prev) (l .j + 1) (l .x))
           (c .before .link-ok .ensures) (c .if2 .left));
     }
 
@@ -75,7 +75,7 @@ loop-again c =
           (walk-more (a .n) (a .store .now) (a .l) (l .j) (l .prev) (l .x)
           (c .before .before .before .before .loop-test .taken)
           (c .before .before .before .if1 .left)
-          (told-true (c .before .before .link-ok .result) (stepOk (a .n) (a .store .now) (a .l) (l .prev) (l .j + 1) (l .x))
+          (told-true (c .before .before .link-ok .result) (linkOk (a .n) (a .store .now) (a .l) (l .prev) (l .j + 1) (l .x))
           (c .before .before .link-ok .ensures) (c .before .if2 .left))
           ∙ l .inv .1),
     )

@@ -8,13 +8,13 @@ use native.Mathlib.Omega.{arith}
 use Rattle.rules.specs.Lists.{sumTo}
 use Rattle.audit.proofs.Results.{ok-is, ok-not, ok-zero, ok-more}
 use Rattle.audit.proofs.Totals.{sumTo-more, allTo-more, allTo-not}
-use Rattle.soundness.specs.Check.{allTo, rowAt, listOf, heapOk, treesAt}
+use Rattle.soundness.specs.Check.{allTo, rowAt, listAt, heapOk, treesAt}
 use Rattle.audit.proofs.trees.Statement.{statement}
 use Rattle.audit.proofs.trees.Tie as tie
 
 abbrev Inv-loop : tie.InvT-loop
 Inv-loop store n counts sum₀ h₀ sum h =
-    (h ≤ 8) × (allTo h (heapOk n store) ≡ true) × (sum ≡ sumTo h (λ h. length (listOf n store (rowAt n store h))))
+    (h ≤ 8) × (allTo h (heapOk n store) ≡ true) × (sum ≡ sumTo h (λ h. length (listAt n store (rowAt n store h))))
     × (sum ≤ 4096 * h)
 
 abbrev μ-loop : tie.MeasureT-loop
@@ -91,7 +91,7 @@ returns-2 c =
       is =
           ok-is _ _ (l .sum) (ap (λ h. allTo h (heapOk (a .n) (a .store .now))) (sym e) ∙ l .inv .1)
           (l .inv .2
-          ∙ ap (λ h. sumTo h (λ h. length (listOf (a .n) (a .store .now) (rowAt (a .n) (a .store .now) h)))) e);
+          ∙ ap (λ h. sumTo h (λ h. length (listAt (a .n) (a .store .now) (rowAt (a .n) (a .store .now) h)))) e);
       most = omega arith;
     }
 
