@@ -67,8 +67,8 @@ module _ (n : ℕ) (w : List ℕ) (h : ℕ) where
       → leastFrom (lesser (itemKey (look n w)) least x) xs ≡ leastFrom least (x ∷ xs)
   unfolding leastFrom leastIn leastOf
   from-more small least x xs k i =
-      rw (ne-eqb (lesser (itemKey (look n w)) least x) none (λ e. omega (arith, lesser-inside (itemKey (look n w)) least x k i)))
-      (go (eqb least none) refl)
+      let j = lesser-inside (itemKey (look n w)) least x k i in
+      rw (ne-eqb (lesser (itemKey (look n w)) least x) none (λ e. omega arith)) (go (eqb least none) refl)
     where
       some : x ≢ none
       some e = omega arith

@@ -68,5 +68,6 @@ unfolding ExamplesHold examples byCheck but sample full small ownParent threeTre
     storeSize allOk ranksAt treesAt heapOk countRight itemOk memberOk freeZero childRanksOk childRankOk minimumRight
     parentOk inHeapOrder parentInHeap rootUnmarked listOk linksOk namesOwner listFrom follow decode countAt
     itemKey markAt heapAt allTo encode wordsOf storeFields storeField word stateMark stateHeap
-    stateOf unlessFree siblings prevIn nextIn lastOr headOr minimum leastIn leastOf comesBefore sumTo sumBy tabulateFrom count
+    stateOf unlessFree siblings prevIn nextIn lastOr headOr minimum leastIn leastOf comesBefore sumTo sumBy
+    tabulateFrom count
 examplesHold = refl

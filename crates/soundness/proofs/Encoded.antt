@@ -76,7 +76,8 @@ module _ (s : Forests) (W : WellFormed s) where
   count-is h = sym (count-at n w h) ∙ ap (λ t. count t h) back
 
   -- the word of an item in a heap
-  member-word : (f : Field) (v i : ℕ) → i < fieldSize n f → word s f i ≡ unlessFree s i v → heapOf s i ≢ 0 → look n w f i ≡ v
+  member-word : (f : Field) (v i : ℕ) → i < fieldSize n f → word s f i ≡ unlessFree s i v → heapOf s i ≢ 0
+      → look n w f i ≡ v
   unfolding unlessFree
   member-word f v i k e m = says f i k ∙ e ∙ rw (ne-eqb (heapOf s i) 0 m)
 

@@ -34,7 +34,8 @@ lesser-of-requires c κs =
       one = l .inv .1 .item;
       two =
           λ m.
-          pass-inside (a .n) (a .store .now) (a .h) (l .j) (l .least) (l .x) (c .before .loop-test .taken) m (l .inv .1);
+          pass-inside (a .n) (a .store .now) (a .h) (l .j) (l .least) (l .x) (c .before .loop-test .taken) m
+          (l .inv .1);
     }
 
 get-requires-2 : tie.Need-get-requires-2 Inv-loop μ-loop

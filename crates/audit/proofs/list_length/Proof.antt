@@ -75,8 +75,8 @@ loop-again c =
           (walk-more (a .n) (a .store .now) (a .l) (l .j) (l .prev) (l .x)
           (c .before .before .before .before .loop-test .taken)
           (c .before .before .before .if1 .left)
-          (told-true (c .before .before .link-ok .result) (linkOk (a .n) (a .store .now) (a .l) (l .prev) (l .j + 1) (l .x))
-          (c .before .before .link-ok .ensures) (c .before .if2 .left))
+          (told-true (c .before .before .link-ok .result)
+          (linkOk (a .n) (a .store .now) (a .l) (l .prev) (l .j + 1) (l .x)) (c .before .before .link-ok .ensures) (c .before .if2 .left))
           ∙ l .inv .1),
     )
 

@@ -49,7 +49,8 @@ returns c =
       is =
           ok-not _ _
           (allTo-not 8 (heapOk (a .n) (a .store .now)) h (c .before .before .loop-test .taken)
-          (ok-zero (heapOk (a .n) (a .store .now) h) _ (c .before .heap-length .result) (c .before .heap-length .ensures .is) (c .if1 .taken)));
+          (ok-zero (heapOk (a .n) (a .store .now) h) _ (c .before .heap-length .result)
+          (c .before .heap-length .ensures .is) (c .if1 .taken)));
       most = omega arith;
     }
 
