@@ -6,7 +6,7 @@ use mathlib.Core.Path.{_≡_, _∙_}
 use native.Mathlib.Numerals.{add-one}
 use native.Mathlib.Omega.{arith}
 use Rattle.soundness.proofs.Booleans.{told-true, told-false}
-use Rattle.audit.specs.Promises.{linkOk, lengthIfOk}
+use Rattle.audit.specs.Promises.{lengthIfOk}
 use Rattle.audit.proofs.Walks.{
   lengthFrom,
   link-inside,
@@ -43,8 +43,7 @@ returns c =
           walk-refused (a .n) (a .store .now) (a .l) (l .j) (l .prev) (l .x) _
           (c .before .before .before .loop-test .taken)
           (c .before .before .if1 .left)
-          (told-false (c .before .link-ok .result) (linkOk (a .n) (a .store .now) (a .l) (l .prev) (l .j + 1) (l .x))
-          (c .before .link-ok .ensures) (c .if2 .taken)) (l .inv .1);
+          (told-false _ _ (c .before .link-ok .ensures) (c .if2 .taken)) (l .inv .1);
       most = omega arith;
     }
 
@@ -56,8 +55,7 @@ word-at-requires c κs =
       sized = c .before .before .before .before .before .before .pre;
       inside =
           link-inside (a .n) (a .store .now) (a .l) (l .prev) (l .j + 1) (l .x)
-          (told-true (c .before .link-ok .result) (linkOk (a .n) (a .store .now) (a .l) (l .prev) (l .j + 1) (l .x))
-          (c .before .link-ok .ensures) (c .if2 .left));
+          (told-true _ _ (c .before .link-ok .ensures) (c .if2 .left));
     }
 
 add-j : tie.Need-add-j Inv-loop μ-loop
@@ -75,8 +73,7 @@ loop-again c =
           (walk-more (a .n) (a .store .now) (a .l) (l .j) (l .prev) (l .x)
           (c .before .before .before .before .loop-test .taken)
           (c .before .before .before .if1 .left)
-          (told-true (c .before .before .link-ok .result)
-          (linkOk (a .n) (a .store .now) (a .l) (l .prev) (l .j + 1) (l .x)) (c .before .before .link-ok .ensures) (c .before .if2 .left))
+          (told-true _ _ (c .before .before .link-ok .ensures) (c .before .if2 .left))
           ∙ l .inv .1),
     )
 
