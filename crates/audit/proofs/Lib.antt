@@ -1,4 +1,4 @@
-pub mod Parents
+pub mod Least
 pub mod Results
 pub mod Totals
 pub mod Walks

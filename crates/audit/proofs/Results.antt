@@ -1,31 +1,39 @@
 -- What the answers of the code's functions say: 0 where a test failed, else one more than a number.
 use Prim.Native.Nat.{ℕ, suc, _+_, _-_, _≤_, _<_}
-use mathlib.Core.Path.{_≡_, refl}
+use mathlib.Core.Path.{_≡_, refl, sym, _∙_}
 use mathlib.Core.Logic.{_≢_}
 use mathlib.Core.List.{List}
-use mathlib.Core.Bool.{Bool, true, false, cond, not, _&&_}
+use mathlib.Core.Bool.{Bool, true, false, cond, _&&_}
+use native.Mathlib.Numerals.{add-one}
 use native.Mathlib.Omega.{arith}
-use lib.Dec.{eqb}
-use borrow.Author.Tests.{eqb-true}
-use Rattle.rules.specs.declared.Field.the-variants.{FirstTree, LastTree, Minimum, State}
+use lib.ListN.{length}
+use lib.Dec.{eqb, eqb·zero-suc, eqb·suc-suc}
+use borrow.Author.Tests.{ne-eqb, le-leb}
+use Rattle.rules.specs.declared.Field.the-variants.{FirstTree, LastTree, Key, Rank, State}
+use Rattle.rules.specs.Forests.{none}
 use Rattle.rules.specs.Words.{itemsIn, isStore, look}
-use Rattle.rules.proofs.Occurs.{and-false}
-use Rattle.store.specs.Heaps.{heapIs}
+use Rattle.rules.proofs.Occurs.{and-true, and-false}
 use Rattle.soundness.specs.Check.{
   allTo,
   rowAt,
-  listLength,
+  childrenAt,
+  listAt,
+  listOk,
+  parentOk,
+  childRanksOk,
+  memberOk,
   itemOk,
-  minimumOk,
-  countAt,
+  minimumRight,
+  countRight,
   heapOk,
   allOk,
   soundWords,
 }
-use Rattle.audit.specs.Promises.{ifOk}
+use Rattle.audit.specs.Promises.{RowInside, ifOk, siblingsOk, lengthIfOk, heapIfOk}
 use Rattle.soundness.proofs.Passed.{byZero}
 use Rattle.soundness.proofs.Booleans.{allTo-at}
 use Rattle.soundness.proofs.ItemTests.{is-member}
+use Rattle.soundness.proofs.Lists.{is-listed}
 
 pub ok-is : (ok : Bool) (v r : ℕ) → ok ≡ true → r ≡ v → r + 1 ≡ ifOk ok v
 ok-is ok v r e f = rw e (omega arith)
@@ -41,44 +49,67 @@ pub ok-more : (ok : Bool) (v r : ℕ) → r ≡ ifOk ok v → r ≢ 0 → (ok �
 ok-more true v r e f = (refl, omega arith)
 ok-more false v r e f = absurd (f e)
 
+-- ---- an item
+
+-- the tests of its children, as their number tells them
+joined : (p a b : Bool) (k rank : ℕ) → (p && eqb (ifOk (a && b) k) (suc rank)) ≡ (p && a && eqb k rank && b)
+joined true true true k rank = eqb·suc-suc k rank ∙ sym (and-true (eqb k rank))
+joined true true false k rank = eqb·zero-suc rank ∙ sym (and-false (eqb k rank))
+joined true false b k rank = eqb·zero-suc rank
+joined false a b k rank = refl
+
+module _ (n : ℕ) (w : List ℕ) (i : ℕ) where
+  -- what is tested of an item in a heap besides its state and key, whose parent's test is p
+  abbrev tests : Bool → ℕ → Bool
+  tests p rank =
+      p && listOk n w (childrenAt n w i) && eqb (length (listAt n w (childrenAt n w i))) rank
+      && childRanksOk n w 1 (listAt n w (childrenAt n w i))
+
+  pub children-tests : (p : Bool) (rank : ℕ) → i < n → n ≤ 4096
+      → (p && eqb (lengthIfOk n w (childrenAt n w i)) (rank + 1)) ≡ tests p rank
+  unfolding siblingsOk
+  children-tests p rank k small =
+      rw (add-one, ne-eqb i none (λ e. omega arith)) (joined p (listOk n w (childrenAt n w i)) _ _ rank)
+
+  pub member-tests : look n w State i ≢ 0 → look n w State i ≤ 16 → look n w Key i ≤ 4294967295
+      → tests (parentOk n w i) (look n w Rank i) ≡ itemOk n w i
+  unfolding itemOk memberOk
+  member-tests m s k =
+      rw (ne-eqb (look n w State i) 0 m, le-leb (look n w State i) 16 s, le-leb (look n w Key i) 4294967295 k)
+
 -- ---- a heap
 
 module _ (n : ℕ) (w : List ℕ) (h : ℕ) where
-  abbrev trees : ℕ
-  trees = listLength n w (rowAt n w h)
+  -- the answer on its row
+  abbrev pub rowIfOk : ℕ
+  rowIfOk = ifOk (listOk n w (rowAt n w h)) (length (listAt n w (rowAt n w h)))
 
-  -- what is tested of a heap besides its row
-  abbrev pub rest : Bool
-  rest =
-      minimumOk n w h
-      && heapIs n w h (look n w FirstTree h) (look n w LastTree h) (look n w Minimum h) (countAt n w (suc h))
+  pub row-answer : (heap first last r : ℕ) → heap ≡ h + 1 → first ≡ look n w FirstTree h → last ≡ look n w LastTree h
+      → r ≡ lengthIfOk n w (record { heap = heap; parent = none; first = first; last = last }) → r ≡ rowIfOk
+  unfolding siblingsOk
+  row-answer heap first last r e f g q = q ∙ rw (e, f, g, add-one h, and-true)
 
-  pub heap-right : rest ≡ true → trees ≡ cond (heapOk n w h) trees 0
+  pub row-wrong : (r : ℕ) → r ≡ rowIfOk → r ≡ 0 → 0 ≡ heapIfOk n w h
   unfolding heapOk
-  heap-right e = rw e (go (eqb trees 0) refl)
-    where
-      go : (t : Bool) → eqb trees 0 ≡ t → trees ≡ cond (not t && true) trees 0
-      go true q = eqb-true trees 0 q
-      go false q = refl
+  row-wrong r e z = rw (ok-zero (listOk n w (rowAt n w h)) (length (listAt n w (rowAt n w h))) r e z)
 
-  pub heap-wrong : rest ≡ false → 0 ≡ cond (heapOk n w h) trees 0
+  -- what is tested besides, and the answer then
+  pub heap-tests : (r : ℕ) → r ≡ rowIfOk → r ≢ 0 → (t : Bool) → (minimumRight n w h && countRight n w h) ≡ t
+      → cond t r 0 ≡ heapIfOk n w h
   unfolding heapOk
-  heap-wrong e = rw (e, and-false)
+  heap-tests r e m t q =
+      let l : listOk n w (rowAt n w h) ≡ true =
+      ok-more (listOk n w (rowAt n w h)) (length (listAt n w (rowAt n w h))) r e m .0 in
+      rw (e, l, q)
 
-  pub heap-zero : (r : ℕ) → r ≡ cond (heapOk n w h) trees 0 → r ≡ 0 → heapOk n w h ≡ false
-  unfolding heapOk
-  heap-zero r e f = go (heapOk n w h) refl e
-    where
-      go : (t : Bool) → heapOk n w h ≡ t → r ≡ cond t trees 0 → heapOk n w h ≡ false
-      go true q e = let z : trees ≡ 0 = omega arith in rw z
-      go false q e = q
-
-  pub heap-more : (r : ℕ) → r ≡ cond (heapOk n w h) trees 0 → r ≢ 0 → (heapOk n w h ≡ true) × (r ≡ trees)
-  heap-more r e f = go (heapOk n w h) refl e
-    where
-      go : (t : Bool) → heapOk n w h ≡ t → r ≡ cond t trees 0 → (heapOk n w h ≡ true) × (r ≡ trees)
-      go true q e = (q, e)
-      go false q e = absurd (f e)
+  pub row-inside : h < 8 → (r : ℕ) → r ≡ rowIfOk → r ≢ 0 → RowInside n w h
+  row-inside k r e m =
+      record {
+        heap = k;
+        inside = λ x i.
+            is-listed n w (rowAt n w h)
+            (ok-more (listOk n w (rowAt n w h)) (length (listAt n w (rowAt n w h))) r e m .0) .own x i .inside;
+      }
 
 -- ---- the store
 

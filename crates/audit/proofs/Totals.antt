@@ -3,7 +3,7 @@ use Prim.Native.Nat.{ℕ, zero, suc, _+_, _≤_, _<_}
 use mathlib.Core.Path.{_≡_, refl, sym, ap, _∙_, subst}
 use mathlib.Core.Logic.{_≢_}
 use mathlib.Core.List.{List}
-use mathlib.Core.Bool.{Bool, true, false, not, true≢false}
+use mathlib.Core.Bool.{Bool, true, false, true≢false}
 use native.Mathlib.Nat.{le-refl}
 use native.Mathlib.Numerals.{add-one}
 use native.Mathlib.Omega.{arith}
@@ -14,9 +14,7 @@ use borrow.Author.Tests.{eqb-true, eqb-false}
 use Rattle.rules.specs.declared.Field.the-variants.{State}
 use Rattle.rules.specs.Lists.{indicator, sumTo}
 use Rattle.rules.specs.Words.{look, stateHeap}
-use Rattle.rules.proofs.Follow.{to-ones}
-use Rattle.rules.proofs.SumTo.{sumTo-add, sumTo-cong}
-use Rattle.soundness.specs.Check.{allTo, heapAt, countAt, membersAt}
+use Rattle.soundness.specs.Check.{allTo, heapAt}
 use Rattle.audit.specs.Promises.{StatesLow}
 use Rattle.soundness.proofs.Booleans.{allTo-at}
 use Rattle.soundness.proofs.States.{heap-low}
@@ -46,28 +44,12 @@ indicators-bound (suc n) f = omega (arith, indicators-bound n f, one (f n))
     one true = le-refl 1
     one false = omega arith
 
--- the items of which a test holds, and the others
-both : (t : Bool) → indicator t + indicator (not t) ≡ 1
-both true = refl
-both false = refl
-
 zeros : (k v : ℕ) → getD {A = ℕ} (replicate k 0) v 0 ≡ 0
 zeros zero v = refl
 zeros (suc k) zero = refl
 zeros (suc k) (suc v) = zeros k v
 
 module _ (n : ℕ) (w : List ℕ) where
-  pub members-free : membersAt n w + countAt n w 0 ≡ n
-  unfolding membersAt countAt
-  members-free =
-      omega (
-        arith,
-        to-ones n,
-        sumTo-add n (λ i. indicator (eqb (heapAt n w i) 0)) (λ i. indicator (not (eqb (heapAt n w i) 0))),
-        sumTo-cong n (λ i. indicator (eqb (heapAt n w i) 0) + indicator (not (eqb (heapAt n w i) 0))) (λ _. 1)
-            (λ i _. both (eqb (heapAt n w i) 0)),
-      )
-
   -- ---- the counts of the heaps
 
   -- among the first i items

@@ -2,18 +2,18 @@
 //! Its time grows with the number of items: an item passes in one list only, the one that its own words name.
 ghost use mathlib.Core.Path.{_≡_};
 ghost use Prim.Native.Nat.{suc, _<_};
-ghost use Rattle.rules.specs.Words.{look, stateHeap, stateMark};
+ghost use Rattle.rules.specs.Order.{minimum};
+ghost use Rattle.rules.specs.Words.{look, stateHeap, stateMark, decode};
 ghost use Rattle.store.specs.Says.{Sized, Within};
-ghost use Rattle.soundness.specs.Check.{linkOk, listLength, parentOk, freeOk, itemOk, minimumOk};
-ghost use Rattle.soundness.specs.Check.{countAt, allOk, soundWords};
-ghost use Rattle.audit.specs.Promises.{Item, HasState, StatesLow, AtMost, Counts};
-ghost use Rattle.audit.specs.Promises.{ranksIfOk, heapIfOk, treesIfOk};
+ghost use Rattle.soundness.specs.Check.{parentOk, freeZero, itemOk, countAt, allOk, soundWords};
+ghost use Rattle.audit.specs.Promises.{Item, HasState, StatesLow, RowInside, AtMost, Counts};
+ghost use Rattle.audit.specs.Promises.{linkOk, lengthIfOk, ranksIfOk, heapIfOk, treesIfOk};
 use rules::Field;
 use soundness::Siblings;
 use store::get;
-use store::heap_is;
 use store::is_store;
 use store::items_of;
+use store::order::lesser_of;
 use store::order::precedes;
 
 const NONE: usize = 4294967295;
@@ -39,10 +39,10 @@ fn mark_of(state: usize) -> usize
     if state == 0 { 0 } else { (state - 1) % 2 }
 }
 
-// Item x may stand at place j of a list, after item prev.
-fn link_ok(store: &[u32], n: usize, l: Siblings, prev: usize, j: usize, x: usize) -> bool
+// Item x may be the i-th (from 1) of a list, after item prev.
+fn link_ok(store: &[u32], n: usize, l: Siblings, prev: usize, i: usize, x: usize) -> bool
     requires { ⌜ Sized n (now store) ⌝ }
-    ensures { λ r. ⌜ r ≡ linkOk n (now (store .entry)) l prev j x ⌝ }
+    ensures { λ r. ⌜ r ≡ linkOk n (now (store .entry)) l prev i x ⌝ }
 {
     if x >= n {
         return false;
@@ -54,13 +54,15 @@ fn link_ok(store: &[u32], n: usize, l: Siblings, prev: usize, j: usize, x: usize
     let heap = heap_of(state);
     let mark = mark_of(state);
     (heap == l.heap)
-        & ((parent == l.parent) & ((before == prev) & ((l.parent == NONE) | (j <= rank + mark))))
+        & (parent == l.parent)
+        & (before == prev)
+        & ((l.parent == NONE) | (i <= rank + mark + 1))
 }
 
 // One more than the length of a list of siblings, 0 if it is not right.
 fn list_length(store: &[u32], n: usize, l: Siblings) -> usize
     requires { ⌜ Sized n (now store) ⌝ }
-    ensures { λ r. ⌜ AtMost (listLength n (now (store .entry)) l) 4097 r ⌝ }
+    ensures { λ r. ⌜ AtMost (lengthIfOk n (now (store .entry)) l) 4097 r ⌝ }
 {
     let mut prev = NONE;
     let mut x = l.first;
@@ -69,7 +71,7 @@ fn list_length(store: &[u32], n: usize, l: Siblings) -> usize
         if x == NONE {
             break;
         }
-        let ok = link_ok(store, n, l, prev, j, x);
+        let ok = link_ok(store, n, l, prev, j + 1, x);
         if !ok {
             return 0;
         }
@@ -77,42 +79,35 @@ fn list_length(store: &[u32], n: usize, l: Siblings) -> usize
         x = word_at(store, n, Field::Next, x);
         j += 1;
     }
-    if (x == NONE) & (prev == l.last) {
+    if (x == NONE) & (l.last == prev) {
         j + 1
     } else {
         0
     }
 }
 
-// A root is unmarked and does not come before the minimum of its heap; any other item has a parent in its heap that
-// comes before it.
+// A root is unmarked; any other item has a parent in its heap that comes before it.
 fn parent_ok(store: &[u32], n: usize, i: usize, state: usize) -> bool
     requires { ⌜ HasState n (now store) i state ⌝ }
     ensures { λ r. ⌜ r ≡ parentOk n (now (store .entry)) i ⌝ }
 {
-    let heap = heap_of(state);
     let parent = word_at(store, n, Field::Parent, i);
     if parent == NONE {
-        let mark = mark_of(state);
-        let least = word_at(store, n, Field::Minimum, heap - 1);
-        if least >= n {
-            return false;
-        }
-        let before = precedes(store, n, i as u32, least as u32);
-        return (mark == 0) & !before;
+        return mark_of(state) == 0;
     }
     if parent >= n {
         return false;
     }
+    let heap = heap_of(state);
     let above = heap_of(word_at(store, n, Field::State, parent));
     let before = precedes(store, n, parent as u32, i as u32);
     (above == heap) & before
 }
 
-// A free item.
-fn free_ok(store: &[u32], n: usize, i: usize) -> bool
+// All words of a free item are 0.
+fn free_zero(store: &[u32], n: usize, i: usize) -> bool
     requires { ⌜ Item n (now store) i ⌝ }
-    ensures { λ r. ⌜ r ≡ freeOk n (now (store .entry)) i ⌝ }
+    ensures { λ r. ⌜ r ≡ freeZero n (now (store .entry)) i ⌝ }
 {
     let key = word_at(store, n, Field::Key, i);
     let parent = word_at(store, n, Field::Parent, i);
@@ -122,8 +117,12 @@ fn free_ok(store: &[u32], n: usize, i: usize) -> bool
     let prev = word_at(store, n, Field::Prev, i);
     let rank = word_at(store, n, Field::Rank, i);
     (key == 0)
-        & ((parent == 0)
-            & ((first == 0) & ((last == 0) & ((next == 0) & ((prev == 0) & (rank == 0))))))
+        & (parent == 0)
+        & (first == 0)
+        & (last == 0)
+        & (next == 0)
+        & (prev == 0)
+        & (rank == 0)
 }
 
 // An item of a heap has as many children as its rank says.
@@ -133,7 +132,7 @@ fn item_ok(store: &[u32], n: usize, i: usize) -> bool
 {
     let state = word_at(store, n, Field::State, i);
     if state == 0 {
-        return free_ok(store, n, i);
+        return free_zero(store, n, i);
     }
     if state > 16 {
         return false;
@@ -189,23 +188,24 @@ fn counts(store: &[u32], n: usize) -> [usize; 9]
     counts
 }
 
-// The minimum is none where there is no tree, else a root of the heap.
-fn minimum_ok(store: &[u32], n: usize, h: usize) -> bool
+// The least of the roots of heap h, NONE where there is none.
+fn least_root(store: &[u32], n: usize, h: usize) -> u32
     requires { ⌜ Sized n (now store) ⌝ }
-    requires { ⌜ h < 8 ⌝ }
-    ensures { λ r. ⌜ r ≡ minimumOk n (now (store .entry)) h ⌝ }
+    requires { ⌜ RowInside n (now store) h ⌝ }
+    ensures { λ r. ⌜ r ≡ minimum (decode n (now (store .entry))) h ⌝ }
 {
-    let first = word_at(store, n, Field::FirstTree, h);
-    let least = word_at(store, n, Field::Minimum, h);
-    if first == NONE {
-        return least == NONE;
+    let mut least = store::NONE;
+    let mut x = get(store, n, Field::FirstTree, h as u32);
+    let mut j: usize = 0;
+    while j < n {
+        if x == store::NONE {
+            break;
+        }
+        least = lesser_of(store, n, least, x);
+        x = get(store, n, Field::Next, x);
+        j += 1;
     }
-    if least >= n {
-        return false;
-    }
-    let heap = heap_of(word_at(store, n, Field::State, least));
-    let parent = word_at(store, n, Field::Parent, least);
-    (heap == h + 1) & (parent == NONE)
+    least
 }
 
 // One more than the number of trees of a heap that has so many items, 0 if the heap is not right.
@@ -215,22 +215,29 @@ fn heap_length(store: &[u32], n: usize, h: usize, count: usize) -> usize
     requires { ⌜ count ≡ countAt n (now store) (suc h) ⌝ }
     ensures { λ r. ⌜ AtMost (heapIfOk n (now (store .entry)) h) 4097 r ⌝ }
 {
-    let first = get(store, n, Field::FirstTree, h as u32);
-    let last = get(store, n, Field::LastTree, h as u32);
-    let least = get(store, n, Field::Minimum, h as u32);
+    let first = word_at(store, n, Field::FirstTree, h);
+    let last = word_at(store, n, Field::LastTree, h);
     let length = list_length(
         store,
         n,
         Siblings {
             heap: h + 1,
             parent: NONE,
-            first: first as usize,
-            last: last as usize,
+            first: first,
+            last: last,
         },
     );
-    let placed = minimum_ok(store, n, h);
-    let words = heap_is(store, n, h as u32, first, last, least, count as u32);
-    if placed & words { length } else { 0 }
+    if length == 0 {
+        return 0;
+    }
+    let least = get(store, n, Field::Minimum, h as u32);
+    let root = least_root(store, n, h);
+    let items = word_at(store, n, Field::Count, h);
+    if (least == root) & (items == count) {
+        length
+    } else {
+        0
+    }
 }
 
 // One more than the number of all trees, 0 if some heap is not right.
@@ -252,7 +259,7 @@ fn trees(store: &[u32], n: usize, counts: [usize; 9]) -> usize
     sum + 1
 }
 
-// Every item and every heap is right, and the items in lists are as many as those in heaps.
+// Every item and every heap is right, and each item stands in a list or is free.
 fn all_ok(store: &[u32], n: usize) -> bool
     requires { ⌜ Sized n (now store) ⌝ }
     ensures { λ r. ⌜ r ≡ allOk n (now (store .entry)) ⌝ }
@@ -266,7 +273,7 @@ fn all_ok(store: &[u32], n: usize) -> bool
     if trees == 0 {
         return false;
     }
-    trees - 1 + (ranks - 1) == n - counts[0]
+    trees - 1 + (ranks - 1) + counts[0] == n
 }
 
 // Whether any words are those of a sound store.

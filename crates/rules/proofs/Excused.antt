@@ -79,22 +79,23 @@ ranks-snoc σ ks ms j (c ∷ cs) x t h = (t .0, ranks-snoc σ ks ms (suc j) cs x
 
 -- ---- without excuses it is the rule of specs/
 
-ranks-exact : (cs : List (List ℕ)) (ms : List ℕ) (j : ℕ) (l : List ℕ) → ChildRanks cs ms j l
-    → ChildRanksBut exact cs ms j l
-ranks-exact cs ms j [] t = tt
-ranks-exact cs ms j (c ∷ l) t = (omega (arith, t .0), ranks-exact cs ms (suc j) l (t .1))
+-- (there the first child is number 1, here it stands at place 0)
+ranks-exact : (s : Forests) (j : ℕ) (l : List ℕ) → ChildRanks s (suc j) l
+    → ChildRanksBut exact (s .children) (s .mark) j l
+ranks-exact s j [] t = tt
+ranks-exact s j (c ∷ l) t = (omega (arith, t .0), ranks-exact s (suc j) l (t .1))
 
-exact-ranks : (cs : List (List ℕ)) (ms : List ℕ) (j : ℕ) (l : List ℕ) → ChildRanksBut exact cs ms j l
-    → ChildRanks cs ms j l
-exact-ranks cs ms j [] t = tt
-exact-ranks cs ms j (c ∷ l) t = (omega (arith, t .0), exact-ranks cs ms (suc j) l (t .1))
+exact-ranks : (s : Forests) (j : ℕ) (l : List ℕ) → ChildRanksBut exact (s .children) (s .mark) j l
+    → ChildRanks s (suc j) l
+exact-ranks s j [] t = tt
+exact-ranks s j (c ∷ l) t = (omega (arith, t .0), exact-ranks s (suc j) l (t .1))
 
 pub to-formed : (s : Forests) → WellFormed s → Formed s
 unfolding HeapOrdered RankRule OrderedBut RankedBut
 to-formed s S = record {
   disjoint = S .disjoint;
   ordered = λ x _. S .ordered x;
-  ranked = λ p k. ranks-exact (s .children) (s .mark) 0 (childrenOf s p) (S .ranked p k);
+  ranked = λ p k. ranks-exact s 0 (childrenOf s p) (S .ranked p k);
 }
 
 pub well-formed : (s : Forests) → Formed s → KeysFit s → WellFormed s
@@ -102,6 +103,6 @@ unfolding HeapOrdered RankRule OrderedBut RankedBut
 well-formed s S K = record {
   disjoint = S .disjoint;
   ordered = λ x l. S .ordered x (λ e. not-none s (S .disjoint) x (heap-in s x l) (sym e)) l;
-  ranked = λ p k. exact-ranks (s .children) (s .mark) 0 (childrenOf s p) (S .ranked p k);
+  ranked = λ p k. exact-ranks s 0 (childrenOf s p) (S .ranked p k);
   keys = K;
 }

@@ -122,18 +122,6 @@ minimum-stands s h k = go (rowOf s h) k
 pub minimum-in-row : (s : Forests) (h v : ℕ) → 1 ≤ occurs v (rowOf s h) → 1 ≤ occurs (minimum s h) (rowOf s h)
 minimum-in-row s h v k = minimum-stands s h (some-stands v (rowOf s h) k)
 
--- and it is the only root that no root comes before
-pub minimum-unique : (s : Forests) → Disjoint s → (h v : ℕ) → 1 ≤ occurs v (rowOf s h)
-    → ((z : ℕ) → 1 ≤ occurs z (rowOf s h) → precedes (s .key) z v ≡ false) → minimum s h ≡ v
-minimum-unique s S h v k f = go (eqb (minimum s h) v) refl
-  where
-    go : (t : Bool) → eqb (minimum s h) v ≡ t → minimum s h ≡ v
-    go true e = eqb-true _ _ e
-    go false e =
-        let i = minimum-in-row s h v k in
-        let b = precedes-total (s .key) (minimum s h) v (eqb-false (minimum s h) v e) (f (minimum s h) i) in
-        absurd (omega (arith, ord-precedes (s .key) v (minimum s h) (row-small s S h v k) b, minimum-least s S h v k))
-
 -- a heap with items has roots, and the other way round
 root-above : (s : Forests) → Formed s → (h n x : ℕ) → heapOf s x ≡ suc h → ord (s .key) x < n
     → 1 ≤ length (rowOf s h)

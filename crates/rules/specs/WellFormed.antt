@@ -1,10 +1,10 @@
 -- Well-formed forests: eight disjoint forests in heap order, with their marks and ranks (scope paper, Store, "Sound").
-use Prim.Native.Nat.{ℕ, suc, _+_, _≤_, _<_}
+use Prim.Native.Nat.{ℕ, suc, _+_, _-_, _≤_, _<_}
 use mathlib.Core.Path.{_≡_}
 use mathlib.Core.Logic.{_≢_}
 use mathlib.Core.List.{List, [], _∷_}
 use mathlib.Core.Bool.{Bool, true, not, _&&_}
-use lib.ListN.{length, getD}
+use lib.ListN.{length}
 use lib.Dec.{eqb}
 use Rattle.rules.specs.Lists.{indicator, occurs}
 use Rattle.rules.specs.Forests.{
@@ -16,6 +16,7 @@ use Rattle.rules.specs.Forests.{
   keyOf,
   markOf,
   heapOf,
+  rankOf,
   tableSize,
 }
 use Rattle.rules.specs.Order.{precedes}
@@ -51,14 +52,14 @@ unfoldable pub HeapOrdered : Forests → Type 0
 HeapOrdered s =
     (x : ℕ) → heapOf s x ≢ 0 → parentOf s x ≢ none → precedes (s .key) (parentOf s x) x ≡ true
 
--- The i-th child (from 1) has a rank of at least i - 1, or i - 2 if it is marked; j = i - 1 for the first of the list.
-abbrev pub ChildRanks : List (List ℕ) → List ℕ → ℕ → List ℕ → Type 0
-ChildRanks children mark j [] = Unit {0}
-ChildRanks children mark j (c ∷ cs) =
-    (j ≤ length (getD children c []) + getD mark c 0) × ChildRanks children mark (suc j) cs
+-- The children from the i-th on, counted from 1: its rank is at least i - 1, or i - 2 if it is marked; then the next.
+-- (A difference below 0 is 0 here, and asks nothing of a first child that is marked.)
+abbrev pub ChildRanks : Forests → ℕ → List ℕ → Type 0
+ChildRanks s i [] = Unit {0}
+ChildRanks s i (c ∷ cs) = (i - (1 + markOf s c) ≤ rankOf s c) × ChildRanks s (suc i) cs
 
 unfoldable pub RankRule : Forests → Type 0
-RankRule s = (p : ℕ) → p < tableSize s → ChildRanks (s .children) (s .mark) 0 (childrenOf s p)
+RankRule s = (p : ℕ) → p < tableSize s → ChildRanks s 1 (childrenOf s p)
 
 -- Keys are words of 32 bits.
 unfoldable pub KeysFit : Forests → Type 0

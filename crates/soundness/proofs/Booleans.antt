@@ -2,16 +2,13 @@
 use Prim.Native.Nat.{ℕ, zero, suc, _<_}
 use mathlib.Core.Path.{_≡_, refl, sym, ap, _∙_}
 use mathlib.Core.Logic.{_≢_}
-use mathlib.Core.Bool.{Bool, true, false, not, _&&_}
+use mathlib.Core.Bool.{Bool, true, false, not}
 use native.Mathlib.Nat.{le-refl}
 use native.Mathlib.Omega.{arith}
 use lib.Dec.{eqb}
 use borrow.Author.Tests.{eqb-true, eqb-false, not-true, not-false}
 use Rattle.rules.proofs.Occurs.{and-split}
 use Rattle.soundness.specs.Check.{allTo}
-
-pub and-join : (a b : Bool) → a ≡ true → b ≡ true → (a && b) ≡ true
-and-join a b p q = rw (p, q)
 
 -- what a function answered of a test, and the code then asked of the answer
 pub told-false : (r t : Bool) → r ≡ t → not r ≡ true → t ≡ false
@@ -33,4 +30,4 @@ pub allTo-all : (n : ℕ) (f : ℕ → Bool) → ((i : ℕ) → i < n → f i �
 unfolding allTo
 allTo-all zero f h = refl
 allTo-all (suc n) f h =
-    and-join (allTo n f) (f n) (allTo-all n f (λ i k. h i (omega arith))) (h n (le-refl (suc n)))
+    rw (allTo-all n f (λ i k. h i (omega arith)), h n (le-refl (suc n)))

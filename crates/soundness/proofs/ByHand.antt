@@ -1,7 +1,7 @@
 -- The table of examples holds, by computation.
 use mathlib.Core.Path.{refl}
 use Rattle.rules.specs.Forests.{count}
-use Rattle.rules.specs.Lists.{sumBy, sumTo}
+use Rattle.rules.specs.Lists.{sumBy, sumTo, tabulateFrom}
 use Rattle.rules.specs.Order.{comesBefore, leastOf, leastIn, minimum}
 use Rattle.rules.specs.Words.{
   storeSize,
@@ -21,29 +21,33 @@ use Rattle.rules.specs.Words.{
   storeFields,
   wordsOf,
   encode,
+  follow,
+  listFrom,
+  decode,
 }
 use Rattle.store.specs.ItemOrder.{itemKey}
-use Rattle.store.specs.Heaps.{have, heapIs}
 use Rattle.soundness.specs.Check.{
   allTo,
   heapAt,
   markAt,
-  linkOk,
-  lengthFrom,
-  listLength,
-  rootOk,
-  childOk,
-  parentOk,
-  memberOk,
-  freeOk,
-  itemOk,
-  leastOk,
-  minimumOk,
   countAt,
+  namesOwner,
+  linksOk,
+  listOk,
+  rootUnmarked,
+  parentInHeap,
+  inHeapOrder,
+  parentOk,
+  minimumRight,
+  childRankOk,
+  childRanksOk,
+  freeZero,
+  memberOk,
+  itemOk,
+  countRight,
   heapOk,
   treesAt,
   ranksAt,
-  membersAt,
   allOk,
   soundWords,
 }
@@ -61,8 +65,9 @@ use Rattle.soundness.specs.Examples.{
 
 pub examplesHold : ExamplesHold
 unfolding ExamplesHold examples byCheck but sample full small ownParent threeTrees soundWords isStore itemsIn
-    storeSize allOk membersAt ranksAt treesAt
-    heapOk heapIs have countAt minimumOk leastOk itemOk freeOk memberOk parentOk childOk rootOk listLength
-    lengthFrom linkOk itemKey markAt heapAt allTo encode wordsOf storeFields storeField word stateMark stateHeap
-    stateOf unlessFree siblings prevIn nextIn lastOr headOr minimum leastIn leastOf comesBefore sumTo sumBy count
+    storeSize allOk ranksAt treesAt heapOk countRight itemOk memberOk freeZero childRanksOk childRankOk minimumRight
+    parentOk inHeapOrder parentInHeap rootUnmarked listOk linksOk namesOwner listFrom follow decode countAt
+    itemKey markAt heapAt allTo encode wordsOf storeFields storeField word stateMark stateHeap
+    stateOf unlessFree siblings prevIn nextIn lastOr headOr minimum leastIn leastOf comesBefore sumTo sumBy
+    tabulateFrom count
 examplesHold = refl

@@ -1,16 +1,15 @@
 -- The words of well-formed forests pass.
-use Prim.Native.Nat.{ℕ, suc, _+_, _-_, _≤_, _<_}
-use mathlib.Core.Path.{_≡_, refl, sym, ap, _∙_, subst}
+use Prim.Native.Nat.{ℕ, _+_, _≤_, _<_}
+use mathlib.Core.Path.{_≡_, sym, ap, _∙_, subst}
 use mathlib.Core.Logic.{_≢_}
-use mathlib.Core.List.{List, [], _∷_}
+use mathlib.Core.List.{List}
 use mathlib.Core.Bool.{not}
 use native.Mathlib.Omega.{arith}
 use lib.ListN.{length}
 use lib.Dec.{eqb, eqb·zero-suc}
 use Rattle.rules.specs.declared.Field.the-variants.{
-  FirstTree,
-  LastTree,
   Minimum,
+  Count,
   Key,
   Parent,
   FirstChild,
@@ -20,18 +19,15 @@ use Rattle.rules.specs.declared.Field.the-variants.{
   Rank,
   State,
 }
-use Rattle.rules.specs.Lists.{indicator, sumBy, sumTo, occurs}
-use Rattle.rules.specs.Forests.{Forests, none, rowOf, childrenOf, parentOf, heapOf, heapNumber, tableSize}
-use Rattle.rules.specs.Order.{leastIn, minimum}
+use Rattle.rules.specs.Lists.{indicator, sumTo, occurs}
+use Rattle.rules.specs.Forests.{Forests, none, rowOf, childrenOf, parentOf, heapOf, tableSize}
+use Rattle.rules.specs.Order.{minimum}
 use Rattle.rules.specs.WellFormed.{isRootOf, isChildOf, Disjoint, HeapOrdered, KeysFit, WellFormed}
-use Rattle.rules.specs.Words.{look, headOr, unlessFree, word, encode}
-use Rattle.rules.proofs.Excused.{to-formed}
-use Rattle.rules.proofs.Members.{out-heap, heap-in, root-row, row-root, free-children}
-use Rattle.rules.proofs.Minimum.{leastOf-in, none-before, minimum-in-row}
-use Rattle.rules.proofs.Occurs.{delta-self}
+use Rattle.rules.specs.Words.{look, unlessFree, word, encode}
+use Rattle.rules.proofs.DecodeEncode.{decode-encode}
+use Rattle.rules.proofs.Members.{out-heap, free-children}
 use Rattle.rules.proofs.SumTo.{sumTo-cong}
-use Rattle.store.proofs.Heaps.{room-heap, word-heap}
-use Rattle.soundness.specs.Check.{heapAt, rowAt, listLength, treesAt, ranksAt, membersAt}
+use Rattle.soundness.specs.Check.{heapAt, countAt, rowAt, listAt, treesAt, ranksAt}
 use Rattle.soundness.proofs.Passed.{Passed}
 use Rattle.soundness.proofs.Encoded.{
   says,
@@ -39,13 +35,16 @@ use Rattle.soundness.proofs.Encoded.{
   mark-is,
   precedes-is,
   count-is,
-  row-length,
-  children-length,
+  row-are,
+  row-passes,
+  children-passes,
+  children-rank,
+  children-ranks,
 }
-use Rattle.soundness.proofs.HeapTests.{Least, HeapRight}
-use Rattle.soundness.proofs.ItemTests.{Free, Root, Child, Member}
+use Rattle.soundness.proofs.HeapTests.{HeapRight}
+use Rattle.soundness.proofs.ItemTests.{Free, Child, Member}
 use Rattle.soundness.proofs.States.{state-low}
-use Rattle.soundness.proofs.Tight.{both-sum, one-place}
+use Rattle.soundness.proofs.Tight.{both-sum, one-place, both-ways}
 
 module _ (s : Forests) (W : WellFormed s) where
   abbrev n : ℕ
@@ -74,24 +73,6 @@ module _ (s : Forests) (W : WellFormed s) where
         rank = says s W Rank i k ∙ ap length (free-children s D i k h);
       }
 
-  root : (i : ℕ) → i < n → heapOf s i ≢ 0 → look n w Parent i ≡ none → Root n w i (look n w Minimum (heapAt n w i - 1))
-  unfolding word
-  root i k m e =
-      let p : parentOf s i ≡ none = sym (says s W Parent i k) ∙ e in
-      let h = heapNumber s i in
-      let hh : heapOf s i ≡ suc h = omega arith in
-      let q : h ≡ heapAt n w i - 1 = omega (arith, heap-is s W i k) in
-      let v : look n w Minimum h ≡ minimum s h = says s W Minimum h (omega (arith, D .heaps i)) in
-      let d =
-      row-root s D h (minimum s h) (minimum-in-row s h i (omega (arith, root-row s D h i hh p))) in
-      let j : minimum s h < n = heap-in s (minimum s h) (λ z. omega (arith, d .0, z)) in
-      subst (λ g. Root n w i (look n w Minimum g)) q
-      (record {
-        unmarked = mark-is s W i k ∙ D .rootsUnmarked i p;
-        inside = rw v j;
-        order = rw v (precedes-is s W i (minimum s h) k j ∙ none-before s (to-formed s W) h i hh);
-      })
-
   child : (i : ℕ) → i < n → heapOf s i ≢ 0 → look n w Parent i ≢ none → Child n w i (look n w Parent i)
   unfolding word HeapOrdered
   child i k m e =
@@ -112,53 +93,22 @@ module _ (s : Forests) (W : WellFormed s) where
       record {
         state = state-low (look n w State i) (omega (arith, heap-is s W i k, D .heaps i));
         key = omega (arith, says s W Key i k, W .keys i);
-        root = root i k h;
+        root = λ e. mark-is s W i k ∙ D .rootsUnmarked i (sym (says s W Parent i k) ∙ e);
         child = child i k h;
-        children = children-length s W i k h;
+        children = children-passes s W i k h;
+        rank = children-rank s W i k h;
+        ranks = children-ranks s W i k h;
       }
 
   -- ---- heaps
 
-  -- a heap with a tree has its minimum in the row, one without has none
-  some-tree : (h : ℕ) → h < 8 → look n w FirstTree h ≢ none → 1 ≤ occurs (minimum s h) (rowOf s h)
-  unfolding word minimum leastIn headOr
-  some-tree h k m = go (rowOf s h) (says s W FirstTree h k)
-    where
-      go : (l : List ℕ) → look n w FirstTree h ≡ headOr none l → 1 ≤ occurs (leastIn (s .key) l) l
-      go [] e = absurd (m e)
-      go (x ∷ l) e = leastOf-in (s .key) x l
-
-  no-tree : (h : ℕ) → h < 8 → look n w FirstTree h ≡ none → minimum s h ≡ none
-  unfolding word minimum leastIn headOr occurs sumBy
-  no-tree h k m = go (rowOf s h) (row-root s D h) (sym (says s W FirstTree h k) ∙ m)
-    where
-      go : (l : List ℕ) → ((x : ℕ) → 1 ≤ occurs x l → (heapOf s x ≡ suc h) × (parentOf s x ≡ none))
-          → headOr none l ≡ none → leastIn (s .key) l ≡ none
-      go [] f e = refl
-      go (x ∷ l) f e =
-          let z : heapOf s x ≢ 0 = λ q. omega (arith, f x (omega (arith, delta-self x)) .0) in
-          absurd (omega (arith, heap-in s x z, D .small))
-
   heap : (h : ℕ) → h < 8 → HeapRight n w h
   unfolding word
   heap h k =
-      let v : look n w Minimum h ≡ minimum s h = says s W Minimum h k in
       record {
-        row = λ z. omega (arith, row-length s W h k);
-        noTree = λ m. v ∙ no-tree h k m;
-        least =
-            λ m.
-            let d = row-root s D h (minimum s h) (some-tree h k m) in
-            let j : minimum s h < n = heap-in s (minimum s h) (λ z. omega (arith, d .0)) in
-            subst (Least n w h) (sym v)
-            (record {
-              inside = j;
-              heap = heap-is s W (minimum s h) j ∙ d .0;
-              root = says s W Parent (minimum s h) j ∙ d .1;
-            });
-        words = λ f o.
-            rw (says s W FirstTree h k, says s W LastTree h k, v, count-is s W h)
-            (says s W f h (rw (room-heap n f o) k) ∙ word-heap s h f o);
+        row = row-passes s W h k;
+        least = says s W Minimum h k ∙ ap (λ t. minimum t h) (sym (decode-encode s D));
+        count = says s W Count h k ∙ sym (count-is s W h);
       }
 
   -- ---- the count
@@ -182,13 +132,14 @@ module _ (s : Forests) (W : WellFormed s) where
         ap (λ v. indicator (not (eqb v 0))) (heap-is s W x k),
       )
 
-  total : treesAt n w + ranksAt n w ≡ membersAt n w
-  unfolding treesAt ranksAt membersAt word
+  total : treesAt n w + ranksAt n w + countAt n w 0 ≡ n
+  unfolding treesAt ranksAt countAt word
   total =
       omega (
         arith,
-        sumTo-cong 8 (λ h. listLength n w (rowAt n w h) - 1) (λ h. length (rowOf s h))
-            (λ h k. omega (arith, row-length s W h k)),
+        both-ways n (λ i. eqb (heapAt n w i) 0),
+        sumTo-cong 8 (λ h. length (listAt n w (rowAt n w h))) (λ h. length (rowOf s h))
+            (λ h k. ap length (row-are s W h k)),
         sumTo-cong n (λ i. look n w Rank i) (λ p. length (childrenOf s p)) (says s W Rank),
         both-sum 8 n (rowOf s) (childrenOf s) (λ _ _. 0) (λ _ _. 0) row-out children-out,
         sumTo-cong n (λ x. sumTo 8 (λ h. occurs x (rowOf s h)) + sumTo n (λ p. occurs x (childrenOf s p)))

@@ -11,6 +11,7 @@ pub mod Passed
 pub mod PassedForests
 pub mod PassedLists
 pub mod PassedWords
+pub mod Ranks
 pub mod SoundExact
 pub mod States
 pub mod Tight

@@ -1,15 +1,13 @@
--- What the words of the items in a list say of the list: who stands before each, that none stands twice, and places.
-use Prim.Native.Nat.{ℕ, suc, _+_, _≤_}
+-- What the words of the items in a list say of the list: who stands before each, and that none stands twice.
+use Prim.Native.Nat.{ℕ, _+_, _≤_}
 use mathlib.Core.Path.{_≡_, refl, sym, ap, _∙_, subst}
 use mathlib.Core.Logic.{_≢_}
 use mathlib.Core.List.{List, [], _∷_}
 use mathlib.Core.Bool.{Bool, true, false, cond}
 use native.Mathlib.Omega.{arith}
-use lib.ListN.{length, getD}
 use lib.Dec.{eqb}
 use borrow.Author.Tests.{eqb-true, eqb-false}
 use Rattle.rules.specs.Lists.{indicator, sumBy, delta, occurs}
-use Rattle.rules.specs.WellFormed.{ChildRanks}
 use Rattle.rules.specs.Words.{prevIn}
 use Rattle.rules.proofs.Occurs.{delta-self, delta-other}
 use Rattle.rules.proofs.Siblings.{Once, tail-in}
@@ -19,11 +17,6 @@ use Rattle.rules.proofs.RemoveLinks.{prev-in}
 abbrev pub Prevs : (ℕ → ℕ) → ℕ → List ℕ → Type 0
 Prevs v q [] = Unit {0}
 Prevs v q (x ∷ l) = (v x ≡ q) × Prevs v x l
-
--- the item at place j has at least j in r
-abbrev pub Places : (ℕ → ℕ) → ℕ → List ℕ → Type 0
-Places r j [] = Unit {0}
-Places r j (x ∷ l) = (j ≤ r x) × Places r (suc j) l
 
 pub prevs-in : (v : ℕ → ℕ) (q x : ℕ) (l : List ℕ) → Prevs v q l → 1 ≤ occurs x l → prevIn q x l ≡ v x
 unfolding prevIn occurs sumBy
@@ -59,25 +52,3 @@ occurs-bound x l t o f = go (eqb (occurs x l) 0) refl
     go : (u : Bool) → eqb (occurs x l) 0 ≡ u → occurs x l ≤ indicator t
     go true e = omega (arith, eqb-true (occurs x l) 0 e)
     go false e = let m : occurs x l ≢ 0 = eqb-false (occurs x l) 0 e in rw (f (omega arith)) (o x)
-
--- ---- places are the rank rule of children
-
-pub places-ranks : (r : ℕ → ℕ) (children : List (List ℕ)) (mark : List ℕ) (j : ℕ) (l : List ℕ)
-    → ((c : ℕ) → 1 ≤ occurs c l → r c ≡ length (getD children c []) + getD mark c 0) → Places r j l
-    → ChildRanks children mark j l
-unfolding occurs sumBy
-places-ranks r children mark j [] f p = tt
-places-ranks r children mark j (c ∷ l) f p = (
-  omega (arith, p .0, f c (omega (arith, delta-self c))),
-  places-ranks r children mark (suc j) l (λ d i. f d (omega arith)) (p .1),
-)
-
-pub ranks-places : (r : ℕ → ℕ) (children : List (List ℕ)) (mark : List ℕ) (j : ℕ) (l : List ℕ)
-    → ((c : ℕ) → 1 ≤ occurs c l → r c ≡ length (getD children c []) + getD mark c 0) → ChildRanks children mark j l
-    → Places r j l
-unfolding occurs sumBy
-ranks-places r children mark j [] f p = tt
-ranks-places r children mark j (c ∷ l) f p = (
-  omega (arith, p .0, f c (omega (arith, delta-self c))),
-  ranks-places r children mark (suc j) l (λ d i. f d (omega arith)) (p .1),
-)

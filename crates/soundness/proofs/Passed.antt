@@ -9,8 +9,8 @@ use borrow.Author.Tests.{eqb-true, eqb-false, ltb-true, ltb-false, eq-eqb}
 use Rattle.rules.specs.declared.Field.the-variants.{State}
 use Rattle.rules.specs.Words.{look}
 use Rattle.rules.proofs.Occurs.{and-split}
-use Rattle.soundness.specs.Check.{allTo, heapAt, itemOk, heapOk, treesAt, ranksAt, membersAt, allOk}
-use Rattle.soundness.proofs.Booleans.{and-join, allTo-at, allTo-all}
+use Rattle.soundness.specs.Check.{heapAt, countAt, itemOk, heapOk, treesAt, ranksAt, allOk}
+use Rattle.soundness.proofs.Booleans.{allTo-at, allTo-all}
 use Rattle.soundness.proofs.HeapTests.{HeapRight, is-heap, heap-passes}
 use Rattle.soundness.proofs.ItemTests.{Free, Member, is-free, is-member, free-passes, member-passes}
 use Rattle.soundness.proofs.States.{heap-zero, zero-heap}
@@ -20,7 +20,7 @@ pub record Passed (n : ℕ) (w : List ℕ) : Type 0 where
   pub free : (i : ℕ) → i < n → heapAt n w i ≡ 0 → Free n w i
   pub member : (i : ℕ) → i < n → heapAt n w i ≢ 0 → Member n w i
   pub heap : (h : ℕ) → h < 8 → HeapRight n w h
-  pub total : treesAt n w + ranksAt n w ≡ membersAt n w
+  pub total : treesAt n w + ranksAt n w + countAt n w 0 ≡ n
 
 -- two case splits: is the number in the table, and is the item in a heap?
 pub byPlace : {A : Type 0} (n i : ℕ) → (i < n → A) → (n ≤ i → A) → A
@@ -41,24 +41,24 @@ module _ (n : ℕ) (w : List ℕ) where
   pub passed : n ≤ 4096 → allOk n w ≡ true → Passed n w
   unfolding allOk heapAt
   passed small ok =
-      let a = and-split (allTo n (itemOk n w)) _ ok in
-      let b = and-split (allTo 8 (heapOk n w)) _ (a .1) in
-      let item : (i : ℕ) → i < n → itemOk n w i ≡ true = allTo-at n (itemOk n w) (a .0) in
+      let a = and-split _ _ ok in
+      let b = and-split _ _ (a .0) in
+      let item : (i : ℕ) → i < n → itemOk n w i ≡ true = allTo-at n (itemOk n w) (b .0) in
       record {
         small = small;
         free = λ i k e. is-free n w i (item i k) (heap-zero (look n w State i) e);
         member = λ i k m. is-member n w i (item i k) (λ e. m (zero-heap (look n w State i) e));
-        heap = λ h k. is-heap n w h (allTo-at 8 (heapOk n w) (b .0) h k);
-        total = eqb-true (treesAt n w + ranksAt n w) (membersAt n w) (b .1);
+        heap = λ h k. is-heap n w h (allTo-at 8 (heapOk n w) (b .1) h k);
+        total = eqb-true (treesAt n w + ranksAt n w + countAt n w 0) n (a .1);
       }
 
   pub passes : Passed n w → allOk n w ≡ true
   unfolding allOk heapAt
   passes A =
-      and-join (allTo n (itemOk n w)) _
-      (allTo-all n (itemOk n w) (λ i k.
-      byZero (heapAt n w i) (λ e. free-passes n w i (heap-zero (look n w State i) e) (A .free i k e))
-      (λ m. member-passes n w i (λ e. m (zero-heap (look n w State i) e)) (A .member i k m))))
-      (and-join (allTo 8 (heapOk n w)) _
-      (allTo-all 8 (heapOk n w) (λ h k. heap-passes n w h (A .heap h k)))
-      (eq-eqb (treesAt n w + ranksAt n w) (membersAt n w) (A .total)))
+      rw (
+        allTo-all n (itemOk n w) (λ i k.
+            byZero (heapAt n w i) (λ e. free-passes n w i (heap-zero (look n w State i) e) (A .free i k e))
+            (λ m. member-passes n w i (λ e. m (zero-heap (look n w State i) e)) (A .member i k m))),
+        allTo-all 8 (heapOk n w) (λ h k. heap-passes n w h (A .heap h k)),
+        eq-eqb (treesAt n w + ranksAt n w + countAt n w 0) n (A .total),
+      )

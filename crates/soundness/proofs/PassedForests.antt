@@ -11,6 +11,7 @@ use Rattle.rules.specs.Words.{look, decode}
 use Rattle.soundness.specs.Check.{heapAt, markAt}
 use Rattle.soundness.proofs.Passed.{Passed, byPlace, byZero}
 use Rattle.soundness.proofs.PassedLists.{
+  children-are,
   children-list,
   no-children,
   rank-is,
@@ -36,8 +37,7 @@ use Rattle.soundness.proofs.Decoded.{
   precedes-at,
 }
 use Rattle.soundness.proofs.ItemTests.{Child}
-use Rattle.soundness.proofs.Links.{places-ranks}
-use Rattle.soundness.proofs.Lists.{markedRank}
+use Rattle.soundness.proofs.Ranks.{ranks-rule}
 use Rattle.soundness.proofs.States.{heap-zero, zero-mark, mark-low}
 
 module _ (n : ℕ) (w : List ℕ) (A : Passed n w) where
@@ -74,7 +74,7 @@ module _ (n : ℕ) (w : List ℕ) (A : Passed n w) where
       byPlace n x
       (λ i.
       byZero (heapAt n w x) (λ h. free x (heap-at n w x i ∙ h) .2)
-      (λ m. mark-at n w x i ∙ A .member x i m .root (sym (parent-at n w x i) ∙ e) .unmarked))
+      (λ m. mark-at n w x i ∙ A .member x i m .root (sym (parent-at n w x i) ∙ e)))
       (λ o. out-mark n w x o)
 
   pub disjoint : Disjoint s
@@ -120,10 +120,10 @@ module _ (n : ℕ) (w : List ℕ) (A : Passed n w) where
       let i : p < n = rw (length-heap n w) at k in
       byZero (heapAt n w p) (λ e. rw (no-children n w A p i e) tt) (λ m.
       let r = children-list n w A p i m in
-      places-ranks (markedRank n w) (s .children) (s .mark) 0 (childrenOf s p) (λ c j.
+      ranks-rule n w s 1 (childrenOf s p) (λ c j.
       let o = r .own c j in
-      omega (arith, rank-is n w A c (o .inside), mark-at n w c (o .inside)))
-      (r .places (λ z. omega (arith, A .small))))
+      record { rank = rank-is n w A c (o .inside); mark = sym (mark-at n w c (o .inside)) })
+      (rw (children-are n w A p i m) (A .member p i m .ranks)))
 
   keys : KeysFit s
   unfolding KeysFit

@@ -1,6 +1,6 @@
 -- The rows and the children of a store that passes: each item of a heap stands in its own list once, and nowhere else.
-use Prim.Native.Nat.{ℕ, suc, _+_, _-_, _≤_, _<_, zero-le}
-use mathlib.Core.Path.{_≡_}
+use Prim.Native.Nat.{ℕ, suc, _+_, _≤_, _<_, zero-le}
+use mathlib.Core.Path.{_≡_, sym, ap, _∙_}
 use mathlib.Core.Logic.{_≢_}
 use mathlib.Core.List.{List, []}
 use mathlib.Core.Bool.{not}
@@ -8,46 +8,37 @@ use native.Mathlib.Omega.{arith}
 use lib.ListN.{length}
 use lib.Dec.{eqb, eqb·zero-suc}
 use borrow.Author.Tests.{eq-eqb, ne-eqb}
-use Rattle.rules.specs.declared.Field.the-variants.{FirstTree, Parent, FirstChild, Prev, Rank, State}
+use Rattle.rules.specs.declared.Field.the-variants.{Parent, Prev, Rank, State}
 use Rattle.rules.specs.Lists.{indicator, sumBy, sumTo, occurs}
 use Rattle.rules.specs.Forests.{Forests, none, rowOf, childrenOf, rankOf}
 use Rattle.rules.specs.WellFormed.{isRootOf, isChildOf}
-use Rattle.rules.specs.Words.{look, listFrom, decode}
+use Rattle.rules.specs.Words.{look, decode}
 use Rattle.rules.proofs.Occurs.{eqb-self}
 use Rattle.rules.proofs.Siblings.{Once}
 use Rattle.rules.proofs.SumTo.{sumTo-cong}
 use Rattle.soundness.specs.declared.Siblings.{Siblings}
-use Rattle.soundness.specs.Check.{heapAt, rowAt, childrenAt, listLength, treesAt, ranksAt, membersAt}
+use Rattle.soundness.specs.Check.{heapAt, countAt, rowAt, childrenAt, listAt, treesAt, ranksAt}
 use Rattle.soundness.proofs.Passed.{Passed, byPlace, byZero}
 use Rattle.soundness.proofs.Decoded.{parent-at, heap-at, row-at, children-at, out-row, out-heap}
 use Rattle.soundness.proofs.Links.{prevs-once, occurs-bound}
-use Rattle.soundness.proofs.Lists.{Listed, length-listed}
+use Rattle.soundness.proofs.Lists.{OwnList, is-listed}
 use Rattle.soundness.proofs.States.{heap-zero, zero-heap, heap-low}
-use Rattle.soundness.proofs.Tight.{tight-rows, tight-children, one-place}
+use Rattle.soundness.proofs.Tight.{tight-rows, tight-children, one-place, both-ways}
 
 module _ (n : ℕ) (w : List ℕ) (A : Passed n w) where
   abbrev s : Forests
   s = decode n w
 
-  -- the whole of a list that ends at place m
-  abbrev pub Whole : Siblings → ℕ → List ℕ → Type 0
-  Whole l m xs = Listed n w (A .small) l none 0 (l .first) m xs
+  pub row-list : (h : ℕ) → h < 8 → OwnList n w (rowAt n w h) (rowOf s h)
+  row-list h k = rw (row-at n w h k) (is-listed n w (rowAt n w h) (A .heap h k .row))
 
-  pub row-list : (h : ℕ) → h < 8 → Whole (rowAt n w h) (listLength n w (rowAt n w h) - 1) (rowOf s h)
-  unfolding listLength listFrom
-  row-list h k =
-      let m : listLength n w (rowAt n w h) ≢ 0 = A .heap h k .row in
-      rw (row-at n w h k)
-      (length-listed n w (A .small) (rowAt n w h) n none 0 (look n w FirstTree h) (listLength n w (rowAt n w h) - 1)
-      (omega arith))
+  pub children-are : (i : ℕ) → i < n → heapAt n w i ≢ 0 → childrenOf s i ≡ listAt n w (childrenAt n w i)
+  unfolding heapAt
+  children-are i k m =
+      children-at n w i k ∙ rw (ne-eqb (look n w State i) 0 (λ e. m (zero-heap (look n w State i) e)))
 
-  pub children-list : (i : ℕ) → i < n → heapAt n w i ≢ 0 → Whole (childrenAt n w i) (look n w Rank i) (childrenOf s i)
-  unfolding listLength listFrom heapAt
-  children-list i k m =
-      let z : look n w State i ≢ 0 = λ e. m (zero-heap (look n w State i) e) in
-      rw (children-at n w i k, ne-eqb (look n w State i) 0 z)
-      (length-listed n w (A .small) (childrenAt n w i) n none 0 (look n w FirstChild i) (look n w Rank i)
-      (A .member i k m .children))
+  pub children-list : (i : ℕ) → i < n → heapAt n w i ≢ 0 → OwnList n w (childrenAt n w i) (childrenOf s i)
+  children-list i k m = rw (children-are i k m) (is-listed n w (childrenAt n w i) (A .member i k m .children))
 
   pub no-children : (i : ℕ) → i < n → heapAt n w i ≡ 0 → childrenOf s i ≡ []
   unfolding heapAt
@@ -56,22 +47,21 @@ module _ (n : ℕ) (w : List ℕ) (A : Passed n w) where
   pub rank-is : (i : ℕ) → i < n → look n w Rank i ≡ rankOf s i
   rank-is i k =
       byZero (heapAt n w i) (λ e. rw (no-children i k e) (A .free i k e .rank))
-      (λ m. omega (arith, children-list i k m .size))
+      (λ m. rw (children-are i k m) (sym (A .member i k m .rank)))
 
   -- ---- no list holds an item outside the table, or twice, or one that is not its own
 
-  none-out : (l : Siblings) (m : ℕ) (xs : List ℕ) → Whole l m xs → (x : ℕ) → n ≤ x → occurs x xs ≡ 0
-  none-out l m xs r x h =
+  none-out : (l : Siblings) (xs : List ℕ) → OwnList n w l xs → (x : ℕ) → n ≤ x → occurs x xs ≡ 0
+  none-out l xs r x h =
       byZero (occurs x xs) (λ e. e) (λ f. absurd (omega (arith, r .own x (omega arith) .inside)))
 
-  once : (l : Siblings) (m : ℕ) (xs : List ℕ) → Whole l m xs → Once xs
-  once l m xs r =
-      prevs-once (look n w Prev) none xs (none-out l m xs r none (omega (arith, A .small))) (r .prevs)
+  once : (l : Siblings) (xs : List ℕ) → OwnList n w l xs → Once xs
+  once l xs r = prevs-once (look n w Prev) none xs (none-out l xs r none (omega (arith, A .small))) (r .prevs)
 
   row-bound : (h : ℕ) → h < 8 → (x : ℕ) → occurs x (rowOf s h) ≤ indicator (isRootOf s h x)
   row-bound h k x =
       let r = row-list h k in
-      occurs-bound x (rowOf s h) (isRootOf s h x) (once (rowAt n w h) _ (rowOf s h) r) (λ i.
+      occurs-bound x (rowOf s h) (isRootOf s h x) (once (rowAt n w h) (rowOf s h) r) (λ i.
       let o = r .own x i in
       rw (heap-at n w x (o .inside), parent-at n w x (o .inside), o .heap, o .parent, eqb-self (suc h)))
 
@@ -80,7 +70,7 @@ module _ (n : ℕ) (w : List ℕ) (A : Passed n w) where
   children-bound p k x =
       byZero (heapAt n w p) (λ e. rw (no-children p k e) zero-le) (λ m.
       let r = children-list p k m in
-      occurs-bound x (childrenOf s p) (isChildOf s p x) (once (childrenAt n w p) _ (childrenOf s p) r) (λ i.
+      occurs-bound x (childrenOf s p) (isChildOf s p x) (once (childrenAt n w p) (childrenOf s p) r) (λ i.
       let o = r .own x i in
       rw (
         heap-at n w x (o .inside),
@@ -92,13 +82,13 @@ module _ (n : ℕ) (w : List ℕ) (A : Passed n w) where
       )))
 
   row-out : (h : ℕ) → h < 8 → (x : ℕ) → n ≤ x → occurs x (rowOf s h) ≡ 0
-  row-out h k = none-out (rowAt n w h) _ (rowOf s h) (row-list h k)
+  row-out h k = none-out (rowAt n w h) (rowOf s h) (row-list h k)
 
   children-out : (p : ℕ) → p < n → (x : ℕ) → n ≤ x → occurs x (childrenOf s p) ≡ 0
   unfolding occurs sumBy
   children-out p k x j =
       byZero (heapAt n w p) (λ e. rw (no-children p k e))
-      (λ m. none-out (childrenAt n w p) _ (childrenOf s p) (children-list p k m) x j)
+      (λ m. none-out (childrenAt n w p) (childrenOf s p) (children-list p k m) x j)
 
   -- ---- so, by the count, each list holds all that are its own
 
@@ -117,13 +107,14 @@ module _ (n : ℕ) (w : List ℕ) (A : Passed n w) where
 
   all : sumTo 8 (λ h. length (rowOf s h)) + sumTo n (λ p. length (childrenOf s p))
       ≡ sumTo n (λ x. sumTo 8 (λ h. indicator (isRootOf s h x)) + sumTo n (λ p. indicator (isChildOf s p x)))
-  unfolding treesAt ranksAt membersAt
+  unfolding treesAt ranksAt countAt
   all =
       omega (
         arith,
         A .total,
-        sumTo-cong 8 (λ h. listLength n w (rowAt n w h) - 1) (λ h. length (rowOf s h))
-            (λ h k. omega (arith, row-list h k .size)),
+        both-ways n (λ i. eqb (heapAt n w i) 0),
+        sumTo-cong 8 (λ h. length (rowOf s h)) (λ h. length (listAt n w (rowAt n w h)))
+            (λ h k. ap length (row-at n w h k)),
         sumTo-cong n (λ i. look n w Rank i) (λ p. length (childrenOf s p)) rank-is,
         sumTo-cong n
             (λ x. sumTo 8 (λ h. indicator (isRootOf s h x)) + sumTo n (λ p. indicator (isChildOf s p x)))

@@ -1,8 +1,8 @@
 -- The words of a store that passes are those of the forests that are read from it.
-use Prim.Native.Nat.{ℕ, suc, _-_, _≤_, _<_}
-use mathlib.Core.Path.{_≡_, refl, sym, _∙_, subst}
+use Prim.Native.Nat.{ℕ, suc, _≤_, _<_}
+use mathlib.Core.Path.{_≡_, refl, sym, _∙_}
 use mathlib.Core.Logic.{_≢_}
-use mathlib.Core.List.{List, [], _∷_}
+use mathlib.Core.List.{List}
 use mathlib.Core.Bool.{Bool, true, false, cond}
 use native.Mathlib.Omega.{arith}
 use lib.ListN.{length}
@@ -10,17 +10,14 @@ use lib.Dec.{eqb}
 use borrow.Author.Tests.{eqb-true, eqb-false, ne-eqb}
 use Rattle.rules.specs.declared.Field.{Field}
 use Rattle.rules.specs.declared.Field.the-variants.{
-  FirstTree,
-  Minimum,
   FirstChild,
   LastChild,
   Next,
   Prev,
   State,
 }
-use Rattle.rules.specs.Lists.{sumBy, occurs}
+use Rattle.rules.specs.Lists.{occurs}
 use Rattle.rules.specs.Forests.{Forests, none, rowOf, childrenOf, parentOf, heapOf, heapNumber}
-use Rattle.rules.specs.Order.{comesBefore, leastIn, minimum}
 use Rattle.rules.specs.Words.{
   storeSize,
   fieldSize,
@@ -36,23 +33,18 @@ use Rattle.rules.specs.Words.{
   decode,
 }
 use Rattle.rules.proofs.Members.{root-row, parent-child}
-use Rattle.rules.proofs.Minimum.{minimum-unique}
-use Rattle.rules.proofs.Occurs.{delta-self}
 use Rattle.rules.proofs.Words.{words-equal}
-use Rattle.store.specs.Heaps.{ofHeap}
-use Rattle.store.specs.ItemOrder.{itemKey}
-use Rattle.store.proofs.Heaps.{by-heaps, room-heap, word-heap}
-use Rattle.soundness.specs.Check.{heapAt, markAt, rowAt, listLength}
+use Rattle.store.proofs.Heaps.{HeapWords, by-heaps}
+use Rattle.soundness.specs.Check.{heapAt, markAt}
 use Rattle.soundness.proofs.Passed.{Passed, byZero}
 use Rattle.soundness.proofs.PassedForests.{disjoint}
-use Rattle.soundness.proofs.PassedLists.{Whole, row-list, children-list, rank-is}
+use Rattle.soundness.proofs.PassedLists.{row-list, children-list, rank-is}
 use Rattle.soundness.proofs.Decoded.{
   key-at,
   parent-at,
   heap-at,
   mark-at,
   length-heap,
-  precedes-at,
   count-at,
 }
 use Rattle.soundness.proofs.Links.{prevs-in}
@@ -99,57 +91,22 @@ module _ (n : ℕ) (w : List ℕ) (A : Passed n w) where
           let r = children-list n w A (parentOf s i) g hp in
           (r .next i j, prevs-in (look n w Prev) none i (childrenOf s (parentOf s i)) (r .prevs) j)
 
-  -- ---- the heaps' words
-
-  row-nil : (h : ℕ) → h < 8 → look n w FirstTree h ≡ none → rowOf s h ≡ []
-  unfolding occurs sumBy headOr
-  row-nil h k e = go (rowOf s h) (row-list n w A h k)
-    where
-      go : (l : List ℕ) → Whole n w A (rowAt n w h) (listLength n w (rowAt n w h) - 1) l → l ≡ []
-      go [] r = refl
-      go (x ∷ l) r = absurd (omega (arith, r .own x (omega (arith, delta-self x)) .inside, r .head, e, A .small))
-
-  minimum-some : (h : ℕ) → h < 8 → look n w FirstTree h ≢ none → minimum s h ≡ look n w Minimum h
-  minimum-some h k m =
-      let least = look n w Minimum h in
-      let c = A .heap h k .least m in
-      minimum-unique s (disjoint n w A) h least
-      (omega (
-        arith,
-        root-row s (disjoint n w A) h least (heap-at n w least (c .inside) ∙ c .heap)
-            (parent-at n w least (c .inside) ∙ c .root),
-      ))
-      (λ z j.
-      let o = row-list n w A h k .own z j in
-      let d : heapAt n w z ≢ 0 = λ e. omega (arith, o .heap) in
-      let r = A .member z (o .inside) d .root (o .parent) in
-      precedes-at n w z least (o .inside) (c .inside)
-      ∙ subst (λ g. comesBefore (itemKey (look n w)) z (look n w Minimum g) ≡ false) (omega (arith, o .heap))
-      (r .order))
-
-  minimum-at : (h : ℕ) → h < 8 → minimum s h ≡ look n w Minimum h
-  unfolding minimum leastIn
-  minimum-at h k = go (eqb (look n w FirstTree h) none) refl
-    where
-      go : (t : Bool) → eqb (look n w FirstTree h) none ≡ t → minimum s h ≡ look n w Minimum h
-      go true e =
-          let q = eqb-true (look n w FirstTree h) none e in
-          rw (row-nil h k q) (sym (A .heap h k .noTree q))
-      go false e = minimum-some h k (eqb-false (look n w FirstTree h) none e)
-
   -- ---- every word
 
-  heap-says : (f : Field) → ofHeap f ≡ true → (h : ℕ) → h < fieldSize n f → look n w f h ≡ word s f h
-  heap-says f o h k =
-      let j : h < 8 = rw (room-heap n f o) at k in
-      let r = row-list n w A h j in
-      rw (word-heap s h f o, r .head, r .last, minimum-at h j, count-at n w h) (A .heap h j .words f o)
+  heap-words : (h : ℕ) → h < 8 → HeapWords n w s h
+  heap-words h k =
+      let r = row-list n w A h k in
+      record {
+        first = sym (r .head);
+        last = sym (r .last);
+        least = A .heap h k .least;
+        items = A .heap h k .count ∙ sym (count-at n w h);
+      }
 
   says : (f : Field) (i : ℕ) → i < fieldSize n f → look n w f i ≡ word s f i
   unfolding word heapAt markAt
   says =
-      by-heaps (λ f. (i : ℕ) → i < fieldSize n f → look n w f i ≡ word s f i)
-      heap-says
+      by-heaps n w s heap-words
       (λ i k. sym (key-at n w i k))
       (λ i k. sym (parent-at n w i k))
       (λ i k.

@@ -1,5 +1,5 @@
 -- What a state word says: which heap, and whether the item is marked.
-use Prim.Native.Nat.{ℕ, zero, suc, _+_, _-_, _/_, _%_, _≤_, _<_, zero-le}
+use Prim.Native.Nat.{ℕ, zero, suc, _+_, _-_, _/_, _%_, _≤_, zero-le}
 use mathlib.Core.Path.{_≡_, refl}
 use mathlib.Core.Logic.{_≢_}
 use native.Mathlib.Omega.{arith}
@@ -50,8 +50,3 @@ pub mark-odd : (v : ℕ) → v ≢ 0 → (v - 1) % 2 ≡ stateMark v
 unfolding stateMark
 mark-odd zero m = absurd (m refl)
 mark-odd (suc v) m = let e : suc v - 1 ≡ v = omega arith in rw e
-
-pub heap-some : (v : ℕ) → 0 < v → 0 < stateHeap v
-unfolding stateHeap
-heap-some zero h = h
-heap-some (suc v) h = omega arith

@@ -14,7 +14,7 @@ use Rattle.rules.specs.Lists.{indicator, sumTo, delta, occurs}
 use Rattle.rules.specs.Forests.{none}
 use Rattle.rules.proofs.Occurs.{and-true, and-false}
 use Rattle.rules.proofs.SumTo.{sumTo-le, sumTo-cong, sumTo-add, sumTo-zero, sumTo-swap, sumTo-pick, sumBy-occurs}
-use Rattle.rules.proofs.Follow.{sum-ones}
+use Rattle.rules.proofs.Follow.{sum-ones, to-ones}
 
 pub sumTo-tight : (n : ℕ) (f g : ℕ → ℕ) → ((x : ℕ) → x < n → f x ≤ g x) → sumTo n g ≤ sumTo n f → (x : ℕ) → x < n
     → f x ≡ g x
@@ -117,3 +117,17 @@ one-place (suc g) p n a b c = go (eqb p none) refl
         let k : sumTo n (λ q. indicator (not (eqb (suc g) 0) && eqb p q)) ≡ sumTo n (λ q. delta q p * 1) =
         sumTo-cong n _ (λ q. delta q p * 1) (λ q _. rw ne (indicator-delta q p)) in
         omega (arith, one, r, k, sumTo-zero 8, sumTo-pick n p (λ _. 1) (b (λ z. omega arith) (eqb-false p none e)))
+
+-- the numbers of which a test holds, and the others
+pub both-ways : (n : ℕ) (f : ℕ → Bool) → sumTo n (λ i. indicator (f i)) + sumTo n (λ i. indicator (not (f i))) ≡ n
+both-ways n f =
+    omega (
+      arith,
+      to-ones n,
+      sumTo-add n (λ i. indicator (f i)) (λ i. indicator (not (f i))),
+      sumTo-cong n (λ i. indicator (f i) + indicator (not (f i))) (λ _. 1) (λ i _. one (f i)),
+    )
+  where
+    one : (t : Bool) → indicator t + indicator (not t) ≡ 1
+    one true = refl
+    one false = refl

@@ -1,13 +1,16 @@
--- The check of a kept store: tests on its words alone (scope paper, Store, "Sound", and code 5). A word is read by its
--- kind and number; where it lies is not said here.
+-- The check of a kept store: tests on its words alone (scope paper, Store, "Sound", and code 5), a test for each thing
+-- that the paper says. `SoundExact` (Theorems) says that together they accept the sound words and no others. A word is
+-- read by its kind and number; where it lies is not said here.
 use Prim.Native.Nat.{ℕ, zero, suc, _+_, _-_}
-use mathlib.Core.List.{List}
-use mathlib.Core.Bool.{Bool, true, cond, not, _&&_, _||_}
+use mathlib.Core.List.{List, [], _∷_}
+use mathlib.Core.Bool.{Bool, true, cond, _&&_}
+use lib.ListN.{length}
 use lib.Dec.{eqb, ltb, leb}
 use Rattle.rules.specs.declared.Field.the-variants.{
   FirstTree,
   LastTree,
   Minimum,
+  Count,
   Key,
   Parent,
   FirstChild,
@@ -20,123 +23,130 @@ use Rattle.rules.specs.declared.Field.the-variants.{
 use Rattle.soundness.specs.declared.Siblings.{Siblings}
 use Rattle.rules.specs.Lists.{indicator, sumTo}
 use Rattle.rules.specs.Forests.{none}
-use Rattle.rules.specs.Order.{comesBefore}
-use Rattle.rules.specs.Words.{itemsIn, isStore, look, stateHeap, stateMark}
-use Rattle.store.specs.Heaps.{heapIs}
+use Rattle.rules.specs.Order.{comesBefore, minimum}
+use Rattle.rules.specs.Words.{itemsIn, isStore, look, headOr, lastOr, stateHeap, stateMark, listFrom, decode}
 use Rattle.store.specs.ItemOrder.{itemKey}
+use Rattle.store.specs.Says.{Values}
 
 -- f holds of 0 to n - 1
 unfoldable pub allTo : ℕ → (ℕ → Bool) → Bool
 allTo zero f = true
 allTo (suc n) f = allTo n f && f n
 
--- what the state word of an item says: 0 for a free item, 1 + h for an item of heap h; and its mark
-unfoldable pub heapAt : ℕ → List ℕ → ℕ → ℕ
-heapAt n w i = stateHeap (look n w State i)
+module _ (n : ℕ) (w : List ℕ) where
+  -- ---- what the words of a store for n items say
 
-unfoldable pub markAt : ℕ → List ℕ → ℕ → ℕ
-markAt n w i = stateMark (look n w State i)
+  -- v f i: word i of kind f
+  abbrev v : Values
+  v = look n w
 
--- ---- lists of siblings
+  -- the heap of an item, 1 + its number (0 for a free item), and its mark
+  unfoldable pub heapAt : ℕ → ℕ
+  heapAt i = stateHeap (v State i)
 
--- what the items of a list of siblings must say, and its ends
-abbrev pub siblingsOf : ℕ → ℕ → ℕ → ℕ → Siblings
-siblingsOf heap parent first last = record { heap = heap; parent = parent; first = first; last = last }
+  unfoldable pub markAt : ℕ → ℕ
+  markAt i = stateMark (v State i)
 
--- the row of heap h, and the children of item i
-abbrev pub rowAt : ℕ → List ℕ → ℕ → Siblings
-rowAt n w h = siblingsOf (suc h) none (look n w FirstTree h) (look n w LastTree h)
+  -- how many items are in such a heap (0: are free)
+  unfoldable pub countAt : ℕ → ℕ
+  countAt heap = sumTo n (λ i. indicator (eqb (heapAt i) heap))
 
-abbrev pub childrenAt : ℕ → List ℕ → ℕ → Siblings
-childrenAt n w i = siblingsOf (heapAt n w i) i (look n w FirstChild i) (look n w LastChild i)
+  -- the row of heap h and the children of item i: the heap and the parent of all in it, and the words for its two ends
+  abbrev pub rowAt : ℕ → Siblings
+  rowAt h = record { heap = suc h; parent = none; first = v FirstTree h; last = v LastTree h }
 
--- item x may stand at place j (from 0) of the list l, after item prev: among children its rank is at least j, or
--- j - 1 if it is marked
-unfoldable pub linkOk : ℕ → List ℕ → Siblings → ℕ → ℕ → ℕ → Bool
-linkOk n w l prev j x =
-    ltb x n && (eqb (heapAt n w x) (l .heap) && (eqb (look n w Parent x) (l .parent) && (eqb (look n w Prev x) prev
-    && (eqb (l .parent) none || leb j (look n w Rank x + markAt n w x)))))
+  abbrev pub childrenAt : ℕ → Siblings
+  childrenAt i = record { heap = heapAt i; parent = i; first = v FirstChild i; last = v LastChild i }
 
--- The list l from item x on, which stands at place j after item prev: one more than its length if it is right, else 0.
--- It is followed for d items at most.
-unfoldable pub lengthFrom : ℕ → List ℕ → Siblings → ℕ → ℕ → ℕ → ℕ → ℕ
-lengthFrom n w l zero prev j x = cond (eqb x none && eqb prev (l .last)) (suc j) 0
-lengthFrom n w l (suc d) prev j x =
-    cond (eqb x none) (cond (eqb prev (l .last)) (suc j) 0)
-    (cond (linkOk n w l prev j x) (lengthFrom n w l d x (suc j) (look n w Next x)) 0)
+  -- the items of such a list, followed from the first for n items at most, as `decode` does
+  abbrev pub listAt : Siblings → List ℕ
+  listAt l = listFrom n w (l .first)
 
--- one more than the length of a list of siblings that is right, else 0
-unfoldable pub listLength : ℕ → List ℕ → Siblings → ℕ
-listLength n w l = lengthFrom n w l n none 0 (l .first)
+  -- ---- lists: an item stands in no list but the one that its words name, and there once
 
--- ---- items
+  -- item x is in the table, and its heap and parent are those of the list
+  unfoldable pub namesOwner : Siblings → ℕ → Bool
+  namesOwner l x = ltb x n && eqb (heapAt x) (l .heap) && eqb (v Parent x) (l .parent)
 
--- a root is unmarked and does not come before the minimum of its heap
-unfoldable pub rootOk : ℕ → List ℕ → ℕ → ℕ → Bool
-rootOk n w i least = eqb (markAt n w i) 0 && (ltb least n && not (comesBefore (itemKey (look n w)) i least))
+  -- each item of the list xs names its owner, and the items before and after it; prev stands before the first
+  unfoldable pub linksOk : Siblings → ℕ → List ℕ → Bool
+  linksOk l prev [] = true
+  linksOk l prev (x ∷ xs) =
+      namesOwner l x && eqb (v Prev x) prev && eqb (v Next x) (headOr none xs) && linksOk l x xs
 
--- any other item has a parent in its heap that comes before it
-unfoldable pub childOk : ℕ → List ℕ → ℕ → ℕ → Bool
-childOk n w i p = ltb p n && (eqb (heapAt n w p) (heapAt n w i) && comesBefore (itemKey (look n w)) p i)
+  -- a list is linksOk, and the words for its ends name them (so a circle fails: what is read of it has no end)
+  unfoldable pub listOk : Siblings → Bool
+  listOk l =
+      linksOk l none (listAt l) && eqb (l .first) (headOr none (listAt l)) && eqb (l .last) (lastOr none (listAt l))
 
--- `least` is what the heap's minimum word says
-unfoldable pub parentOk : ℕ → List ℕ → ℕ → Bool
-parentOk n w i =
-    let least = look n w Minimum (heapAt n w i - 1) in
-    cond (eqb (look n w Parent i) none) (rootOk n w i least) (childOk n w i (look n w Parent i))
+  -- ---- heap order, marks and ranks
 
--- the state is that of one of eight heaps, the key has 32 bits, and the children are as many as the rank says
-unfoldable pub memberOk : ℕ → List ℕ → ℕ → Bool
-memberOk n w i =
-    leb (look n w State i) 16 && (leb (look n w Key i) 4294967295 && (parentOk n w i
-    && eqb (listLength n w (childrenAt n w i)) (suc (look n w Rank i))))
+  -- a root is unmarked
+  unfoldable pub rootUnmarked : ℕ → Bool
+  rootUnmarked i = eqb (markAt i) 0
 
--- the words of a free item are all 0
-unfoldable pub freeOk : ℕ → List ℕ → ℕ → Bool
-freeOk n w i =
-    eqb (look n w Key i) 0 && (eqb (look n w Parent i) 0 && (eqb (look n w FirstChild i) 0
-    && (eqb (look n w LastChild i) 0 && (eqb (look n w Next i) 0 && (eqb (look n w Prev i) 0
-    && eqb (look n w Rank i) 0)))))
+  -- any other item has a parent in the same heap
+  unfoldable pub parentInHeap : ℕ → Bool
+  parentInHeap i = ltb (v Parent i) n && eqb (heapAt (v Parent i)) (heapAt i)
 
-unfoldable pub itemOk : ℕ → List ℕ → ℕ → Bool
-itemOk n w i = cond (eqb (look n w State i) 0) (freeOk n w i) (memberOk n w i)
+  -- which comes before it
+  unfoldable pub inHeapOrder : ℕ → Bool
+  inHeapOrder i = comesBefore (itemKey v) (v Parent i) i
 
--- ---- heaps
+  unfoldable pub parentOk : ℕ → Bool
+  parentOk i = cond (eqb (v Parent i) none) (rootUnmarked i) (parentInHeap i && inHeapOrder i)
 
--- the minimum is none where there is no tree, else it is a root of the heap
-unfoldable pub leastOk : ℕ → List ℕ → ℕ → ℕ → Bool
-leastOk n w h least = ltb least n && (eqb (heapAt n w least) (suc h) && eqb (look n w Parent least) none)
+  -- item c may be the i-th child (from 1): its rank is at least i - 1, or i - 2 if it is marked
+  unfoldable pub childRankOk : ℕ → ℕ → Bool
+  childRankOk i c = leb (i - (1 + markAt c)) (v Rank c)
 
-unfoldable pub minimumOk : ℕ → List ℕ → ℕ → Bool
-minimumOk n w h =
-    cond (eqb (look n w FirstTree h) none) (eqb (look n w Minimum h) none) (leastOk n w h (look n w Minimum h))
+  -- the same of all children from the i-th on
+  unfoldable pub childRanksOk : ℕ → List ℕ → Bool
+  childRanksOk i [] = true
+  childRanksOk i (c ∷ cs) = childRankOk i c && childRanksOk (suc i) cs
 
--- how many items have heap v in their state (0: are free)
-unfoldable pub countAt : ℕ → List ℕ → ℕ → ℕ
-countAt n w v = sumTo n (λ i. indicator (eqb (heapAt n w i) v))
+  -- ---- an item
 
--- the words of the heap are those that one with these ends, this minimum and so many items has
-unfoldable pub heapOk : ℕ → List ℕ → ℕ → Bool
-heapOk n w h =
-    not (eqb (listLength n w (rowAt n w h)) 0) && (minimumOk n w h
-    && heapIs n w h (look n w FirstTree h) (look n w LastTree h) (look n w Minimum h) (countAt n w (suc h)))
+  -- free, its state being 0: so are its other words
+  unfoldable pub freeZero : ℕ → Bool
+  freeZero i =
+      eqb (v Key i) 0 && eqb (v Parent i) 0 && eqb (v FirstChild i) 0 && eqb (v LastChild i) 0 && eqb (v Next i) 0
+      && eqb (v Prev i) 0 && eqb (v Rank i) 0
 
--- ---- the whole store
+  -- in one of eight heaps, with a key of 32 bits; its children are as many as its rank
+  unfoldable pub memberOk : ℕ → Bool
+  memberOk i =
+      leb (v State i) 16 && leb (v Key i) 4294967295 && parentOk i && listOk (childrenAt i)
+      && eqb (length (listAt (childrenAt i))) (v Rank i) && childRanksOk 1 (listAt (childrenAt i))
 
--- how many items stand in rows, how many among children, and how many are in heaps
-unfoldable pub treesAt : ℕ → List ℕ → ℕ
-treesAt n w = sumTo 8 (λ h. listLength n w (rowAt n w h) - 1)
+  unfoldable pub itemOk : ℕ → Bool
+  itemOk i = cond (eqb (v State i) 0) (freeZero i) (memberOk i)
 
-unfoldable pub ranksAt : ℕ → List ℕ → ℕ
-ranksAt n w = sumTo n (λ i. look n w Rank i)
+  -- ---- a heap
 
-unfoldable pub membersAt : ℕ → List ℕ → ℕ
-membersAt n w = sumTo n (λ i. indicator (not (eqb (heapAt n w i) 0)))
+  -- its minimum is the least root, as in the forests that are read from the words
+  unfoldable pub minimumRight : ℕ → Bool
+  minimumRight h = eqb (v Minimum h) (minimum (decode n w) h)
 
--- Every item and every heap is right, and no item of a heap stands in no list.
-unfoldable pub allOk : ℕ → List ℕ → Bool
-allOk n w =
-    allTo n (itemOk n w) && (allTo 8 (heapOk n w) && eqb (treesAt n w + ranksAt n w) (membersAt n w))
+  -- its count is the number of its items
+  unfoldable pub countRight : ℕ → Bool
+  countRight h = eqb (v Count h) (countAt (suc h))
+
+  unfoldable pub heapOk : ℕ → Bool
+  heapOk h = listOk (rowAt h) && minimumRight h && countRight h
+
+  -- ---- the whole store
+
+  -- how many items stand in rows, and how many among children
+  unfoldable pub treesAt : ℕ
+  treesAt = sumTo 8 (λ h. length (listAt (rowAt h)))
+
+  unfoldable pub ranksAt : ℕ
+  ranksAt = sumTo n (v Rank)
+
+  -- Every item and every heap is right, and each item stands in a row, among children, or is free.
+  unfoldable pub allOk : Bool
+  allOk = allTo n itemOk && allTo 8 heapOk && eqb (treesAt + ranksAt + countAt 0) n
 
 -- The check, for any words.
 unfoldable pub soundWords : List ℕ → Bool

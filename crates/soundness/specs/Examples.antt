@@ -7,6 +7,7 @@ use mathlib.Core.Bool.{cond}
 use lib.ListN.{set, replicate}
 use Rattle.rules.specs.declared.Field.{Field}
 use Rattle.rules.specs.declared.Field.the-variants.{
+  FirstTree,
   LastTree,
   Minimum,
   Count,
@@ -84,6 +85,8 @@ examples =
     fails []
     ∷ fails (replicate 33 0)
     ∷ passes (encode (empty 0))
+    -- no items, and yet a first tree
+    ∷ fails (set (encode (empty 0)) (at 0 FirstTree 0) 0)
     -- all free; an item count of 1 then; a free item with a stray word
     ∷ passes (encode (empty 6))
     ∷ fails (but Count 0 1 (encode (empty 6)))

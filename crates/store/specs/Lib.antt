@@ -3,4 +3,3 @@ pub mod Empty
 pub mod Siblings
 pub mod ItemOrder
 pub mod Families
-pub mod Heaps

@@ -8,7 +8,6 @@ ghost use Rattle.rules.specs.SetWord.{setWord};
 ghost use Rattle.rules.specs.Words.{storeSize, itemsIn, isStore, at, look, encode};
 ghost use Rattle.store.specs.Says.{Sized, Within, Changes};
 ghost use Rattle.store.specs.Empty.{emptyHeap, freeItem};
-ghost use Rattle.store.specs.Heaps.{heapIs};
 ghost use Rattle.store.specs.Siblings.{
   parentIn,
   lastOf,
@@ -147,19 +146,6 @@ pub fn empty_heap(s: &mut [u32], n: usize, h: u32)
     put(s, n, Field::LastTree, h, NONE);
     put(s, n, Field::Minimum, h, NONE);
     put(s, n, Field::Count, h, 0);
-}
-
-// Whether the words of heap h are those of a heap with these ends, this minimum and this count.
-pub fn heap_is(s: &[u32], n: usize, h: u32, first: u32, last: u32, least: u32, count: u32) -> bool
-    requires { ⌜ Sized n (now s) ⌝ }
-    requires { ⌜ h < 8 ⌝ }
-    ensures { λ r. ⌜ r ≡ heapIs n (now (s .entry)) h first last least count ⌝ }
-{
-    let a = get(s, n, Field::FirstTree, h);
-    let b = get(s, n, Field::LastTree, h);
-    let m = get(s, n, Field::Minimum, h);
-    let c = get(s, n, Field::Count, h);
-    (a == first) & (b == last) & (m == least) & (c == count)
 }
 
 // The words of a free item.

@@ -1,13 +1,11 @@
 -- `audit::all_ok` meets its contract.
-use Prim.Native.Nat.{_-_}
 use borrow.Author.Needs.{needs}
-use lib.ListN.{getD}
-use mathlib.Core.Path.{_≡_}
+use lib.Dec.{eqb}
 use native.Mathlib.Omega.{arith}
 use Rattle.rules.proofs.Occurs.{and-false}
 use Rattle.audit.proofs.Results.{ok-zero, ok-more, states-low}
-use Rattle.audit.proofs.Totals.{members-free}
-use Rattle.soundness.specs.Check.{allTo, itemOk, heapOk, treesAt, ranksAt, membersAt, allOk}
+use Rattle.audit.proofs.Totals.{indicators-bound}
+use Rattle.soundness.specs.Check.{allTo, heapAt, countAt, itemOk, heapOk, treesAt, ranksAt, allOk}
 use Rattle.audit.proofs.all_ok.Statement.{statement}
 use Rattle.audit.proofs.all_ok.Tie as tie
 
@@ -55,10 +53,15 @@ add-result c = search needs
 array-read-result : tie.Need-array-read-result
 array-read-result c = search needs
 
-sub-result-3 : tie.Need-sub-result-3
-sub-result-3 c =
+add-result-2 : tie.Need-add-result-2
+unfolding countAt
+add-result-2 c =
     let a = c .before .before .before .before .before .before .args in
-    omega (arith, members-free (a .n) (a .store .now), c .before .before .counts .ensures .each 0 (omega arith))
+    omega (
+      arith,
+      c .before .before .counts .ensures .each 0 (omega arith),
+      indicators-bound (a .n) (λ i. eqb (heapAt (a .n) (a .store .now) i) 0),
+    )
 
 returns-3 : tie.Need-returns-3
 unfolding allOk
@@ -71,9 +74,7 @@ returns-3 c =
     let t =
     ok-more (allTo 8 (heapOk (a .n) (a .store .now))) (treesAt (a .n) (a .store .now)) (c .before .trees .result)
     (c .before .trees .ensures .is) (c .if2 .left) in
-    let e : a .n - getD (c .before .before .counts .result) 0 0 ≡ membersAt (a .n) (a .store .now) =
-    omega (arith, members-free (a .n) (a .store .now), c .before .before .counts .ensures .each 0 (omega arith)) in
-    rw (r .0, t .0, e, r .1, t .1)
+    rw (r .0, t .0, r .1, t .1, c .before .before .counts .ensures .each 0 (omega arith))
 
 pub all-ok-spec : {M : Type 1} → statement M
 all-ok-spec =
@@ -88,5 +89,5 @@ all-ok-spec =
     sub-result-2
     add-result
     array-read-result
-    sub-result-3
+    add-result-2
     returns-3)

@@ -1,103 +1,88 @@
 -- `audit::heap_length` meets its contract.
-use Prim.Native.Nat.{suc, _+_}
 use borrow.Author.Needs.{needs}
-use lib.Dec.{eqb}
 use mathlib.Core.Bool.{true, false}
-use mathlib.Core.Path.{_≡_, _∙_}
+use mathlib.Core.Path.{refl}
 use native.Mathlib.Omega.{arith}
-use Rattle.audit.proofs.Results.{rest, heap-right, heap-wrong}
-use Rattle.audit.proofs.Totals.{indicators-bound}
-use Rattle.soundness.specs.Check.{heapAt, rowAt, listLength, countAt}
+use Rattle.soundness.specs.Check.{minimumRight, countRight}
+use Rattle.audit.proofs.Results.{row-answer, row-wrong, row-inside, heap-tests}
 use Rattle.audit.proofs.heap_length.Statement.{statement}
 use Rattle.audit.proofs.heap_length.Tie as tie
 
-get-requires : tie.Need-get-requires
-get-requires c κs = search needs
-
-get-requires-2 : tie.Need-get-requires-2
-get-requires-2 c κs = search needs
-
-get-requires-3 : tie.Need-get-requires-3
-get-requires-3 c κs = search needs
-
-list-length-requires : tie.Need-list-length-requires
-list-length-requires c κs = search needs
-
-minimum-ok-requires : tie.Need-minimum-ok-requires
-minimum-ok-requires c κs = search needs
-
--- there are at most as many items in a heap as in the table
-cast-heap-is-2 : tie.Need-cast-heap-is-2
-unfolding countAt
-cast-heap-is-2 c =
-    let p = c .before .before .before .before .before .before in
-    let a = p .args in
-    omega (
-      arith,
-      p .pre .1 .1,
-      p .pre .0 .small,
-      indicators-bound (a .n) (λ i. eqb (heapAt (a .n) (a .store .now) i) (suc (a .h))),
-    )
-
-heap-is-requires : tie.Need-heap-is-requires
-heap-is-requires c κs = search needs
-
 returns : tie.Need-returns
 returns c =
-    let c2 = c .before .before in
-    let c6 = c2 .before .before .before .before in
-    let a = c6 .before .before .args in
-    let e : a .h + 1 ≡ suc (a .h) = omega arith in
-    let f : c2 .before .list-length .result ≡ listLength (a .n) (a .store .now)
-    (rowAt (a .n) (a .store .now) (a .h)) =
-    rw (← c6 .get .ensures, ← c2 .before .before .before .get2 .ensures, ← e) (c2 .before .list-length .ensures .is) in
-    let t : rest (a .n) (a .store .now) (a .h) ≡ true =
-    rw (
-      ← c2 .minimum-ok .ensures,
-      ← c6 .get .ensures,
-      ← c2 .before .before .before .get2 .ensures,
-      ← c2 .before .before .get3 .ensures,
-      ← c6 .before .before .pre .1 .1,
-      ← c .before .heap-is .ensures,
-    ) (c .if1 .taken) in
-    record {
-      is = f ∙ heap-right (a .n) (a .store .now) (a .h) t;
-      most = c2 .before .list-length .ensures .most;
-    }
+    let list = c .before in
+    let a = list .before .before .before .before .args in
+    let f =
+    row-answer (a .n) (a .store .now) (a .h) _ _ _ _ refl (list .before .before .word-at .ensures .is)
+    (list .before .word-at2 .ensures .is) (list .list-length .ensures .is) in
+    record { is = row-wrong (a .n) (a .store .now) (a .h) _ f (c .if1 .taken); most = omega arith }
+
+least-root-requires : tie.Need-least-root-requires
+least-root-requires c κs =
+    let list = c .before .before in
+    let s = list .before .before .before .before in
+    let a = s .args in
+    let f =
+    row-answer (a .n) (a .store .now) (a .h) _ _ _ _ refl (list .before .before .word-at .ensures .is)
+    (list .before .word-at2 .ensures .is) (list .list-length .ensures .is) in
+    (s .pre .0, row-inside (a .n) (a .store .now) (a .h) (s .pre .1 .0) _ f (c .before .if1 .left))
 
 returns-2 : tie.Need-returns-2
+unfolding minimumRight countRight
 returns-2 c =
-    let c2 = c .before .before in
-    let c6 = c2 .before .before .before .before in
-    let a = c6 .before .before .args in
-    let t : rest (a .n) (a .store .now) (a .h) ≡ false =
-    rw (
-      ← c2 .minimum-ok .ensures,
-      ← c6 .get .ensures,
-      ← c2 .before .before .before .get2 .ensures,
-      ← c2 .before .before .get3 .ensures,
-      ← c6 .before .before .pre .1 .1,
-      ← c .before .heap-is .ensures,
-    ) (c .if1 .left) in
-    record { is = heap-wrong (a .n) (a .store .now) (a .h) t; most = omega arith }
+    let least = c .before .before .before in
+    let list = least .before .before in
+    let s = list .before .before .before .before in
+    let a = s .args in
+    let f =
+    row-answer (a .n) (a .store .now) (a .h) _ _ _ _ refl (list .before .before .word-at .ensures .is)
+    (list .before .word-at2 .ensures .is) (list .list-length .ensures .is) in
+    record {
+      is =
+          heap-tests (a .n) (a .store .now) (a .h) _ f (least .before .if1 .left) true
+          (rw (
+            ← least .get .ensures,
+            ← c .before .before .least-root .ensures,
+            ← c .before .word-at3 .ensures .is,
+            ← s .pre .1 .1,
+          ) (c .if2 .taken));
+      most = list .list-length .ensures .most;
+    }
+
+returns-3 : tie.Need-returns-3
+unfolding minimumRight countRight
+returns-3 c =
+    let least = c .before .before .before in
+    let list = least .before .before in
+    let s = list .before .before .before .before in
+    let a = s .args in
+    let f =
+    row-answer (a .n) (a .store .now) (a .h) _ _ _ _ refl (list .before .before .word-at .ensures .is)
+    (list .before .word-at2 .ensures .is) (list .list-length .ensures .is) in
+    record {
+      is =
+          heap-tests (a .n) (a .store .now) (a .h) _ f (least .before .if1 .left) false
+          (rw (
+            ← least .get .ensures,
+            ← c .before .before .least-root .ensures,
+            ← c .before .word-at3 .ensures .is,
+            ← s .pre .1 .1,
+          ) (c .if2 .left));
+      most = omega arith;
+    }
 
 pub heap-length-spec : {M : Type 1} → statement M
 heap-length-spec =
     tie.close
     (tie.spec
+    (λ c κs. search needs)
+    (λ c κs. search needs)
     (λ c. search needs)
-    get-requires
-    (λ c. search needs)
-    get-requires-2
-    (λ c. search needs)
-    get-requires-3
-    (λ c. search needs)
-    (λ c. search needs)
-    (λ c. search needs)
-    list-length-requires
-    minimum-ok-requires
-    (λ c. search needs)
-    cast-heap-is-2
-    heap-is-requires
+    (λ c κs. search needs)
     returns
-    returns-2)
+    (λ c. search needs)
+    (λ c κs. search needs)
+    least-root-requires
+    (λ c κs. search needs)
+    returns-2
+    returns-3)

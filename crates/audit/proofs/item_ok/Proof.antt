@@ -1,24 +1,26 @@
 -- `audit::item_ok` meets its contract.
 use Prim.Native.Nat.{_≤_}
+use mathlib.Core.Path.{_≡_, _∙_}
 use borrow.Author.Needs.{needs}
-use borrow.Author.Tests.{eq-eqb, ne-eqb, le-leb, lt-leb}
-use native.Mathlib.Numerals.{add-one}
+use borrow.Author.Tests.{eq-eqb, ne-eqb, lt-leb}
 use native.Mathlib.Omega.{arith}
 use Rattle.rules.specs.Words.{at, look}
-use Rattle.rules.specs.declared.Field.the-variants.{Key}
-use Rattle.soundness.specs.Check.{heapAt, memberOk, itemOk}
+use Rattle.rules.specs.declared.Field.the-variants.{Key, Rank}
+use Rattle.soundness.specs.Check.{heapAt, childrenAt, parentOk, memberOk, itemOk}
+use Rattle.audit.specs.Promises.{lengthIfOk}
+use Rattle.audit.proofs.Results.{children-tests, member-tests}
 use Rattle.audit.proofs.item_ok.Statement.{statement}
 use Rattle.audit.proofs.item_ok.Tie as tie
 
 word-at-requires : tie.Need-word-at-requires
 word-at-requires c κs = search needs
 
-free-ok-requires : tie.Need-free-ok-requires
-free-ok-requires c κs = search needs
+free-zero-requires : tie.Need-free-zero-requires
+free-zero-requires c κs = search needs
 
 returns : tie.Need-returns
 unfolding itemOk
-returns c = rw (← c .before .before .word-at .ensures .is, eq-eqb _ _ (c .before .if1 .taken)) (c .free-ok .ensures)
+returns c = rw (← c .before .before .word-at .ensures .is, eq-eqb _ _ (c .before .if1 .taken)) (c .free-zero .ensures)
 
 returns-2 : tie.Need-returns-2
 unfolding itemOk memberOk
@@ -51,36 +53,35 @@ add-result : tie.Need-add-result
 add-result c = search needs
 
 returns-3 : tie.Need-returns-3
-unfolding itemOk memberOk heapAt
+unfolding heapAt
 returns-3 c =
-    let a = c .before .before .before .before .before .before .before .before .before .before .args in
-    let state = c .before .before .before .before .before .before .before .before .word-at in
-    let k : look (a .n) (a .store .now) Key (a .i) ≤ 4294967295 =
-    omega (
-      arith,
-      c .before .before .before .before .before .before .before .before .before .shared-slice-known .given
-          (at (a .n) Key (a .i)),
-    ) in
+    let lists = c .before in
+    let p = lists .before .before .before .before in
+    let state = p .before .before .before .word-at in
+    let s = p .before .before .before .before .before in
+    let a = s .args in
+    let n = a .n in
+    let w = a .store .now in
+    let e : lists .list-length .result ≡ lengthIfOk n w (childrenAt n w (a .i)) =
     rw (
       ← state .ensures .is,
-      ne-eqb (state .result) 0 (c .before .before .before .before .before .before .before .if1 .left),
-      le-leb (state .result) 16 (c .before .before .before .before .before .before .if2 .left),
-      le-leb (look (a .n) (a .store .now) Key (a .i)) 4294967295 k,
-      ← c .word-at4 .ensures .is,
-      ← add-one (c .word-at4 .result),
-      ← c .before .before .before .before .before .parent-ok .ensures,
-      ← c .before .before .before .before .heap-of .ensures .is,
-      ← c .before .before .before .word-at2 .ensures .is,
-      ← c .before .before .word-at3 .ensures .is,
-      ← c .before .list-length .ensures .is,
-    )
+      ← lists .before .before .before .heap-of .ensures .is,
+      ← lists .before .before .word-at2 .ensures .is,
+      ← lists .before .word-at3 .ensures .is,
+    ) (lists .list-length .ensures .is) in
+    let k : look n w Key (a .i) ≤ 4294967295 =
+    omega (arith, p .before .before .before .before .shared-slice-known .given (at n Key (a .i))) in
+    rw (e, p .parent-ok .ensures, c .word-at4 .ensures .is)
+    (children-tests n w (a .i) (parentOk n w (a .i)) (look n w Rank (a .i)) (s .pre .inside) (s .pre .sized .small)
+    ∙ member-tests n w (a .i) (λ z. p .before .before .if1 .left (state .ensures .is ∙ z))
+    (omega (arith, state .ensures .is, p .before .if2 .left)) k)
 
 pub item-ok-spec : {M : Type 1} → statement M
 item-ok-spec =
     tie.close
     (tie.spec
     word-at-requires
-    free-ok-requires
+    free-zero-requires
     returns
     returns-2
     parent-ok-requires

@@ -3,12 +3,14 @@ use Prim.Native.Nat.{_<_}
 use borrow.Author.Needs.{needs}
 use borrow.Author.Tests.{lt-ltb, le-ltb}
 use native.Mathlib.Omega.{arith}
-use Rattle.soundness.specs.Check.{heapAt, markAt, linkOk}
+use Rattle.soundness.specs.Check.{heapAt, markAt, namesOwner, childRankOk}
+use Rattle.audit.specs.Promises.{linkOk}
+use Rattle.audit.proofs.Walks.{rank-test}
 use Rattle.audit.proofs.link_ok.Statement.{statement}
 use Rattle.audit.proofs.link_ok.Tie as tie
 
 returns : tie.Need-returns
-unfolding linkOk
+unfolding linkOk namesOwner
 returns c = rw (le-ltb _ _ (c .if1 .taken))
 
 word-at-requires : tie.Need-word-at-requires
@@ -32,8 +34,11 @@ mark-of-requires c κs = search needs
 add-result : tie.Need-add-result
 add-result c = search needs
 
+add-result-2 : tie.Need-add-result-2
+add-result-2 c = search needs
+
 returns-2 : tie.Need-returns-2
-unfolding linkOk heapAt markAt
+unfolding linkOk namesOwner childRankOk heapAt markAt
 returns-2 c =
     let a = c .before .before .before .before .before .before .before .before .before .before .before .args in
     let h : a .x < a .n = omega arith in
@@ -45,6 +50,7 @@ returns-2 c =
       ← c .before .before .before .before .before .word-at4 .ensures .is,
       ← c .before .before .before .before .heap-of .ensures .is,
       ← c .before .before .before .mark-of .ensures .is,
+      rank-test,
     )
 
 pub link-ok-spec : {M : Type 1} → statement M
@@ -59,4 +65,5 @@ link-ok-spec =
     heap-of-requires
     mark-of-requires
     add-result
+    add-result-2
     returns-2)

@@ -1,26 +1,35 @@
 -- `audit::list_length` meets its contract.
-use Prim.Native.Nat.{_-_, _≤_}
+use Prim.Native.Nat.{_+_, _-_, _≤_}
 use borrow.Author.Needs.{needs}
 use mathlib.Core.Logic.{⊎-elim, inl, inr}
 use mathlib.Core.Path.{_≡_, _∙_}
-use native.Mathlib.Nat.{sub-zero}
+use native.Mathlib.Numerals.{add-one}
 use native.Mathlib.Omega.{arith}
 use Rattle.soundness.proofs.Booleans.{told-true, told-false}
-use Rattle.audit.proofs.Walks.{link-inside, walk-refused, walk-done, walk-fails, walk-more}
-use Rattle.soundness.specs.Check.{linkOk, lengthFrom, listLength}
+use Rattle.audit.specs.Promises.{lengthIfOk}
+use Rattle.audit.proofs.Walks.{
+  lengthFrom,
+  link-inside,
+  walk-start,
+  walk-refused,
+  walk-ended,
+  walk-more,
+}
 use Rattle.audit.proofs.list_length.Statement.{statement}
 use Rattle.audit.proofs.list_length.Tie as tie
 
 abbrev Inv-loop : tie.InvT-loop
 Inv-loop store n l prev₀ x₀ j₀ prev x j =
-    (j ≤ n) × (lengthFrom n store l (n - j) prev j x ≡ listLength n store l)
+    (j ≤ n) × (lengthFrom n store l j prev x ≡ lengthIfOk n store l)
 
 abbrev μ-loop : tie.MeasureT-loop
 μ-loop store n l prev₀ x₀ j₀ prev x j = n - j
 
 loop-holds : tie.Need-loop-holds Inv-loop μ-loop
-unfolding listLength
-loop-holds c = (omega arith, rw sub-zero)
+loop-holds c = let a = c .before .args in (omega arith, walk-start (a .n) (a .store .now) (a .l))
+
+add-link-ok : tie.Need-add-link-ok Inv-loop μ-loop
+add-link-ok c = omega arith
 
 link-ok-requires : tie.Need-link-ok-requires Inv-loop μ-loop
 link-ok-requires c κs = search needs
@@ -34,8 +43,7 @@ returns c =
           walk-refused (a .n) (a .store .now) (a .l) (l .j) (l .prev) (l .x) _
           (c .before .before .before .loop-test .taken)
           (c .before .before .if1 .left)
-          (told-false (c .before .link-ok .result) (linkOk (a .n) (a .store .now) (a .l) (l .prev) (l .j) (l .x))
-          (c .before .link-ok .ensures) (c .if2 .taken)) (l .inv .1);
+          (told-false _ _ (c .before .link-ok .ensures) (c .if2 .taken)) (l .inv .1);
       most = omega arith;
     }
 
@@ -46,9 +54,8 @@ word-at-requires c κs =
     record {
       sized = c .before .before .before .before .before .before .pre;
       inside =
-          link-inside (a .n) (a .store .now) (a .l) (l .prev) (l .j) (l .x)
-          (told-true (c .before .link-ok .result) (linkOk (a .n) (a .store .now) (a .l) (l .prev) (l .j) (l .x))
-          (c .before .link-ok .ensures) (c .if2 .left));
+          link-inside (a .n) (a .store .now) (a .l) (l .prev) (l .j + 1) (l .x)
+          (told-true _ _ (c .before .link-ok .ensures) (c .if2 .left));
     }
 
 add-j : tie.Need-add-j Inv-loop μ-loop
@@ -66,33 +73,31 @@ loop-again c =
           (walk-more (a .n) (a .store .now) (a .l) (l .j) (l .prev) (l .x)
           (c .before .before .before .before .loop-test .taken)
           (c .before .before .before .if1 .left)
-          (told-true (c .before .before .link-ok .result) (linkOk (a .n) (a .store .now) (a .l) (l .prev) (l .j) (l .x))
-          (c .before .before .link-ok .ensures) (c .before .if2 .left))
+          (told-true _ _ (c .before .before .link-ok .ensures) (c .before .if2 .left))
           ∙ l .inv .1),
     )
 
 add-result : tie.Need-add-result Inv-loop μ-loop
 add-result c = omega arith
 
+-- the loop was left since the list had ended, or was too long
 returns-2 : tie.Need-returns-2 Inv-loop μ-loop
 returns-2 c =
     let a = c .before .before .before .before .before .args in
     let l = c .before .before .before .loop in
-    record {
-      is = walk-done (a .n) (a .store .now) (a .l) (l .j) (l .prev) (l .x) _ (c .if3 .taken) (l .inv .1);
-      most = omega arith;
-    }
+    let e =
+    walk-ended (a .n) (a .store .now) (a .l) (l .j) (l .prev) (l .x) _
+    (⊎-elim (λ u. inl (u .left)) (λ u. inr (u .1 .taken)) (c .before .before .loop-test .came)) (l .inv .1) in
+    record { is = add-one (l .j) ∙ (rw (c .if3 .taken) at e); most = omega arith }
 
 returns-3 : tie.Need-returns-3 Inv-loop μ-loop
 returns-3 c =
     let a = c .before .before .before .before .before .args in
     let l = c .before .before .before .loop in
-    record {
-      is =
-          walk-fails (a .n) (a .store .now) (a .l) (l .j) (l .prev) (l .x) _ (c .if3 .left)
-          (⊎-elim (λ u. inl (u .left)) (λ u. inr (u .1 .taken)) (c .before .before .loop-test .came)) (l .inv .1);
-      most = omega arith;
-    }
+    let e =
+    walk-ended (a .n) (a .store .now) (a .l) (l .j) (l .prev) (l .x) _
+    (⊎-elim (λ u. inl (u .left)) (λ u. inr (u .1 .taken)) (c .before .before .loop-test .came)) (l .inv .1) in
+    record { is = rw (c .if3 .left) at e; most = omega arith }
 
 pub list-length-spec : {M : Type 1} → statement M
 list-length-spec =
@@ -101,6 +106,7 @@ list-length-spec =
     Inv-loop
     μ-loop
     loop-holds
+    add-link-ok
     link-ok-requires
     returns
     word-at-requires

@@ -2,18 +2,19 @@
 use Prim.Native.Nat.{_+_, _*_, _-_, _≤_}
 use mathlib.Core.Bool.{true}
 use mathlib.Core.Path.{_≡_, refl, sym, ap, _∙_}
+use lib.ListN.{length}
 use native.Mathlib.Numerals.{add-one}
 use native.Mathlib.Omega.{arith}
 use Rattle.rules.specs.Lists.{sumTo}
-use Rattle.audit.proofs.Results.{ok-is, ok-not, heap-zero, heap-more}
+use Rattle.audit.proofs.Results.{ok-is, ok-not, ok-zero, ok-more}
 use Rattle.audit.proofs.Totals.{sumTo-more, allTo-more, allTo-not}
-use Rattle.soundness.specs.Check.{allTo, rowAt, listLength, heapOk, treesAt}
+use Rattle.soundness.specs.Check.{allTo, rowAt, listAt, heapOk, treesAt}
 use Rattle.audit.proofs.trees.Statement.{statement}
 use Rattle.audit.proofs.trees.Tie as tie
 
 abbrev Inv-loop : tie.InvT-loop
 Inv-loop store n counts sum₀ h₀ sum h =
-    (h ≤ 8) × (allTo h (heapOk n store) ≡ true) × (sum ≡ sumTo h (λ h. listLength n store (rowAt n store h) - 1))
+    (h ≤ 8) × (allTo h (heapOk n store) ≡ true) × (sum ≡ sumTo h (λ h. length (listAt n store (rowAt n store h))))
     × (sum ≤ 4096 * h)
 
 abbrev μ-loop : tie.MeasureT-loop
@@ -48,8 +49,8 @@ returns c =
       is =
           ok-not _ _
           (allTo-not 8 (heapOk (a .n) (a .store .now)) h (c .before .before .loop-test .taken)
-          (heap-zero (a .n) (a .store .now) h (c .before .heap-length .result) (c .before .heap-length .ensures .is)
-          (c .if1 .taken)));
+          (ok-zero (heapOk (a .n) (a .store .now) h) _ (c .before .heap-length .result)
+          (c .before .heap-length .ensures .is) (c .if1 .taken)));
       most = omega arith;
     }
 
@@ -70,8 +71,8 @@ loop-again c =
     let a = c .before .before .before .before .before .args in
     let l = c .before .before .before .loop in
     let m =
-    heap-more (a .n) (a .store .now) (l .h) (c .before .heap-length .result) (c .before .heap-length .ensures .is)
-    (c .if1 .left) in (
+    ok-more (heapOk (a .n) (a .store .now) (l .h)) _ (c .before .heap-length .result)
+    (c .before .heap-length .ensures .is) (c .if1 .left) in (
       omega arith,
       allTo-more (l .h) (heapOk (a .n) (a .store .now)) (l .inv .1) (m .0),
       rw (sumTo-more, ← l .inv .2, ← m .1),
@@ -91,7 +92,7 @@ returns-2 c =
       is =
           ok-is _ _ (l .sum) (ap (λ h. allTo h (heapOk (a .n) (a .store .now))) (sym e) ∙ l .inv .1)
           (l .inv .2
-          ∙ ap (λ h. sumTo h (λ h. listLength (a .n) (a .store .now) (rowAt (a .n) (a .store .now) h) - 1)) e);
+          ∙ ap (λ h. sumTo h (λ h. length (listAt (a .n) (a .store .now) (rowAt (a .n) (a .store .now) h)))) e);
       most = omega arith;
     }
 

@@ -1,8 +1,8 @@
--- `audit::free_ok` meets its contract.
-use Rattle.soundness.specs.Check.{freeOk}
+-- `audit::free_zero` meets its contract.
+use Rattle.soundness.specs.Check.{freeZero}
 use borrow.Author.Needs.{needs}
-use Rattle.audit.proofs.free_ok.Statement.{statement}
-use Rattle.audit.proofs.free_ok.Tie as tie
+use Rattle.audit.proofs.free_zero.Statement.{statement}
+use Rattle.audit.proofs.free_zero.Tie as tie
 
 word-at-requires : tie.Need-word-at-requires
 word-at-requires c κs = search needs
@@ -26,7 +26,7 @@ word-at-requires-7 : tie.Need-word-at-requires-7
 word-at-requires-7 c κs = search needs
 
 returns : tie.Need-returns
-unfolding freeOk
+unfolding freeZero
 returns c =
     rw (
       ← c .before .before .before .before .before .before .word-at .ensures .is,
@@ -38,8 +38,8 @@ returns c =
       ← c .word-at7 .ensures .is,
     )
 
-pub free-ok-spec : {M : Type 1} → statement M
-free-ok-spec =
+pub free-zero-spec : {M : Type 1} → statement M
+free-zero-spec =
     tie.close
     (tie.spec
     word-at-requires
