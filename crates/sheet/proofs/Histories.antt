@@ -1,27 +1,31 @@
--- A history of kept runs is one list of lines, and the ledger holds of it.
+-- A history of runs is one list of lines: all that was written is its answers, and the ledger holds of it.
 use Prim.Native.Nat.{ℕ, zero, suc, _*_, _≤_}
 use mathlib.Core.Path.{_≡_, refl, sym, ap, _∙_}
-use mathlib.Core.List.{List, [], _∷_, _++_}
-use lib.ListN.{length, take, length-replicate}
+use mathlib.Core.List.{List, [], _∷_, _++_, append-assoc}
+use native.Mathlib.Omega.{arith}
+use lib.ListN.{length, replicate, take, length-replicate}
+use lib.Seq.{take-append-seam}
 use Rattle.rules.specs.declared.Line.{Line}
 use Rattle.rules.specs.Answers.{after, answers}
-use Rattle.rules.specs.Forests.{Forests, empty}
+use Rattle.rules.specs.Forests.{Forests, empty, marks, potential, trees}
+use Rattle.rules.specs.Lists.{sumBy}
 use Rattle.rules.specs.WellFormed.{WellFormed}
 use Rattle.rules.specs.Words.{Sound, encode, forestsOf, itemsIn, storeSize}
 use Rattle.rules.proofs.Answers.{AllInRange, after-append, after-well-formed}
 use Rattle.rules.proofs.DecodeEncode.{encode-length}
 use Rattle.rules.proofs.EmptyForests.{emptyWellFormed}
-use Rattle.rules.proofs.Ledger.{ledger}
 use Rattle.rules.proofs.SoundWords.{forests-encode, sound-encode, sound-forests, sound-words}
 use Rattle.lines.specs.Parse.{linesOf}
 use Rattle.lines.specs.Print.{printed}
 use Rattle.lines.proofs.InRange.{lines-range}
 use Rattle.lines.proofs.Printed.{printed-after}
-use Rattle.sheet.specs.Histories.{historyLines, linesIf, writtenBy, storeAfter}
+use Rattle.sheet.specs.Histories.{Lent, forestsAt, historyLines, linesIf, storeAfter, writtenBy}
 use Rattle.sheet.specs.Runs.{Run, doneRun, keptRun, limitCode, refusedRun, unlessLimit}
-use Rattle.sheet.specs.Theorems.{FreshIsKept, HistoryLedger, HistoryOneList}
+use Rattle.sheet.specs.Theorems.{FreshHistoryAccounted, FreshIsKept, HistoryAccounted, RestartAt}
 use Rattle.sheet.proofs.Accepted.{sound-accepted}
+use Rattle.sheet.proofs.FreshRuns.{fresh-code}
 use Rattle.sheet.proofs.Limits.{same-limits, within}
+use Rattle.sheet.proofs.Moments.{accounted}
 use Rattle.sheet.proofs.Runs.{fresh-done, kept-done, run-room, wrote}
 
 pub freshIsKept : FreshIsKept
@@ -95,21 +99,81 @@ module _ (store : List ℕ) (S : Sound store) (run : Run) (first : List Line) (K
         ≡ printed (answers s (first ++ rest))
     shown-both = rw (next-forests, K .shows) (sym (printed-after s first rest))
 
-pub historyOneList : HistoryOneList
+-- the whole history is one list of lines on the forests of its first words, wherever the restarts fall
+record OneList (store : List ℕ) (runs : List Lent) : Type 0 where
+  sound : Sound (storeAfter store runs)
+  forests : forestsOf (storeAfter store runs) ≡ after (forestsOf store) (historyLines store runs)
+  shows : writtenBy store runs ≡ printed (answers (forestsOf store) (historyLines store runs))
+
+one-list : (store : List ℕ) → Sound store → (runs : List Lent) → OneList store runs
 unfolding storeAfter writtenBy historyLines after answers printed
-historyOneList store S [] = record { sound = S; words = sound-words store S; forests = refl; answers = refl }
-historyOneList store S (l ∷ runs) =
+one-list store S [] = record { sound = S; forests = refl; shows = refl }
+one-list store S (l ∷ runs) =
     let run : Run = keptRun store (l .sheet) (l .out) in
     let first : List Line = linesIf (run .code) (l .sheet) in
     let K = kept-step store (l .sheet) (l .out) S in
     let rest : List Line = historyLines (run .store) runs in
-    let H = historyOneList (run .store) (next-sound store S run first K) runs in
+    let H = one-list (run .store) (next-sound store S run first K) runs in
     record {
       sound = H .sound;
-      words = H .words ∙ ap encode (after-both store S run first K rest);
       forests = H .forests ∙ after-both store S run first K rest;
-      answers = ap (λ t. take (run .bytes) (run .out) ++ t) (H .answers) ∙ shown-both store S run first K rest;
+      shows = ap (λ t. take (run .bytes) (run .out) ++ t) (H .shows) ∙ shown-both store S run first K rest;
     }
 
-pub historyLedger : HistoryLedger
-historyLedger store S runs i n = ledger (forestsOf store) (sound-forests store S) (historyLines store runs) i n
+-- the lines of a history in two parts
+split : (store : List ℕ) (before rest : List Lent)
+    → historyLines store (before ++ rest) ≡ historyLines store before ++ historyLines (storeAfter store before) rest
+unfolding historyLines storeAfter
+split store [] rest = refl
+split store (l ∷ before) rest =
+    let run : Run = keptRun store (l .sheet) (l .out) in
+    let first : List Line = linesIf (run .code) (l .sheet) in
+    ap (λ t. first ++ t) (split (run .store) before rest)
+    ∙ sym (append-assoc first (historyLines (run .store) before) _)
+
+restart-at : (store : List ℕ) → Sound store → (before rest : List Lent)
+    → RestartAt (forestsOf store) (historyLines store (before ++ rest)) (length (historyLines store before))
+    (storeAfter store before)
+unfolding forestsAt
+restart-at store S before rest =
+    let H = one-list store S before in
+    record {
+      sound = H .sound;
+      forests = rw (split store before rest, take-append-seam (historyLines store before) _) (sym (H .forests));
+    }
+
+pub historyAccounted : HistoryAccounted
+historyAccounted store S runs = (
+  accounted (forestsOf store) (sound-forests store S) (historyLines store runs) (one-list store S runs .shows),
+  λ before rest e. rw (← e) (restart-at store S before rest),
+)
+
+-- ---- a fresh run before the kept ones
+
+empty-potential : (n : ℕ) → potential (empty n) ≡ 0
+unfolding potential trees marks sumBy
+empty-potential n = rw (zeros n)
+  where
+    zeros : (n : ℕ) → sumBy (λ m. m) (replicate n 0) ≡ 0
+    zeros zero = refl
+    zeros (suc n) = omega (arith, zeros n)
+
+-- a run that is done has the lines of its sheet
+done-lines : (code : ℕ) (sheet : List ℕ) → code ≡ 0 → linesIf code sheet ≡ linesOf sheet
+unfolding linesIf
+done-lines code sheet e = rw e
+
+pub freshHistoryAccounted : FreshHistoryAccounted
+unfolding historyLines writtenBy storeAfter
+freshHistoryAccounted store first runs e =
+    let n : ℕ = itemsIn store in
+    let z : limitCode store (first .sheet) (first .out) ≡ 0 = sym (fresh-code store (first .sheet) (first .out)) ∙ e in
+    let W : WellFormed (empty n) = emptyWellFormed n (within store (first .sheet) (first .out) z .sized .small) in
+    let K = freshIsKept store (first .sheet) (first .out) z in
+    let kept : Run = keptRun (encode (empty n)) (first .sheet) (first .out) in
+    let l : linesIf (kept .code) (first .sheet) ≡ linesOf (first .sheet) = rw (← K .1) (done-lines _ (first .sheet) e) in
+    let H = historyAccounted (encode (empty n)) (K .0) (first ∷ runs) in (
+      empty-potential n,
+      rw (← forests-encode (empty n) W, K .1, ← l) (H .0),
+      λ before rest q. rw (← forests-encode (empty n) W, K .1, ← l) (H .1 (first ∷ before) rest (ap (λ r. first ∷ r) q)),
+    )

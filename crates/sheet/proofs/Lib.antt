@@ -6,4 +6,5 @@ pub mod Runs
 pub mod Leaves
 pub mod FreshRuns
 pub mod Continuation
+pub mod Moments
 pub mod Histories
