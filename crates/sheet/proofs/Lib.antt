@@ -5,6 +5,7 @@ pub mod Limits
 pub mod Runs
 pub mod Leaves
 pub mod FreshRuns
+pub mod Bounds
 pub mod Continuation
 pub mod Moments
 pub mod Histories

@@ -1,12 +1,12 @@
 -- A run of a sheet on a store, fresh or kept: result, store and output as one total function of what was lent
 -- (scope paper, Sheet, and Codes 1 to 5).
-use Prim.Native.Nat.{ℕ, zero, suc, _+_, _*_}
+use Prim.Native.Nat.{ℕ, zero, suc, _*_}
 use mathlib.Core.Path.{_≡_}
 use mathlib.Core.List.{List}
 use mathlib.Core.Bool.{cond, not}
 use lib.ListN.{length}
 use lib.Seq.{sets}
-use lib.Dec.{eqb, ltb}
+use lib.Dec.{ltb}
 use Rattle.rules.specs.declared.Line.{Line}
 use Rattle.rules.specs.Forests.{Forests, empty}
 use Rattle.rules.specs.Answers.{answers, after}
@@ -71,10 +71,3 @@ pub record Leaves (run : Run) (r : Ran) (store out : List ℕ) : Type 0 where
   pub sameBytes : r .bytes ≡ run .bytes
   pub sameStore : store ≡ run .store
   pub sameOut : out ≡ run .out
-
--- The one number that C gets of a run: the bytes written, or 100,000 and the code.
-unfoldable pub resultNumber : ℕ → ℕ → ℕ
-resultNumber code bytes = cond (eqb code 0) bytes (100000 + code)
-
-abbrev pub returned : Run → ℕ
-returned run = resultNumber (run .code) (run .bytes)

@@ -1,5 +1,5 @@
 -- What is proved of runs. Each statement is a type; its proof is in proofs/, under the same name in lower case.
-use Prim.Native.Nat.{ℕ, _+_, _≤_}
+use Prim.Native.Nat.{ℕ, _+_, _*_, _≤_}
 use mathlib.Core.Path.{_≡_}
 use mathlib.Core.List.{List, _++_}
 use mathlib.Core.Bool.{true}
@@ -15,6 +15,14 @@ use Rattle.lines.specs.Parse.{linesOf}
 use Rattle.lines.specs.Print.{printed}
 use Rattle.sheet.specs.Runs.{Run, limitCode, freshRun, keptRun}
 use Rattle.sheet.specs.Histories.{Lent, storeAfter, writtenBy, historyLines, forestsAt, movesIn}
+
+-- A run answers at most 2,000 lines and writes at most 32 bytes for each, so at most 64,000; a refused one none.
+pub record Bounded (run : Run) : Type 0 where
+  pub lines : run .lines ≤ 2000
+  pub bytes : run .bytes ≤ 32 * run .lines
+
+abbrev pub RunsBounded : Type 0
+RunsBounded = (store sheet out : List ℕ) → Bounded (freshRun store sheet out) × Bounded (keptRun store sheet out)
 
 -- Two runs, the second on the store that the first left, did what a third did alone.
 pub record SameAs (first second whole : Run) : Type 0 where
