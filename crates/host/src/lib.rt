@@ -8,7 +8,12 @@ ghost use Rattle.host.specs.Entries.{RunReturns, soundNumber, FeedReturn
 
 // A fresh run. Returns the code; the figures are lines and bytes written.
 #[no_mangle]
-pub extern "C" fn fresh_run(store: &mut [u32], sheet: &[u8], out: &mut [u8], figures: &mut [u32; 2]) -> u32
+pub extern "C" fn fresh_run(
+    store: &mut [u32],
+    sheet: &[u8],
+    out: &mut [u8],
+    figures: &mut [u32; 2],
+) -> u32
     ensures { λ r. ⌜ RunReturns (freshRun (now (store .entry)) (now (sheet .entry)) (now (out .entry))) r
         (now (store .exit)) (now (out .exit)) (now (figures .exit)) ⌝ }
 {
@@ -19,7 +24,12 @@ pub extern "C" fn fresh_run(store: &mut [u32], sheet: &[u8], out: &mut [u8], fig
 
 // A kept run: the same, on the store as it is.
 #[no_mangle]
-pub extern "C" fn kept_run(store: &mut [u32], sheet: &[u8], out: &mut [u8], figures: &mut [u32; 2]) -> u32
+pub extern "C" fn kept_run(
+    store: &mut [u32],
+    sheet: &[u8],
+    out: &mut [u8],
+    figures: &mut [u32; 2],
+) -> u32
     ensures { λ r. ⌜ RunReturns (keptRun (now (store .entry)) (now (sheet .entry)) (now (out .entry))) r
         (now (store .exit)) (now (out .exit)) (now (figures .exit)) ⌝ }
 {
