@@ -12,8 +12,8 @@ bounded-tells : (run : Run) → Bounded run → TellsApart run
 unfolding resultNumber
 bounded-tells run B =
     record {
-      done = λ e. rw (eq-eqb (run .code) 0 e) (refl, omega (arith, B .lines, B .bytes));
-      refused = λ n. rw (ne-eqb (run .code) 0 n) (refl, omega (arith, n));
+      whenDone = λ e. rw (eq-eqb (run .code) 0 e) (refl, omega (arith, B .lines, B .bytes));
+      whenRefused = λ n. rw (ne-eqb (run .code) 0 n) (refl, omega (arith, n));
     }
 
 pub numberTellsApart : NumberTellsApart

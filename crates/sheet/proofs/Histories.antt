@@ -44,40 +44,40 @@ freshIsKept store sheet out e =
 -- ---- one run of a history
 
 -- what a kept run does to sound words: it answers some lines of the list
-record Step (store : List ℕ) (run : Run) (ls : List Line) : Type 0 where
+record RunAnswers (store : List ℕ) (run : Run) (ls : List Line) : Type 0 where
   range : AllInRange ls
   words : run .store ≡ encode (after (forestsOf store) ls)
   shows : take (run .bytes) (run .out) ≡ printed (answers (forestsOf store) ls)
 
-refused-step : (store out : List ℕ) (code : ℕ) → Sound store → Step store (refusedRun code store out) []
+refused-answers : (store out : List ℕ) (code : ℕ) → Sound store → RunAnswers store (refusedRun code store out) []
 unfolding refusedRun after answers printed
-refused-step store out code S = record { range = tt; words = sound-words store S; shows = refl }
+refused-answers store out code S = record { range = tt; words = sound-words store S; shows = refl }
 
-done-step : (store sheet out : List ℕ) → Sound store → 32 * length (linesOf sheet) ≤ length out
-    → Step store (doneRun (forestsOf store) (linesOf sheet) out) (linesOf sheet)
+done-answers : (store sheet out : List ℕ) → Sound store → 32 * length (linesOf sheet) ≤ length out
+    → RunAnswers store (doneRun (forestsOf store) (linesOf sheet) out) (linesOf sheet)
 unfolding doneRun
-done-step store sheet out S k =
+done-answers store sheet out S k =
     record {
       range = lines-range sheet;
       words = refl;
       shows = wrote (forestsOf store) (sound-forests store S) (linesOf sheet) (lines-range sheet) out k;
     }
 
-kept-step : (store sheet out : List ℕ) → Sound store
-    → Step store (keptRun store sheet out) (linesIf ((keptRun store sheet out) .code) sheet)
+kept-answers : (store sheet out : List ℕ) → Sound store
+    → RunAnswers store (keptRun store sheet out) (linesIf ((keptRun store sheet out) .code) sheet)
 unfolding keptRun unlessLimit doneRun refusedRun linesIf
-kept-step store sheet out S = rw (sound-accepted store S) (go (limitCode store sheet out) refl)
+kept-answers store sheet out S = rw (sound-accepted store S) (go (limitCode store sheet out) refl)
   where
     go : (r : ℕ) → limitCode store sheet out ≡ r
-        → Step store (unlessLimit r store out (doneRun (forestsOf store) (linesOf sheet) out))
+        → RunAnswers store (unlessLimit r store out (doneRun (forestsOf store) (linesOf sheet) out))
         (linesIf ((unlessLimit r store out (doneRun (forestsOf store) (linesOf sheet) out)) .code) sheet)
-    go zero e = done-step store sheet out S (run-room store sheet out e)
-    go (suc r) e = refused-step store out (suc r) S
+    go zero e = done-answers store sheet out S (run-room store sheet out e)
+    go (suc r) e = refused-answers store out (suc r) S
 
 -- ---- the whole history
 
 -- where the words stand for the forests after the first lines, they do so after more lines
-module _ (store : List ℕ) (S : Sound store) (run : Run) (first : List Line) (K : Step store run first) where
+module _ (store : List ℕ) (S : Sound store) (run : Run) (first : List Line) (K : RunAnswers store run first) where
   abbrev s : Forests
   s = forestsOf store
 
@@ -111,7 +111,7 @@ one-list store S [] = record { sound = S; forests = refl; shows = refl }
 one-list store S (l ∷ runs) =
     let run : Run = keptRun store (l .sheet) (l .out) in
     let first : List Line = linesIf (run .code) (l .sheet) in
-    let K = kept-step store (l .sheet) (l .out) S in
+    let K = kept-answers store (l .sheet) (l .out) S in
     let rest : List Line = historyLines (run .store) runs in
     let H = one-list (run .store) (next-sound store S run first K) runs in
     record {

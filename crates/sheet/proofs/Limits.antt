@@ -19,12 +19,12 @@ use Rattle.sheet.specs.Promises.{Limited}
 use Rattle.sheet.specs.Runs.{limitCode}
 
 -- the store is one for N items, and the output has room for 32 bytes a line
-pub record Within (store sheet out : List ℕ) : Type 0 where
+pub record WithinLimits (store sheet out : List ℕ) : Type 0 where
   pub sized : Sized (itemsIn store) store
   pub few : length (lines sheet) ≤ 2000
   pub room : 32 * length (lines sheet) ≤ length out
 
-pub within : (store sheet out : List ℕ) → limitCode store sheet out ≡ 0 → Within store sheet out
+pub within : (store sheet out : List ℕ) → limitCode store sheet out ≡ 0 → WithinLimits store sheet out
 unfolding limitCode
 within store sheet out e =
     go (isStore store) (ltb 60000 (length sheet)) (ltb 2000 (length (lines sheet)))
@@ -32,7 +32,7 @@ within store sheet out e =
   where
     go : (a b c d : Bool) → isStore store ≡ a → ltb 2000 (length (lines sheet)) ≡ c
         → ltb (length out) (32 * length (lines sheet)) ≡ d
-        → _≡_ {A = ℕ} (cond (not a) 1 (cond b 2 (cond c 3 (cond d 4 0)))) 0 → Within store sheet out
+        → _≡_ {A = ℕ} (cond (not a) 1 (cond b 2 (cond c 3 (cond d 4 0)))) 0 → WithinLimits store sheet out
     go true false false false p q r e =
         record { sized = store-sized store p refl; few = ltb-false _ _ q; room = ltb-false _ _ r }
     go true false false true p q r e = absurd (omega arith)

@@ -52,4 +52,4 @@ module _ (s : Forests) (W : WellFormed s) (ls : List Line) where
 
   pub accounted : {written : List ℕ} → written ≡ printed (answers s ls) → Accounted s ls written
   accounted e =
-      record { told = answers s ls; oneEach = answers-length s ls; byRules = refl; wrote = e; ledger = told-paid }
+      record { told = answers s ls; oneEach = answers-length s ls; byRules = refl; allWritten = e; ledger = told-paid }

@@ -53,7 +53,7 @@ unfoldable pub unlessLimit : ℕ → List ℕ → List ℕ → Run → Run
 unlessLimit zero store out run = run
 unlessLimit (suc code) store out run = refusedRun (suc code) store out
 
--- A fresh run overwrites the store as empty.
+-- A fresh run starts from the empty store, whatever words it finds.
 unfoldable pub freshRun : List ℕ → List ℕ → List ℕ → Run
 freshRun store sheet out =
     unlessLimit (limitCode store sheet out) store out (doneRun (empty (itemsIn store)) (linesOf sheet) out)

@@ -33,8 +33,8 @@ pub record SameAs (first second whole : Run) : Type 0 where
   pub answers : take (first .bytes) (first .out) ++ take (second .bytes) (second .out)
       ≡ take (whole .bytes) (whole .out)
 
--- Sheet A fresh, then B kept on the untouched store, is A followed by B, if A is empty or ends with LF and all three
--- runs are within the limits, output included.
+-- A sheet `a` that has no unfinished line, run fresh, and then `b` run kept on the words left: together they do what one
+-- fresh run of both sheets does, where each of the three runs is within the limits.
 abbrev pub Continues : Type 0
 Continues =
     (store a b outA outB outAB : List ℕ) → closed a ≡ true →
@@ -64,7 +64,7 @@ pub record Accounted (start : Forests) (ls : List Line) (written : List ℕ) : T
   pub told : List Answer
   pub oneEach : length told ≡ length ls
   pub byRules : told ≡ answers start ls
-  pub wrote : written ≡ printed told
+  pub allWritten : written ≡ printed told
   -- Between any two moments, i lines before the first and n between the two: the links and cuts told, and the potential
   -- at the later, are at most the potential at the earlier and the allowances of the lines between.
   pub ledger : (i n : ℕ)
