@@ -19,7 +19,7 @@ use Rattle.lines.specs.Parse.{linesOf}
 use Rattle.lines.specs.Print.{answerRow, printed}
 use Rattle.lines.proofs.LinesOf.{lines-length}
 use Rattle.lines.proofs.LineFound.{LineFound, found, no-line}
-use Rattle.lines.proofs.Printed.{row-32}
+use Rattle.lines.proofs.Printed.{row-32, small-short}
 use Rattle.sheet.specs.Promises.{Answerable, Answered, RanLines, Runnable}
 
 -- the lines before `at` are answered, and the answers end at `to`
@@ -63,7 +63,7 @@ module _ {w₀ sheet out₀ w out : List ℕ} {at to : ℕ} (G : AnsweredTo w₀
       }
 
   short : length (answerRow ((answer s l) .reply)) ≤ 32
-  short = row-32 _ (answer-small s (sound-forests w (G .sound)) l (F .range))
+  short = row-32 _ (small-short (answer-small s (sound-forests w (G .sound)) l (F .range)))
 
   pub one-more : {w′ out′ : List ℕ} {to′ : ℕ} → length w′ ≡ length w → Answered w out to l to′ w′ out′
       → AnsweredTo w₀ sheet out₀ w′ out′ (e + 1) to′
