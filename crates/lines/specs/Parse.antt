@@ -39,7 +39,8 @@ ofOne letter x =
 
 -- D and J have two
 unfoldable pub ofTwo : ℕ → ℕ → ℕ → Line
-ofTwo letter x y = cond (eqb letter letterD) (Yields (DecreaseKey x y)) (cond (eqb letter letterJ) (Yields (Meld x y)) NoCall)
+ofTwo letter x y =
+    cond (eqb letter letterD) (Yields (DecreaseKey x y)) (cond (eqb letter letterJ) (Yields (Meld x y)) NoCall)
 
 -- I has three
 unfoldable pub ofThree : ℕ → ℕ → ℕ → ℕ → Line

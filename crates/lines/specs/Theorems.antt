@@ -1,4 +1,5 @@
--- What is proved of a sheet's lines. The statement is a type; its proof is in proofs/, under the same name in lower case.
+-- What is proved of a sheet's lines: a statement is a type, and its proof is in proofs/ under the same name in lower
+-- case.
 use Prim.Native.Nat.{ℕ}
 use mathlib.Core.List.{List}
 use lib.ListN.{getD}

@@ -171,9 +171,11 @@ freshHistoryAccounted store first runs e =
     let W : WellFormed (empty n) = emptyWellFormed n (within store (first .sheet) (first .out) z .sized .small) in
     let K = freshIsKept store (first .sheet) (first .out) z in
     let kept : Run = keptRun (encode (empty n)) (first .sheet) (first .out) in
-    let l : linesIf (kept .code) (first .sheet) ≡ linesOf (first .sheet) = rw (← K .1) (done-lines _ (first .sheet) e) in
+    let l : linesIf (kept .code) (first .sheet) ≡ linesOf (first .sheet) =
+    rw (← K .1) (done-lines _ (first .sheet) e) in
+    let f = forests-encode (empty n) W in
     let H = historyAccounted (encode (empty n)) (K .0) (first ∷ runs) in (
       empty-potential n,
-      rw (← forests-encode (empty n) W, K .1, ← l) (H .0),
-      λ before rest q. rw (← forests-encode (empty n) W, K .1, ← l) (H .1 (first ∷ before) rest (ap (λ r. first ∷ r) q)),
+      rw (← f, K .1, ← l) (H .0),
+      λ before rest q. rw (← f, K .1, ← l) (H .1 (first ∷ before) rest (ap (λ r. first ∷ r) q)),
     )

@@ -33,8 +33,8 @@ pub record SameAs (first second whole : Run) : Type 0 where
   pub answers : take (first .bytes) (first .out) ++ take (second .bytes) (second .out)
       ≡ take (whole .bytes) (whole .out)
 
--- A sheet `a` that has no unfinished line, run fresh, and then `b` run kept on the words left: together they do what one
--- fresh run of both sheets does, where each of the three runs is within the limits.
+-- A sheet `a` that has no unfinished line, run fresh, and then `b` run kept on the words left: together they do what
+-- one fresh run of both sheets does, where each of the three runs is within the limits.
 abbrev pub Continues : Type 0
 Continues =
     (store a b outA outB outAB : List ℕ) → closed a ≡ true →
@@ -57,8 +57,8 @@ FreshIsKept =
     → Sound (encode (empty (itemsIn store)))
     × (freshRun store sheet out ≡ keptRun (encode (empty (itemsIn store))) sheet out)
 
--- Demand 3, said of what was written. The lines ls were answered from the forests `start` on, and the runs that answered
--- them wrote the bytes `written`.
+-- Demand 3, said of what was written. The lines ls were answered from the forests `start` on, and the runs that
+-- answered them wrote the bytes `written`.
 pub record Accounted (start : Forests) (ls : List Line) (written : List ℕ) : Type 0 where
   -- one answer for each line: those of the rules, and all that was written is these answers
   pub told : List Answer

@@ -1,7 +1,14 @@
 -- `put_number` meets its contract. The invariant: writing what is left gives the whole.
 use borrow.Author.Needs.{needs}
 use native.Mathlib.Omega.{arith}
-use Rattle.text.proofs.Writing.{DigitsWritten, none-written, place-positive, first-within, one-written, all-written}
+use Rattle.text.proofs.Writing.{
+  DigitsWritten,
+  none-written,
+  place-positive,
+  first-within,
+  one-written,
+  all-written,
+}
 use Rattle.text.proofs.output.put_number.Statement.{statement}
 use Rattle.text.proofs.output.put_number.Tie as tie
 
