@@ -1,19 +1,15 @@
--- A history of runs is one list of lines: all that was written is its answers, and the ledger holds of it.
+-- A history of kept runs is one list of lines: all that was written is its answers, and the ledger holds of it.
 use Prim.Native.Nat.{ℕ, zero, suc, _*_, _≤_}
 use mathlib.Core.Path.{_≡_, refl, sym, ap, _∙_}
 use mathlib.Core.List.{List, [], _∷_, _++_, append-assoc}
-use native.Mathlib.Omega.{arith}
-use lib.ListN.{length, replicate, take, length-replicate}
+use lib.ListN.{length, take}
 use lib.Seq.{take-append-seam}
 use Rattle.rules.specs.declared.Line.{Line}
 use Rattle.rules.specs.Answers.{after, answers}
-use Rattle.rules.specs.Forests.{Forests, empty, marks, potential, trees}
-use Rattle.rules.specs.Lists.{sumBy}
+use Rattle.rules.specs.Forests.{Forests}
 use Rattle.rules.specs.WellFormed.{WellFormed}
-use Rattle.rules.specs.Words.{Sound, encode, forestsOf, itemsIn, storeSize}
+use Rattle.rules.specs.Words.{Sound, encode, forestsOf}
 use Rattle.rules.proofs.Answers.{AllInRange, after-append, after-well-formed}
-use Rattle.rules.proofs.DecodeEncode.{encode-length}
-use Rattle.rules.proofs.EmptyForests.{emptyWellFormed}
 use Rattle.rules.proofs.SoundWords.{forests-encode, sound-encode, sound-forests, sound-words}
 use Rattle.lines.specs.Parse.{linesOf}
 use Rattle.lines.specs.Print.{printed}
@@ -21,25 +17,10 @@ use Rattle.lines.proofs.InRange.{lines-range}
 use Rattle.lines.proofs.Printed.{printed-after}
 use Rattle.sheet.specs.Histories.{Lent, forestsAt, historyLines, linesIf, storeAfter, writtenBy}
 use Rattle.sheet.specs.Runs.{Run, doneRun, keptRun, limitCode, refusedRun, unlessLimit}
-use Rattle.sheet.specs.Theorems.{FreshHistoryAccounted, FreshIsKept, HistoryAccounted, RestartAt}
+use Rattle.sheet.specs.Theorems.{HistoryAccounted, RestartAt}
 use Rattle.sheet.proofs.Accepted.{sound-accepted}
-use Rattle.sheet.proofs.FreshRuns.{fresh-code}
-use Rattle.sheet.proofs.Limits.{same-limits, within}
 use Rattle.sheet.proofs.Moments.{accounted}
-use Rattle.sheet.proofs.Runs.{fresh-done, kept-done, run-room, wrote}
-
-pub freshIsKept : FreshIsKept
-freshIsKept store sheet out e =
-    let n : ℕ = itemsIn store in
-    let k = within store sheet out e .sized in
-    let W : WellFormed (empty n) = emptyWellFormed n (k .small) in
-    let S : Sound (encode (empty n)) = sound-encode (empty n) W in
-    let l : length (encode (empty n)) ≡ length store =
-    encode-length (empty n) ∙ ap storeSize (length-replicate n 0) ∙ sym (k .size) in
-    let r : keptRun (encode (empty n)) sheet out ≡ doneRun (empty n) (linesOf sheet) out =
-    kept-done (encode (empty n)) sheet out (same-limits (encode (empty n)) store sheet out l ∙ e) S
-    ∙ ap (λ s. doneRun s (linesOf sheet) out) (forests-encode (empty n) W) in
-    (S, fresh-done store sheet out e ∙ sym r)
+use Rattle.sheet.proofs.Runs.{run-room, wrote}
 
 -- ---- one run of a history
 
@@ -147,35 +128,3 @@ historyAccounted store S runs = (
   accounted (forestsOf store) (sound-forests store S) (historyLines store runs) (one-list store S runs .shows),
   λ before rest e. rw (← e) (restart-at store S before rest),
 )
-
--- ---- a fresh run before the kept ones
-
-empty-potential : (n : ℕ) → potential (empty n) ≡ 0
-unfolding potential trees marks sumBy
-empty-potential n = rw (zeros n)
-  where
-    zeros : (n : ℕ) → sumBy (λ m. m) (replicate n 0) ≡ 0
-    zeros zero = refl
-    zeros (suc n) = omega (arith, zeros n)
-
--- a run that is done has the lines of its sheet
-done-lines : (code : ℕ) (sheet : List ℕ) → code ≡ 0 → linesIf code sheet ≡ linesOf sheet
-unfolding linesIf
-done-lines code sheet e = rw e
-
-pub freshHistoryAccounted : FreshHistoryAccounted
-unfolding historyLines writtenBy storeAfter
-freshHistoryAccounted store first runs e =
-    let n : ℕ = itemsIn store in
-    let z : limitCode store (first .sheet) (first .out) ≡ 0 = sym (fresh-code store (first .sheet) (first .out)) ∙ e in
-    let W : WellFormed (empty n) = emptyWellFormed n (within store (first .sheet) (first .out) z .sized .small) in
-    let K = freshIsKept store (first .sheet) (first .out) z in
-    let kept : Run = keptRun (encode (empty n)) (first .sheet) (first .out) in
-    let l : linesIf (kept .code) (first .sheet) ≡ linesOf (first .sheet) =
-    rw (← K .1) (done-lines _ (first .sheet) e) in
-    let f = forests-encode (empty n) W in
-    let H = historyAccounted (encode (empty n)) (K .0) (first ∷ runs) in (
-      empty-potential n,
-      rw (← f, K .1, ← l) (H .0),
-      λ before rest q. rw (← f, K .1, ← l) (H .1 (first ∷ before) rest (ap (λ r. first ∷ r) q)),
-    )

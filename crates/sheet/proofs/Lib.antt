@@ -9,3 +9,5 @@ pub mod Bounds
 pub mod Continuation
 pub mod Moments
 pub mod Histories
+pub mod FreshIsKept
+pub mod FreshHistories
