@@ -1,17 +1,10 @@
--- What a library answers and leaves, as what C gets.
+-- What the map reader answers and leaves, as what C gets.
 use Prim.Native.Nat.{ℕ}
-use mathlib.Core.Path.{_≡_, ap, _∙_}
+use mathlib.Core.Path.{ap}
 use mathlib.Core.List.{List, [], _∷_}
-use Rattle.sheet.specs.declared.Ran.{Ran}
-use Rattle.sheet.specs.Runs.{Run, Leaves, resultNumber}
 use Rattle.mapfile.specs.declared.MapRead.{MapRead}
 use Rattle.mapfile.specs.Read.{Reading, Reads}
-use Rattle.host.specs.Entries.{RunReturns, ReadReturns}
-
-pub run-returns : (run : Run) {r : Ran} {store out : List ℕ} → Leaves run r store out → (n : ℕ)
-    → n ≡ resultNumber (r .code) (r .bytes) → RunReturns run n store out
-run-returns run L n is =
-    record { sameNumber = is ∙ rw (L .sameCode, L .sameBytes); sameStore = L .sameStore; sameOut = L .sameOut }
+use Rattle.host.specs.Entries.{ReadReturns}
 
 pub read-returns : (w : Reading) {r : MapRead} {from to loss : List ℕ} → Reads w r from to loss
     → ReadReturns w (r .code) from to loss (r .places ∷ r .start ∷ r .spans ∷ [])

@@ -1,20 +1,21 @@
 -- What the entries for hosts in C return and leave, on any input. A library's answer is a struct; C gets it as a
--- number, or as the code and three figures.
+-- number, or as the code and two or three figures.
 use Prim.Native.Nat.{ℕ}
 use mathlib.Core.Path.{_≡_}
 use mathlib.Core.List.{List, [], _∷_}
 use mathlib.Core.Bool.{cond}
 use Rattle.soundness.specs.Check.{soundWords}
-use Rattle.sheet.specs.Runs.{Run, returned}
+use Rattle.sheet.specs.Runs.{Run}
 use Rattle.finder.specs.declared.Fed.{Fed}
 use Rattle.paths.specs.Map.{Map}
 use Rattle.paths.specs.Feed.{Feed}
 use Rattle.finder.specs.Promise.{Feeds}
 use Rattle.mapfile.specs.Read.{Reading}
 
--- the number returned, the store and the output are those of the run
-pub record RunReturns (run : Run) (r : ℕ) (store out : List ℕ) : Type 0 where
-  pub sameNumber : r ≡ returned run
+-- the code, the figures (lines and bytes), the store and the output are those of the run
+pub record RunReturns (run : Run) (r : ℕ) (store out figures : List ℕ) : Type 0 where
+  pub sameCode : r ≡ run .code
+  pub sameFigures : figures ≡ run .lines ∷ run .bytes ∷ []
   pub sameStore : store ≡ run .store
   pub sameOut : out ≡ run .out
 

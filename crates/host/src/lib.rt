@@ -6,24 +6,36 @@ ghost use Rattle.paths.specs.Feed.{feedResult};
 ghost use Rattle.mapfile.specs.Read.{readMap};
 ghost use Rattle.host.specs.Entries.{RunReturns, soundNumber, FeedReturns, ReadReturns};
 
-// A fresh run: the bytes written to `out`, or 100,000 and the code of the refusal.
+// A fresh run. Returns the code; the figures are lines and bytes written.
 #[no_mangle]
-pub extern "C" fn fresh_run(store: &mut [u32], sheet: &[u8], out: &mut [u8]) -> u32
+pub extern "C" fn fresh_run(
+    store: &mut [u32],
+    sheet: &[u8],
+    out: &mut [u8],
+    figures: &mut [u32; 2],
+) -> u32
     ensures { λ r. ⌜ RunReturns (freshRun (now (store .entry)) (now (sheet .entry)) (now (out .entry))) r
-        (now (store .exit)) (now (out .exit)) ⌝ }
+        (now (store .exit)) (now (out .exit)) (now (figures .exit)) ⌝ }
 {
     let fresh = sheet::run_fresh(store, sheet, out);
-    sheet::result_number(fresh.code, fresh.bytes)
+    *figures = [fresh.lines, fresh.bytes];
+    fresh.code as u32
 }
 
 // A kept run: the same, on the store as it is.
 #[no_mangle]
-pub extern "C" fn kept_run(store: &mut [u32], sheet: &[u8], out: &mut [u8]) -> u32
+pub extern "C" fn kept_run(
+    store: &mut [u32],
+    sheet: &[u8],
+    out: &mut [u8],
+    figures: &mut [u32; 2],
+) -> u32
     ensures { λ r. ⌜ RunReturns (keptRun (now (store .entry)) (now (sheet .entry)) (now (out .entry))) r
-        (now (store .exit)) (now (out .exit)) ⌝ }
+        (now (store .exit)) (now (out .exit)) (now (figures .exit)) ⌝ }
 {
     let kept = sheet::run_kept(store, sheet, out);
-    sheet::result_number(kept.code, kept.bytes)
+    *figures = [kept.lines, kept.bytes];
+    kept.code as u32
 }
 
 // 1 if the words are those of a sound store, else 0.

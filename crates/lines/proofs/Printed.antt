@@ -1,5 +1,5 @@
 -- The printed answers: each takes at most 32 bytes, and those of two lists follow each other.
-use Prim.Native.Nat.{_*_, _≤_, zero-le}
+use Prim.Native.Nat.{_*_, _<_, _≤_, zero-le}
 use mathlib.Core.Path.{_≡_, refl}
 use mathlib.Core.List.{List, [], _∷_, _++_, append-assoc}
 use native.Mathlib.Omega.{arith}
@@ -16,7 +16,25 @@ use Rattle.text.proofs.Decimal.{decimal-short}
 use Rattle.text.proofs.Row.{length-row}
 use Rattle.lines.specs.Print.{answerRow, printed}
 
-pub row-32 : (a : Answer) → Small a → length (answerRow a) ≤ 32
+-- numbers of at most 2, 4, 10, 5 and 5 digits
+pub record Short (a : Answer) : Type 0 where
+  pub code : a .code < 100
+  pub item : a .item < 10000
+  pub key : a .key < 10000000000
+  pub links : a .links < 100000
+  pub cuts : a .cuts < 100000
+
+pub small-short : {a : Answer} → Small a → Short a
+small-short S =
+    record {
+      code = omega (arith, S .code);
+      item = omega (arith, S .item);
+      key = omega (arith, S .key);
+      links = omega (arith, S .moves);
+      cuts = omega (arith, S .moves);
+    }
+
+pub row-32 : (a : Answer) → Short a → length (answerRow a) ≤ 32
 unfolding answerRow
 row-32 a S =
     omega (
@@ -25,8 +43,8 @@ row-32 a S =
       decimal-short 1 (a .code) (omega (arith, S .code)),
       decimal-short 3 (a .item) (omega (arith, S .item)),
       decimal-short 9 (a .key) (omega (arith, S .key)),
-      decimal-short 4 (a .links) (omega (arith, S .moves)),
-      decimal-short 4 (a .cuts) (omega (arith, S .moves)),
+      decimal-short 4 (a .links) (omega (arith, S .links)),
+      decimal-short 4 (a .cuts) (omega (arith, S .cuts)),
     )
 
 printed-append : (a b : List Answer) → printed (a ++ b) ≡ printed a ++ printed b
@@ -43,7 +61,7 @@ printed-32 s W (l ∷ ls) r =
     omega (
       arith,
       length-append (answerRow ((answer s l) .reply)) (printed (answers ((answer s l) .next) ls)),
-      row-32 ((answer s l) .reply) (answer-small s W l (r .0)),
+      row-32 ((answer s l) .reply) (small-short (answer-small s W l (r .0))),
       printed-32 ((answer s l) .next) (keepsWellFormed s W l (r .0)) ls (r .1),
     )
 

@@ -1,3 +1,4 @@
 pub mod Parse
 pub mod LineAt
 pub mod Print
+pub mod Theorems

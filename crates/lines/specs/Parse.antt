@@ -12,19 +12,39 @@ use Rattle.text.specs.declared.Numbers.the-variants.{One, Two, Three, Other}
 use Rattle.text.specs.Fields.{fieldAt, numbersFrom}
 use Rattle.text.specs.Lines.{lines}
 
+-- the letters of the six calls, as bytes
+abbrev pub letterI : ℕ
+letterI = 73
+
+abbrev pub letterM : ℕ
+letterM = 77
+
+abbrev pub letterT : ℕ
+letterT = 84
+
+abbrev pub letterD : ℕ
+letterD = 68
+
+abbrev pub letterX : ℕ
+letterX = 88
+
+abbrev pub letterJ : ℕ
+letterJ = 74
+
 -- M, T and X have one number
 unfoldable pub ofOne : ℕ → ℕ → Line
 ofOne letter x =
-    cond (eqb letter 77) (Yields (FindMin x))
-    (cond (eqb letter 84) (Yields (ExtractMin x)) (cond (eqb letter 88) (Yields (Delete x)) NoCall))
+    cond (eqb letter letterM) (Yields (FindMin x))
+    (cond (eqb letter letterT) (Yields (ExtractMin x)) (cond (eqb letter letterX) (Yields (Delete x)) NoCall))
 
 -- D and J have two
 unfoldable pub ofTwo : ℕ → ℕ → ℕ → Line
-ofTwo letter x y = cond (eqb letter 68) (Yields (DecreaseKey x y)) (cond (eqb letter 74) (Yields (Meld x y)) NoCall)
+ofTwo letter x y =
+    cond (eqb letter letterD) (Yields (DecreaseKey x y)) (cond (eqb letter letterJ) (Yields (Meld x y)) NoCall)
 
 -- I has three
 unfoldable pub ofThree : ℕ → ℕ → ℕ → ℕ → Line
-ofThree letter x y z = cond (eqb letter 73) (Yields (Insert x y z)) NoCall
+ofThree letter x y z = cond (eqb letter letterI) (Yields (Insert x y z)) NoCall
 
 unfoldable pub callOf : ℕ → Numbers → Line
 callOf letter (One x) = ofOne letter x

@@ -79,7 +79,8 @@ fn no_call(text: &[u8]) -> Parsed
     }
 }
 
-// The call that the first line of a text yields. One pass: the line ends where its last number does.
+// The call that the first line of a text yields. One pass: the line ends where its last number does. At an empty line
+// the letter is LF, which no call has.
 pub fn parse(text: &[u8]) -> Parsed
     ensures { λ r. ⌜ Parses (now (text .entry)) r ⌝ }
 {
@@ -87,9 +88,6 @@ pub fn parse(text: &[u8]) -> Parsed
         return no_call(text);
     }
     let letter = text[0];
-    if letter == b'\n' {
-        return no_call(text);
-    }
     let read = text::numbers_from(text, text::field_at(text, 1));
     let numbers = read.numbers;
     let Line::Yields(call) = call_of(letter, numbers) else {

@@ -1,5 +1,5 @@
-// The reader walks the sheet that it was lent, line by line: a struct of the lent bytes and a position. The functions
-// over it are few and thin; the work is in `line_at`, on the bytes and the position.
+// A reader holds a sheet's bytes by reference and the position of the line that comes next. Few functions take one; the
+// work is in `line_at`, on the bytes and the position.
 ghost use mathlib.Core.Path.{_≡_};
 ghost use Rattle.lines.specs.LineAt.{lineAt};
 use super::calls::parse;

@@ -5,9 +5,9 @@ use mathlib.Core.List.{List}
 use lib.ListN.{length, length-replicate, replicate}
 use Rattle.rules.specs.Words.{storeSize}
 use Rattle.sheet.specs.declared.Ran.{Ran}
-use Rattle.sheet.specs.Runs.{Leaves, freshRun, resultNumber}
+use Rattle.sheet.specs.Runs.{Leaves, freshRun}
 use Rattle.sheet.proofs.FreshRuns.{fresh-shown}
-use Rattle.modem.specs.QueueRun.{Returns, queueRun}
+use Rattle.modem.specs.QueueRun.{Returns, queueRun, resultNumber}
 
 pub run-returned : (store sheet out : List ℕ) {store′ out′ : List ℕ} {r : Ran}
     → Leaves (freshRun store sheet out) r store′ out′ → length store ≡ storeSize 256 → (n : ℕ)

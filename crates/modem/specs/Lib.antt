@@ -1,1 +1,2 @@
 pub mod QueueRun
+pub mod Theorems

@@ -1,6 +1,6 @@
 -- The two ways to answer a line: it yields no call, or its call is performed.
 use Prim.Native.Nat.{ℕ, _+_, _≤_}
-use mathlib.Core.Path.{_≡_, sym, ap, _∙_}
+use mathlib.Core.Path.{_≡_, sym, ap, subst, _∙_}
 use mathlib.Core.List.{List}
 use native.Mathlib.Omega.{arith}
 use lib.ListN.{length}
@@ -8,7 +8,9 @@ use Rattle.rules.specs.declared.Answer.{Answer}
 use Rattle.rules.specs.declared.Call.{Call}
 use Rattle.rules.specs.declared.Line.{Line}
 use Rattle.rules.specs.declared.Line.the-variants.{NoCall, Yields}
+use Rattle.rules.specs.declared.Tally.{Tally}
 use Rattle.rules.specs.Answers.{answer, refused}
+use Rattle.rules.specs.Theorems.{InRange}
 use Rattle.rules.specs.Words.{encode, forestsOf}
 use Rattle.rules.proofs.ReplyBounds.{Small, answer-small}
 use Rattle.rules.proofs.SoundWords.{sound-forests, sound-words}
@@ -16,7 +18,7 @@ use Rattle.heap.specs.declared.Reply.{Reply}
 use Rattle.heap.specs.Performed.{Performed}
 use Rattle.text.specs.Output.{Wrote}
 use Rattle.lines.specs.Print.{answerRow}
-use Rattle.lines.proofs.Printed.{row-32}
+use Rattle.lines.proofs.Printed.{Short, row-32}
 use Rattle.sheet.specs.Promises.{Answerable, Answered}
 
 abbrev six : Answer
@@ -38,12 +40,8 @@ module _ {w out : List ℕ} {at : ℕ} {line : Line} (A : Answerable w out at li
   abbrev reply : Answer
   reply = (answer (forestsOf w) line) .reply
 
-  -- an answer has room: any whose numbers are small, and the rules' reply
-  pub small-fits : (a : Answer) → Small a → at + length (answerRow a) ≤ length out
-  small-fits a S = omega (arith, A .room, row-32 a S)
-
-  pub fits : (a : Answer) → a ≡ reply → at + length (answerRow a) ≤ length out
-  fits a e = rw e (small-fits reply (answer-small (forestsOf w) (sound-forests w (A .sound)) line (A .range)))
+  pub short-fits : (a : Answer) → Short a → at + length (answerRow a) ≤ length out
+  short-fits a S = omega (arith, A .room, row-32 a S)
 
   module _ (e : line ≡ NoCall) where
     six-reply : six ≡ reply
@@ -59,11 +57,25 @@ module _ {w out : List ℕ} {at : ℕ} {line : Line} (A : Answerable w out at li
     answered-none v =
         record { words = sound-words w (A .sound) ∙ ap encode (sym none-next); wrote = rw (← six-reply) v }
 
-  module _ {w′ : List ℕ} {c : Call} {p : Reply} (e : line ≡ Yields c)
-      (P : Performed w c (record { links = 0; cuts = 0 }) p w′) where
-    pub call-reply : answerOf p ≡ reply
-    call-reply = reply-is P ∙ ap (λ (l : Line). (answer (forestsOf w) l) .reply) (sym e)
+  module _ {c : Call} (e : line ≡ Yields c) where
+    reply-small : Small ((answer (forestsOf w) (Yields c)) .reply)
+    reply-small =
+        answer-small (forestsOf w) (sound-forests w (A .sound)) (Yields c) (subst InRange e (A .range))
 
-    pub answered-call : {out′ : List ℕ} {r : ℕ} → Wrote out at (answerRow (answerOf p)) out′ r
-        → Answered w out at line r w′ out′
-    answered-call v = record { words = rw e (P .words); wrote = rw (← call-reply) v }
+    -- the answer to a call has room, also if its tally starts above 0
+    pub call-fits : {t : Tally} {p : Reply} {w′ : List ℕ} → t .links + t .cuts ≤ 1000 → Performed w c t p w′
+        → at + length (answerRow (answerOf p)) ≤ length out
+    call-fits {t} {p} k P =
+        short-fits (answerOf p) (record {
+          code = omega (arith, P .code, reply-small .code);
+          item = omega (arith, P .item, reply-small .item);
+          key = omega (arith, P .key, reply-small .key);
+          links = omega (arith, P .links, reply-small .moves);
+          cuts = omega (arith, P .cuts, reply-small .moves);
+        })
+
+    pub answered-call : {p : Reply} {w′ out′ : List ℕ} {r : ℕ} → Performed w c (record { links = 0; cuts = 0 }) p w′
+        → Wrote out at (answerRow (answerOf p)) out′ r → Answered w out at line r w′ out′
+    answered-call {p} P v =
+        let same : answerOf p ≡ reply = reply-is P ∙ ap (λ (l : Line). (answer (forestsOf w) l) .reply) (sym e) in
+        record { words = rw e (P .words); wrote = rw (← same) v }

@@ -1,79 +1,64 @@
--- A history of kept runs is one list of lines, and the ledger holds of it.
+-- A history of kept runs is one list of lines: all that was written is its answers, and the ledger holds of it.
 use Prim.Native.Nat.{ℕ, zero, suc, _*_, _≤_}
 use mathlib.Core.Path.{_≡_, refl, sym, ap, _∙_}
-use mathlib.Core.List.{List, [], _∷_, _++_}
-use lib.ListN.{length, take, length-replicate}
+use mathlib.Core.List.{List, [], _∷_, _++_, append-assoc}
+use lib.ListN.{length, take}
+use lib.Seq.{take-append-seam}
 use Rattle.rules.specs.declared.Line.{Line}
 use Rattle.rules.specs.Answers.{after, answers}
-use Rattle.rules.specs.Forests.{Forests, empty}
+use Rattle.rules.specs.Forests.{Forests}
 use Rattle.rules.specs.WellFormed.{WellFormed}
-use Rattle.rules.specs.Words.{Sound, encode, forestsOf, itemsIn, storeSize}
+use Rattle.rules.specs.Words.{Sound, encode, forestsOf}
 use Rattle.rules.proofs.Answers.{AllInRange, after-append, after-well-formed}
-use Rattle.rules.proofs.DecodeEncode.{encode-length}
-use Rattle.rules.proofs.EmptyForests.{emptyWellFormed}
-use Rattle.rules.proofs.Ledger.{ledger}
 use Rattle.rules.proofs.SoundWords.{forests-encode, sound-encode, sound-forests, sound-words}
 use Rattle.lines.specs.Parse.{linesOf}
 use Rattle.lines.specs.Print.{printed}
 use Rattle.lines.proofs.InRange.{lines-range}
 use Rattle.lines.proofs.Printed.{printed-after}
-use Rattle.sheet.specs.Histories.{historyLines, linesIf, writtenBy, storeAfter}
+use Rattle.sheet.specs.Histories.{Lent, forestsAt, historyLines, linesIf, storeAfter, writtenBy}
 use Rattle.sheet.specs.Runs.{Run, doneRun, keptRun, limitCode, refusedRun, unlessLimit}
-use Rattle.sheet.specs.Theorems.{FreshIsKept, HistoryLedger, HistoryOneList}
+use Rattle.sheet.specs.Theorems.{HistoryAccounted, RestartAt}
 use Rattle.sheet.proofs.Accepted.{sound-accepted}
-use Rattle.sheet.proofs.Limits.{same-limits, within}
-use Rattle.sheet.proofs.Runs.{fresh-done, kept-done, run-room, wrote}
-
-pub freshIsKept : FreshIsKept
-freshIsKept store sheet out e =
-    let n : ℕ = itemsIn store in
-    let k = within store sheet out e .sized in
-    let W : WellFormed (empty n) = emptyWellFormed n (k .small) in
-    let S : Sound (encode (empty n)) = sound-encode (empty n) W in
-    let l : length (encode (empty n)) ≡ length store =
-    encode-length (empty n) ∙ ap storeSize (length-replicate n 0) ∙ sym (k .size) in
-    let r : keptRun (encode (empty n)) sheet out ≡ doneRun (empty n) (linesOf sheet) out =
-    kept-done (encode (empty n)) sheet out (same-limits (encode (empty n)) store sheet out l ∙ e) S
-    ∙ ap (λ s. doneRun s (linesOf sheet) out) (forests-encode (empty n) W) in
-    (S, fresh-done store sheet out e ∙ sym r)
+use Rattle.sheet.proofs.Moments.{accounted}
+use Rattle.sheet.proofs.Runs.{run-room, wrote}
 
 -- ---- one run of a history
 
 -- what a kept run does to sound words: it answers some lines of the list
-record Step (store : List ℕ) (run : Run) (ls : List Line) : Type 0 where
+record RunAnswers (store : List ℕ) (run : Run) (ls : List Line) : Type 0 where
   range : AllInRange ls
   words : run .store ≡ encode (after (forestsOf store) ls)
   shows : take (run .bytes) (run .out) ≡ printed (answers (forestsOf store) ls)
 
-refused-step : (store out : List ℕ) (code : ℕ) → Sound store → Step store (refusedRun code store out) []
+refused-answers : (store out : List ℕ) (code : ℕ) → Sound store → RunAnswers store (refusedRun code store out) []
 unfolding refusedRun after answers printed
-refused-step store out code S = record { range = tt; words = sound-words store S; shows = refl }
+refused-answers store out code S = record { range = tt; words = sound-words store S; shows = refl }
 
-done-step : (store sheet out : List ℕ) → Sound store → 32 * length (linesOf sheet) ≤ length out
-    → Step store (doneRun (forestsOf store) (linesOf sheet) out) (linesOf sheet)
+done-answers : (store sheet out : List ℕ) → Sound store → 32 * length (linesOf sheet) ≤ length out
+    → RunAnswers store (doneRun (forestsOf store) (linesOf sheet) out) (linesOf sheet)
 unfolding doneRun
-done-step store sheet out S k =
+done-answers store sheet out S k =
     record {
       range = lines-range sheet;
       words = refl;
       shows = wrote (forestsOf store) (sound-forests store S) (linesOf sheet) (lines-range sheet) out k;
     }
 
-kept-step : (store sheet out : List ℕ) → Sound store
-    → Step store (keptRun store sheet out) (linesIf ((keptRun store sheet out) .code) sheet)
+kept-answers : (store sheet out : List ℕ) → Sound store
+    → RunAnswers store (keptRun store sheet out) (linesIf ((keptRun store sheet out) .code) sheet)
 unfolding keptRun unlessLimit doneRun refusedRun linesIf
-kept-step store sheet out S = rw (sound-accepted store S) (go (limitCode store sheet out) refl)
+kept-answers store sheet out S = rw (sound-accepted store S) (go (limitCode store sheet out) refl)
   where
     go : (r : ℕ) → limitCode store sheet out ≡ r
-        → Step store (unlessLimit r store out (doneRun (forestsOf store) (linesOf sheet) out))
+        → RunAnswers store (unlessLimit r store out (doneRun (forestsOf store) (linesOf sheet) out))
         (linesIf ((unlessLimit r store out (doneRun (forestsOf store) (linesOf sheet) out)) .code) sheet)
-    go zero e = done-step store sheet out S (run-room store sheet out e)
-    go (suc r) e = refused-step store out (suc r) S
+    go zero e = done-answers store sheet out S (run-room store sheet out e)
+    go (suc r) e = refused-answers store out (suc r) S
 
 -- ---- the whole history
 
 -- where the words stand for the forests after the first lines, they do so after more lines
-module _ (store : List ℕ) (S : Sound store) (run : Run) (first : List Line) (K : Step store run first) where
+module _ (store : List ℕ) (S : Sound store) (run : Run) (first : List Line) (K : RunAnswers store run first) where
   abbrev s : Forests
   s = forestsOf store
 
@@ -95,21 +80,51 @@ module _ (store : List ℕ) (S : Sound store) (run : Run) (first : List Line) (K
         ≡ printed (answers s (first ++ rest))
     shown-both = rw (next-forests, K .shows) (sym (printed-after s first rest))
 
-pub historyOneList : HistoryOneList
+-- the whole history is one list of lines on the forests of its first words, wherever the restarts fall
+record OneList (store : List ℕ) (runs : List Lent) : Type 0 where
+  sound : Sound (storeAfter store runs)
+  forests : forestsOf (storeAfter store runs) ≡ after (forestsOf store) (historyLines store runs)
+  shows : writtenBy store runs ≡ printed (answers (forestsOf store) (historyLines store runs))
+
+one-list : (store : List ℕ) → Sound store → (runs : List Lent) → OneList store runs
 unfolding storeAfter writtenBy historyLines after answers printed
-historyOneList store S [] = record { sound = S; words = sound-words store S; forests = refl; answers = refl }
-historyOneList store S (l ∷ runs) =
+one-list store S [] = record { sound = S; forests = refl; shows = refl }
+one-list store S (l ∷ runs) =
     let run : Run = keptRun store (l .sheet) (l .out) in
     let first : List Line = linesIf (run .code) (l .sheet) in
-    let K = kept-step store (l .sheet) (l .out) S in
+    let K = kept-answers store (l .sheet) (l .out) S in
     let rest : List Line = historyLines (run .store) runs in
-    let H = historyOneList (run .store) (next-sound store S run first K) runs in
+    let H = one-list (run .store) (next-sound store S run first K) runs in
     record {
       sound = H .sound;
-      words = H .words ∙ ap encode (after-both store S run first K rest);
       forests = H .forests ∙ after-both store S run first K rest;
-      answers = ap (λ t. take (run .bytes) (run .out) ++ t) (H .answers) ∙ shown-both store S run first K rest;
+      shows = ap (λ t. take (run .bytes) (run .out) ++ t) (H .shows) ∙ shown-both store S run first K rest;
     }
 
-pub historyLedger : HistoryLedger
-historyLedger store S runs i n = ledger (forestsOf store) (sound-forests store S) (historyLines store runs) i n
+-- the lines of a history in two parts
+split : (store : List ℕ) (before rest : List Lent)
+    → historyLines store (before ++ rest) ≡ historyLines store before ++ historyLines (storeAfter store before) rest
+unfolding historyLines storeAfter
+split store [] rest = refl
+split store (l ∷ before) rest =
+    let run : Run = keptRun store (l .sheet) (l .out) in
+    let first : List Line = linesIf (run .code) (l .sheet) in
+    ap (λ t. first ++ t) (split (run .store) before rest)
+    ∙ sym (append-assoc first (historyLines (run .store) before) _)
+
+restart-at : (store : List ℕ) → Sound store → (before rest : List Lent)
+    → RestartAt (forestsOf store) (historyLines store (before ++ rest)) (length (historyLines store before))
+    (storeAfter store before)
+unfolding forestsAt
+restart-at store S before rest =
+    let H = one-list store S before in
+    record {
+      sound = H .sound;
+      forests = rw (split store before rest, take-append-seam (historyLines store before) _) (sym (H .forests));
+    }
+
+pub historyAccounted : HistoryAccounted
+historyAccounted store S runs = (
+  accounted (forestsOf store) (sound-forests store S) (historyLines store runs) (one-list store S runs .shows),
+  λ before rest e. rw (← e) (restart-at store S before rest),
+)

@@ -24,7 +24,7 @@ use Rattle.sheet.specs.declared.Ran.{Ran}
 use Rattle.sheet.specs.Promises.{Limited, RanLines, Refuses, Runnable}
 use Rattle.sheet.specs.Runs.{Leaves, Run, doneRun, freshRun, keptRun, limitCode, refusedRun, unlessLimit}
 use Rattle.sheet.proofs.Accepted.{accepted-sound}
-use Rattle.sheet.proofs.Limits.{Within, within}
+use Rattle.sheet.proofs.Limits.{WithinLimits, within}
 use Rattle.sheet.proofs.Runs.{fresh-done, kept-done}
 
 -- the bytes that the lines took
@@ -76,7 +76,7 @@ module _ {store sheet out : List ℕ} {l : Checked} (L : Limited store sheet out
     none : limitCode store sheet out ≡ 0
     none = sym (L .code) ∙ z
 
-    limits : Within store sheet out
+    limits : WithinLimits store sheet out
     limits = within store sheet out none
 
     pub sized : Sized (l .items) store

@@ -5,5 +5,9 @@ pub mod Limits
 pub mod Runs
 pub mod Leaves
 pub mod FreshRuns
+pub mod Bounds
 pub mod Continuation
+pub mod Moments
 pub mod Histories
+pub mod FreshIsKept
+pub mod FreshHistories

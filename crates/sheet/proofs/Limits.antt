@@ -2,7 +2,7 @@
 use Prim.Native.Nat.{ℕ, suc, _*_, _<_, _≤_}
 use mathlib.Core.Path.{_≡_, refl, sym, _∙_}
 use mathlib.Core.List.{List}
-use mathlib.Core.Bool.{Bool, true, false, cond}
+use mathlib.Core.Bool.{Bool, true, false, cond, not}
 use native.Mathlib.Omega.{arith}
 use lib.ListN.{length}
 use lib.Dec.{ltb}
@@ -19,12 +19,12 @@ use Rattle.sheet.specs.Promises.{Limited}
 use Rattle.sheet.specs.Runs.{limitCode}
 
 -- the store is one for N items, and the output has room for 32 bytes a line
-pub record Within (store sheet out : List ℕ) : Type 0 where
+pub record WithinLimits (store sheet out : List ℕ) : Type 0 where
   pub sized : Sized (itemsIn store) store
   pub few : length (lines sheet) ≤ 2000
   pub room : 32 * length (lines sheet) ≤ length out
 
-pub within : (store sheet out : List ℕ) → limitCode store sheet out ≡ 0 → Within store sheet out
+pub within : (store sheet out : List ℕ) → limitCode store sheet out ≡ 0 → WithinLimits store sheet out
 unfolding limitCode
 within store sheet out e =
     go (isStore store) (ltb 60000 (length sheet)) (ltb 2000 (length (lines sheet)))
@@ -32,7 +32,7 @@ within store sheet out e =
   where
     go : (a b c d : Bool) → isStore store ≡ a → ltb 2000 (length (lines sheet)) ≡ c
         → ltb (length out) (32 * length (lines sheet)) ≡ d
-        → _≡_ {A = ℕ} (cond a (cond b 2 (cond c 3 (cond d 4 0))) 1) 0 → Within store sheet out
+        → _≡_ {A = ℕ} (cond (not a) 1 (cond b 2 (cond c 3 (cond d 4 0)))) 0 → WithinLimits store sheet out
     go true false false false p q r e =
         record { sized = store-sized store p refl; few = ltb-false _ _ q; room = ltb-false _ _ r }
     go true false false true p q r e = absurd (omega arith)
@@ -49,11 +49,10 @@ same-limits a b sheet out e = rw (same-store a b e)
 pub limit-le : (store sheet out : List ℕ) → limitCode store sheet out ≤ 4
 unfolding limitCode
 limit-le store sheet out =
-    by-cond low (isStore store)
+    by-cond low (not (isStore store)) (omega arith)
     (by-cond low (ltb 60000 (length sheet)) (omega arith)
     (by-cond low (ltb 2000 (length (lines sheet))) (omega arith)
     (by-cond low (ltb (length out) (32 * length (lines sheet))) (omega arith) (omega arith))))
-    (omega arith)
   where
     low : ℕ → Type 0
     low n = n ≤ 4

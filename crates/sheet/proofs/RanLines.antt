@@ -19,34 +19,34 @@ use Rattle.lines.specs.Parse.{linesOf}
 use Rattle.lines.specs.Print.{answerRow, printed}
 use Rattle.lines.proofs.LinesOf.{lines-length}
 use Rattle.lines.proofs.LineFound.{LineFound, found, no-line}
-use Rattle.lines.proofs.Printed.{row-32}
+use Rattle.lines.proofs.Printed.{row-32, small-short}
 use Rattle.sheet.specs.Promises.{Answerable, Answered, RanLines, Runnable}
 
 -- the lines before `at` are answered, and the answers end at `to`
-pub record Going (w₀ sheet out₀ w out : List ℕ) (at to : ℕ) : Type 0 where
+pub record AnsweredTo (w₀ sheet out₀ w out : List ℕ) (at to : ℕ) : Type 0 where
   pub sound : Sound w
   pub done : List ℕ
   pub wrote : Wrote out₀ 0 done out to
   pub forests : after (forestsOf w₀) (linesOf sheet) ≡ after (forestsOf w) (linesOf (drop at sheet))
-  pub writtenBy : printed (answers (forestsOf w₀) (linesOf sheet))
+  pub shows : printed (answers (forestsOf w₀) (linesOf sheet))
       ≡ done ++ printed (answers (forestsOf w) (linesOf (drop at sheet)))
   pub room : to + 32 * length (linesOf (drop at sheet)) ≤ length out₀
   pub same-length : length w ≡ length w₀
 
-pub none-done : {w sheet out : List ℕ} → Runnable w sheet out → Going w sheet out w out 0 0
+pub none-done : {w sheet out : List ℕ} → Runnable w sheet out → AnsweredTo w sheet out w out 0 0
 none-done {w} {sheet} {out} R =
     record {
       sound = R .sound;
       done = [];
       wrote = wrote-none out 0;
       forests = refl;
-      writtenBy = refl;
+      shows = refl;
       room = omega (arith, R .room, lines-length sheet);
       same-length = refl;
     }
 
 -- one line more
-module _ {w₀ sheet out₀ w out : List ℕ} {at to : ℕ} (G : Going w₀ sheet out₀ w out at to) (l : Line) (e : ℕ)
+module _ {w₀ sheet out₀ w out : List ℕ} {at to : ℕ} (G : AnsweredTo w₀ sheet out₀ w out at to) (l : Line) (e : ℕ)
     (q : lineAt sheet at ≡ Found l e) where
   abbrev s : Forests
   s = forestsOf w
@@ -63,10 +63,10 @@ module _ {w₀ sheet out₀ w out : List ℕ} {at to : ℕ} (G : Going w₀ shee
       }
 
   short : length (answerRow ((answer s l) .reply)) ≤ 32
-  short = row-32 _ (answer-small s (sound-forests w (G .sound)) l (F .range))
+  short = row-32 _ (small-short (answer-small s (sound-forests w (G .sound)) l (F .range)))
 
   pub one-more : {w′ out′ : List ℕ} {to′ : ℕ} → length w′ ≡ length w → Answered w out to l to′ w′ out′
-      → Going w₀ sheet out₀ w′ out′ (e + 1) to′
+      → AnsweredTo w₀ sheet out₀ w′ out′ (e + 1) to′
   unfolding after answers printed
   one-more {w′} {out′} {to′} k A =
       let t : forestsOf w′ ≡ (answer s l) .next = next-forests l (G .sound) (F .range) (A .words) in
@@ -75,17 +75,17 @@ module _ {w₀ sheet out₀ w out : List ℕ} {at to : ℕ} (G : Going w₀ shee
         done = G .done ++ answerRow ((answer s l) .reply);
         wrote = wrote-then (G .wrote) (A .wrote);
         forests = G .forests ∙ rw (F .rest, t);
-        writtenBy = G .writtenBy ∙ rw (F .rest, t, append-assoc);
+        shows = G .shows ∙ rw (F .rest, t, append-assoc);
         room = omega (arith, G .room, A .wrote .next, short, ap length (F .rest));
         same-length = k ∙ G .same-length;
       }
 
 -- all lines
-pub all-done : {w₀ sheet out₀ w out : List ℕ} {at to : ℕ} → Going w₀ sheet out₀ w out at to
+pub all-done : {w₀ sheet out₀ w out : List ℕ} {at to : ℕ} → AnsweredTo w₀ sheet out₀ w out at to
     → lineAt sheet at ≡ NoMore → RanLines w₀ sheet out₀ to w out
 unfolding after answers printed
 all-done {w₀} {sheet} {out₀} {w} {out} {at} {to} G q =
     let e : linesOf (drop at sheet) ≡ [] = no-line sheet at q in
     let f : after (forestsOf w₀) (linesOf sheet) ≡ forestsOf w = G .forests ∙ rw e in
-    let p : printed (answers (forestsOf w₀) (linesOf sheet)) ≡ G .done = G .writtenBy ∙ rw (e, append-nil) in
+    let p : printed (answers (forestsOf w₀) (linesOf sheet)) ≡ G .done = G .shows ∙ rw (e, append-nil) in
     record { words = sound-words w (G .sound) ∙ ap encode (sym f); wrote = rw p (G .wrote) }

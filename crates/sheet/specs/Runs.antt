@@ -1,12 +1,12 @@
 -- A run of a sheet on a store, fresh or kept: result, store and output as one total function of what was lent
 -- (scope paper, Sheet, and Codes 1 to 5).
-use Prim.Native.Nat.{ℕ, zero, suc, _+_, _*_}
+use Prim.Native.Nat.{ℕ, zero, suc, _*_}
 use mathlib.Core.Path.{_≡_}
 use mathlib.Core.List.{List}
-use mathlib.Core.Bool.{cond}
+use mathlib.Core.Bool.{cond, not}
 use lib.ListN.{length}
 use lib.Seq.{sets}
-use lib.Dec.{eqb, ltb}
+use lib.Dec.{ltb}
 use Rattle.rules.specs.declared.Line.{Line}
 use Rattle.rules.specs.Forests.{Forests, empty}
 use Rattle.rules.specs.Answers.{answers, after}
@@ -28,10 +28,10 @@ pub record Run : Type 0 where
 -- The first of the conditions 1 to 4 that is met; 0: the run is within the limits.
 unfoldable pub limitCode : List ℕ → List ℕ → List ℕ → ℕ
 limitCode store sheet out =
-    cond (isStore store)
+    cond (not (isStore store)) 1
     (cond (ltb 60000 (length sheet)) 2
-    (cond (ltb 2000 (length (lines sheet))) 3 (cond (ltb (length out) (32 * length (lines sheet))) 4 0)))
-    1
+    (cond (ltb 2000 (length (lines sheet))) 3
+    (cond (ltb (length out) (32 * length (lines sheet))) 4 0)))
 
 -- A refusal returns its code and two zeros, and leaves everything as it was.
 unfoldable pub refusedRun : ℕ → List ℕ → List ℕ → Run
@@ -53,16 +53,16 @@ unfoldable pub unlessLimit : ℕ → List ℕ → List ℕ → Run → Run
 unlessLimit zero store out run = run
 unlessLimit (suc code) store out run = refusedRun (suc code) store out
 
--- A fresh run overwrites the store as empty.
+-- A fresh run starts from the empty store, whatever words it finds.
 unfoldable pub freshRun : List ℕ → List ℕ → List ℕ → Run
 freshRun store sheet out =
     unlessLimit (limitCode store sheet out) store out (doneRun (empty (itemsIn store)) (linesOf sheet) out)
 
--- A kept run goes on from a sound store.
+-- A kept run goes on from the store that it finds; after the limits comes code 5, for words that are not sound.
 unfoldable pub keptRun : List ℕ → List ℕ → List ℕ → Run
 keptRun store sheet out =
     unlessLimit (limitCode store sheet out) store out
-    (cond (soundWords store) (doneRun (forestsOf store) (linesOf sheet) out) (refusedRun 5 store out))
+    (cond (not (soundWords store)) (refusedRun 5 store out) (doneRun (forestsOf store) (linesOf sheet) out))
 
 -- A run that answers r and leaves these words and these bytes did all that the definition says.
 pub record Leaves (run : Run) (r : Ran) (store out : List ℕ) : Type 0 where
@@ -71,10 +71,3 @@ pub record Leaves (run : Run) (r : Ran) (store out : List ℕ) : Type 0 where
   pub sameBytes : r .bytes ≡ run .bytes
   pub sameStore : store ≡ run .store
   pub sameOut : out ≡ run .out
-
--- The one number that C gets of a run: the bytes written, or 100,000 and the code.
-unfoldable pub resultNumber : ℕ → ℕ → ℕ
-resultNumber code bytes = cond (eqb code 0) bytes (100000 + code)
-
-abbrev pub returned : Run → ℕ
-returned run = resultNumber (run .code) (run .bytes)

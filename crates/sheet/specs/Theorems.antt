@@ -1,18 +1,28 @@
 -- What is proved of runs. Each statement is a type; its proof is in proofs/, under the same name in lower case.
-use Prim.Native.Nat.{ℕ, _+_, _≤_}
+use Prim.Native.Nat.{ℕ, _+_, _*_, _≤_}
 use mathlib.Core.Path.{_≡_}
 use mathlib.Core.List.{List, _++_}
 use mathlib.Core.Bool.{true}
-use lib.ListN.{take, drop}
+use lib.ListN.{length, take, drop}
+use Rattle.rules.specs.declared.Answer.{Answer}
 use Rattle.rules.specs.declared.Line.{Line}
 use Rattle.rules.specs.Forests.{Forests, empty, potential}
-use Rattle.rules.specs.Answers.{answers, after}
-use Rattle.rules.specs.Ledger.{moves, allowed}
+use Rattle.rules.specs.Answers.{answers}
+use Rattle.rules.specs.Ledger.{allowed}
 use Rattle.rules.specs.Words.{Sound, encode, itemsIn, forestsOf}
 use Rattle.text.specs.Lines.{closed}
+use Rattle.lines.specs.Parse.{linesOf}
 use Rattle.lines.specs.Print.{printed}
 use Rattle.sheet.specs.Runs.{Run, limitCode, freshRun, keptRun}
-use Rattle.sheet.specs.Histories.{Lent, storeAfter, writtenBy, historyLines}
+use Rattle.sheet.specs.Histories.{Lent, storeAfter, writtenBy, historyLines, forestsAt, movesIn}
+
+-- A run answers at most 2,000 lines and writes at most 32 bytes for each, so at most 64,000; a refused one none.
+pub record Bounded (run : Run) : Type 0 where
+  pub lines : run .lines ≤ 2000
+  pub bytes : run .bytes ≤ 32 * run .lines
+
+abbrev pub RunsBounded : Type 0
+RunsBounded = (store sheet out : List ℕ) → Bounded (freshRun store sheet out) × Bounded (keptRun store sheet out)
 
 -- Two runs, the second on the store that the first left, did what a third did alone.
 pub record SameAs (first second whole : Run) : Type 0 where
@@ -23,8 +33,8 @@ pub record SameAs (first second whole : Run) : Type 0 where
   pub answers : take (first .bytes) (first .out) ++ take (second .bytes) (second .out)
       ≡ take (whole .bytes) (whole .out)
 
--- Sheet A fresh, then B kept on the untouched store, is A followed by B, if A is empty or ends with LF and all three
--- runs are within the limits, output included.
+-- A sheet `a` that has no unfinished line, run fresh, and then `b` run kept on the words left: together they do what
+-- one fresh run of both sheets does, where each of the three runs is within the limits.
 abbrev pub Continues : Type 0
 Continues =
     (store a b outA outB outAB : List ℕ) → closed a ≡ true →
@@ -47,23 +57,48 @@ FreshIsKept =
     → Sound (encode (empty (itemsIn store)))
     × (freshRun store sheet out ≡ keptRun (encode (empty (itemsIn store))) sheet out)
 
--- A history of kept runs from a sound store is one list of lines on the forests of its first words: the words left, the
--- forests they stand for and all that was shown are those of the list, wherever the restarts fall.
-pub record OneList (store : List ℕ) (runs : List Lent) : Type 0 where
-  pub sound : Sound (storeAfter store runs)
-  pub words : storeAfter store runs ≡ encode (after (forestsOf store) (historyLines store runs))
-  pub forests : forestsOf (storeAfter store runs) ≡ after (forestsOf store) (historyLines store runs)
-  pub answers : writtenBy store runs ≡ printed (answers (forestsOf store) (historyLines store runs))
+-- Demand 3, said of what was written. The lines ls were answered from the forests `start` on, and the runs that
+-- answered them wrote the bytes `written`.
+pub record Accounted (start : Forests) (ls : List Line) (written : List ℕ) : Type 0 where
+  -- one answer for each line: those of the rules, and all that was written is these answers
+  pub told : List Answer
+  pub oneEach : length told ≡ length ls
+  pub byRules : told ≡ answers start ls
+  pub allWritten : written ≡ printed told
+  -- Between any two moments, i lines before the first and n between the two: the links and cuts told, and the potential
+  -- at the later, are at most the potential at the earlier and the allowances of the lines between.
+  pub ledger : (i n : ℕ)
+      → movesIn (take n (drop i told)) + potential (forestsAt start ls (i + n))
+      ≤ potential (forestsAt start ls i) + allowed (forestsAt start ls i) (take n (drop i ls))
 
-abbrev pub HistoryOneList : Type 0
-HistoryOneList = (store : List ℕ) → Sound store → (runs : List Lent) → OneList store runs
+-- A kept run that starts after the first k lines and finds the words w: they are sound, and the forests of this moment
+-- are those that the words stand for, so a restart changes no potential.
+pub record RestartAt (start : Forests) (ls : List Line) (k : ℕ) (w : List ℕ) : Type 0 where
+  pub sound : Sound w
+  pub forests : forestsAt start ls k ≡ forestsOf w
 
--- Demand 3 over histories: between any two moments, i lines before the first and n between the two, the links and cuts
--- that the answers show and the potential at the later are at most the potential at the earlier and the allowances.
-abbrev pub HistoryLedger : Type 0
-HistoryLedger =
-    (store : List ℕ) → Sound store → (runs : List Lent) (i n : ℕ) →
+-- The history of any kept runs from a sound store. The restarts are where the runs split; after the last run the same
+-- is said of the words left.
+abbrev pub HistoryAccounted : Type 0
+HistoryAccounted =
+    (store : List ℕ) → Sound store → (runs : List Lent) →
+    let start : Forests = forestsOf store in
     let ls : List Line = historyLines store runs in
-    let s : Forests = after (forestsOf store) (take i ls) in
-    let between : List Line = take n (drop i ls) in
-    moves s between + potential (after s between) ≤ potential s + allowed s between
+    Accounted start ls (writtenBy store runs)
+    × ((before rest : List Lent) → before ++ rest ≡ runs
+    → RestartAt start ls (length (historyLines store before)) (storeAfter store before))
+
+-- The same where a fresh run that is done, on any words, stands before the kept runs. The first moment is the empty
+-- store, whose potential is 0.
+abbrev pub FreshHistoryAccounted : Type 0
+FreshHistoryAccounted =
+    (store : List ℕ) (first : Lent) (runs : List Lent) →
+    let fresh : Run = freshRun store (first .sheet) (first .out) in
+    let start : Forests = empty (itemsIn store) in
+    let ls : List Line = linesOf (first .sheet) ++ historyLines (fresh .store) runs in
+    fresh .code ≡ 0
+    → (potential start ≡ 0)
+    × Accounted start ls (take (fresh .bytes) (fresh .out) ++ writtenBy (fresh .store) runs)
+    × ((before rest : List Lent) → before ++ rest ≡ runs
+    → RestartAt start ls (length (linesOf (first .sheet) ++ historyLines (fresh .store) before))
+    (storeAfter (fresh .store) before))

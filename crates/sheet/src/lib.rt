@@ -1,7 +1,7 @@
 // Sheets of queue calls: each line is read and answered, in fresh and in kept runs.
 ghost use mathlib.Core.Path.{_≡_};
 ghost use Rattle.sheet.specs.Promises.{Answerable, Answered, Runnable, RanLines, Limited, Refuses};
-ghost use Rattle.sheet.specs.Runs.{freshRun, keptRun, Leaves, resultNumber};
+ghost use Rattle.sheet.specs.Runs.{freshRun, keptRun, Leaves};
 use audit::sound;
 use heap::perform::perform;
 use lines::answers::put_answer;
@@ -165,14 +165,4 @@ pub fn run_kept(store: &mut [u32], sheet: &[u8], out: &mut [u8]) -> Ran
         lines: within.lines,
         bytes: bytes as u32,
     }
-}
-
-// The number that C gets of a run: the bytes written, or 100,000 and the code.
-pub fn result_number(code: u8, bytes: u32) -> u32
-    ensures { λ r. ⌜ r ≡ resultNumber code bytes ⌝ }
-{
-    if code == 0 {
-        return bytes;
-    }
-    100000 + code as u32
 }

@@ -68,22 +68,22 @@ value-grows v (b ∷ bs) = omega (arith, value-grows (v * 10 + (b - 48)) bs)
 
 -- The run at `at`, of which the digits before i are read, with v for their value; once v is above the largest number
 -- it stays, and so does what it says of the whole.
-pub record Reading (s : List ℕ) (at i v : ℕ) : Type 0 where
+pub record DigitsReadTo (s : List ℕ) (at i v : ℕ) : Type 0 where
   pub ends : at + length (digitRun (drop at s)) ≡ i + length (digitRun (drop i s))
   pub exact :
       (valueFrom 0 (digitRun (drop at s)) ≡ valueFrom v (digitRun (drop i s)))
       ⊎ ((largest < v) × (largest < valueFrom 0 (digitRun (drop at s))))
   pub small : v ≤ 42949672959
 
-pub none-read : (s : List ℕ) (at : ℕ) → Reading s at at 0
+pub none-read : (s : List ℕ) (at : ℕ) → DigitsReadTo s at at 0
 none-read s at = record { ends = refl; exact = inl refl; small = omega arith }
 
 -- what the code makes of v at the byte b
-abbrev pub Stepped : (v b v′ : ℕ) → Type 0
-Stepped v b v′ = ((v ≤ largest) × (v′ ≡ v * 10 + (b - 48))) ⊎ ((largest < v) × (v′ ≡ v))
+abbrev pub DigitStep : (v b v′ : ℕ) → Type 0
+DigitStep v b v′ = ((v ≤ largest) × (v′ ≡ v * 10 + (b - 48))) ⊎ ((largest < v) × (v′ ≡ v))
 
 exact-more :
-    (v b v′ w : ℕ) (ds : List ℕ) → Stepped v b v′ → (w ≡ valueFrom v (b ∷ ds)) ⊎ ((largest < v) × (largest < w))
+    (v b v′ w : ℕ) (ds : List ℕ) → DigitStep v b v′ → (w ≡ valueFrom v (b ∷ ds)) ⊎ ((largest < v) × (largest < w))
     → (w ≡ valueFrom v′ ds) ⊎ ((largest < v′) × (largest < w))
 unfolding valueFrom
 exact-more v b v′ w ds (inl p) (inl e) = inl (rw (p .1) e)
@@ -93,8 +93,8 @@ exact-more v b v′ w ds (inl p) (inr q) = absurd (omega arith)
 exact-more v b v′ w ds (inr p) (inr q) = inr (omega arith)
 
 pub one-read :
-    {s : List ℕ} {at i v : ℕ} (v′ : ℕ) → Reading s at i v → i < length s → 48 ≤ getD s i 0 → getD s i 0 ≤ 57
-    → Stepped v (getD s i 0) v′ → Reading s at (i + 1) v′
+    {s : List ℕ} {at i v : ℕ} (v′ : ℕ) → DigitsReadTo s at i v → i < length s → 48 ≤ getD s i 0 → getD s i 0 ≤ 57
+    → DigitStep v (getD s i 0) v′ → DigitsReadTo s at (i + 1) v′
 one-read {s} {at} {i} {v} v′ r h lo hi w =
     let e = run-more s i h lo hi in
     let ends : at + length (digitRun (drop at s)) ≡ i + length (getD s i 0 ∷ digitRun (drop (i + 1) s))
@@ -106,7 +106,7 @@ one-read {s} {at} {i} {v} v′ r h lo hi w =
     }
 
 pub all-read :
-    {s : List ℕ} {at i v : ℕ} → Reading s at i v → digitRun (drop i s) ≡ []
+    {s : List ℕ} {at i v : ℕ} → DigitsReadTo s at i v → digitRun (drop i s) ≡ []
     → DigitsRead (digitRun (drop at s)) at i v
 unfolding valueFrom
 all-read {s} {at} {i} {v} r e =

@@ -25,17 +25,17 @@ module _ (s : List ℕ) (i : ℕ) where
   ends-text h = rw (drop-of-length-le s h)
 
 -- the line at `at`, of which the bytes before i are passed
-pub record Passed (s : List ℕ) (at i : ℕ) : Type 0 where
+pub record BytesPassed (s : List ℕ) (at i : ℕ) : Type 0 where
   pub ends : at + lineLength (drop at s) ≡ i + lineLength (drop i s)
 
-pub none-passed : (s : List ℕ) (at : ℕ) → Passed s at at
+pub none-passed : (s : List ℕ) (at : ℕ) → BytesPassed s at at
 none-passed s at = record { ends = refl }
 
 pub one-passed :
-    {s : List ℕ} {at i : ℕ} → Passed s at i → i < length s → (getD s i 0 ≡ lineFeed → ⊥) → Passed s at (i + 1)
+    {s : List ℕ} {at i : ℕ} → BytesPassed s at i → i < length s → (getD s i 0 ≡ lineFeed → ⊥) → BytesPassed s at (i + 1)
 one-passed {s} {at} {i} p h n = record { ends = omega (arith, p .ends, length-more s i h n) }
 
-pub all-passed : {s : List ℕ} {at i : ℕ} → Passed s at i → lineLength (drop i s) ≡ 0 → i ≡ lineEnd s at
+pub all-passed : {s : List ℕ} {at i : ℕ} → BytesPassed s at i → lineLength (drop i s) ≡ 0 → i ≡ lineEnd s at
 unfolding lineEnd
 all-passed p e = omega (arith, p .ends, e)
 

@@ -39,16 +39,16 @@ pub none-counted : (s : List ℕ) → Counted s 0 0
 none-counted s = record { sum = omega arith; low = omega arith; within = omega arith }
 
 -- what the code makes of n at the byte b
-abbrev pub Stepped : (n b n′ : ℕ) → Type 0
-Stepped n b n′ = ((b ≡ lineFeed) × (n′ ≡ n + 1)) ⊎ ((b ≡ lineFeed → ⊥) × (n′ ≡ n))
+abbrev pub CountStep : (n b n′ : ℕ) → Type 0
+CountStep n b n′ = ((b ≡ lineFeed) × (n′ ≡ n + 1)) ⊎ ((b ≡ lineFeed → ⊥) × (n′ ≡ n))
 
-feeds-step : (n b n′ : ℕ) (bs : List ℕ) → Stepped n b n′ → n + lineFeeds (b ∷ bs) ≡ n′ + lineFeeds bs
+feeds-step : (n b n′ : ℕ) (bs : List ℕ) → CountStep n b n′ → n + lineFeeds (b ∷ bs) ≡ n′ + lineFeeds bs
 unfolding lineFeeds
 feeds-step n b n′ bs (inl p) = simp (eq-eqb b lineFeed (p .0)) (omega (arith, p .1))
 feeds-step n b n′ bs (inr p) = simp (ne-eqb b lineFeed (p .0)) (omega (arith, p .1))
 
 pub byte-counted :
-    {s : List ℕ} {n i : ℕ} (n′ : ℕ) → Counted s n i → i < length s → Stepped n (getD s i 0) n′ → Counted s n′ (i + 1)
+    {s : List ℕ} {n i : ℕ} (n′ : ℕ) → Counted s n i → i < length s → CountStep n (getD s i 0) n′ → Counted s n′ (i + 1)
 byte-counted {s} {n} {i} n′ k h w =
     let e : drop i s ≡ getD s i 0 ∷ drop (i + 1) s = rw (add-one, drop-cons s i 0 h) in
     let sum : n + lineFeeds (getD s i 0 ∷ drop (i + 1) s) ≡ lineFeeds s = rw e at (k .sum) in

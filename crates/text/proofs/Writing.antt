@@ -11,23 +11,23 @@ use Rattle.text.proofs.Decimal.{decimal-low, decimal-high, length-high,
 use Rattle.text.proofs.Wrote.{sets-append, sets-set}
 
 -- the digits of n from i on stand in l; those of m are still to be written at `at`
-pub record Writing (l₀ : List ℕ) (at n : ℕ) (l : List ℕ) (i m : ℕ) : Type 0 where
+pub record DigitsWritten (l₀ : List ℕ) (at n : ℕ) (l : List ℕ) (i m : ℕ) : Type 0 where
   pub whole : sets l₀ at (decimal n) ≡ sets l at (decimal m)
   pub place : i ≡ at + length (decimal m)
   pub within : i ≤ length l₀
   pub same : length l ≡ length l₀
 
-pub none-written : (l : List ℕ) (at n i : ℕ) → i ≡ at + length (decimal n) → i ≤ length l → Writing l at n l i n
+pub none-written : (l : List ℕ) (at n i : ℕ) → i ≡ at + length (decimal n) → i ≤ length l → DigitsWritten l at n l i n
 none-written l at n i e h = record { whole = refl; place = e; within = h; same = refl }
 
-module _ {l₀ l : List ℕ} {at n i m : ℕ} (w : Writing l₀ at n l i m) where
+module _ {l₀ l : List ℕ} {at n i m : ℕ} (w : DigitsWritten l₀ at n l i m) where
   pub place-positive : 0 < i
   place-positive = omega (arith, w .place, some-digit m)
 
   pub first-within : at < length l
   first-within = omega (arith, w .place, w .within, w .same, some-digit m)
 
-  pub one-written : 10 ≤ m → Writing l₀ at n (set l (i - 1) (48 + m % 10)) (i - 1) (m / 10)
+  pub one-written : 10 ≤ m → DigitsWritten l₀ at n (set l (i - 1) (48 + m % 10)) (i - 1) (m / 10)
   one-written h =
       let e : i - 1 ≡ at + length (decimal (m / 10)) = omega (arith, w .place, length-high m h) in
       record {

@@ -11,17 +11,14 @@ slice-aggregate-read-full c = search needs
 read-full-requires : tie.Need-read-full-requires
 read-full-requires c κs = search needs
 
-slice-aggregate-answer-sheet : tie.Need-slice-aggregate-answer-sheet
-slice-aggregate-answer-sheet c = search needs
-
 array-share-prefix-sheet : tie.Need-array-share-prefix-sheet
 array-share-prefix-sheet c = search needs
 
+slice-aggregate-answer-sheet : tie.Need-slice-aggregate-answer-sheet
+slice-aggregate-answer-sheet c = search needs
+
 slice-aggregate-answer-sheet-2 : tie.Need-slice-aggregate-answer-sheet-2
 slice-aggregate-answer-sheet-2 c = search needs
-
-slice-aggregate-answer-sheet-3 : tie.Need-slice-aggregate-answer-sheet-3
-slice-aggregate-answer-sheet-3 c = search needs
 
 answer-sheet-requires : tie.Need-answer-sheet-requires
 answer-sheet-requires c κs = search needs
@@ -30,7 +27,7 @@ array-share-prefix-out : tie.Need-array-share-prefix-out
 array-share-prefix-out c = search needs
 
 slice-aggregate-write-all : tie.Need-slice-aggregate-write-all
-slice-aggregate-write-all c = sym (length-take-le _ _ (c .before .before .before .answer-sheet .ensures .within))
+slice-aggregate-write-all c = sym (length-take-le _ _ (c .before .before .answer-sheet .ensures .within))
 
 write-all-requires : tie.Need-write-all-requires
 write-all-requires c κs = search needs
@@ -44,10 +41,9 @@ main-spec =
     (tie.spec
     slice-aggregate-read-full
     read-full-requires
-    slice-aggregate-answer-sheet
     array-share-prefix-sheet
+    slice-aggregate-answer-sheet
     slice-aggregate-answer-sheet-2
-    slice-aggregate-answer-sheet-3
     answer-sheet-requires
     array-share-prefix-out
     slice-aggregate-write-all

@@ -1,6 +1,6 @@
 -- `answer_line` meets its contract: code 6 where the line yields no call, else the reply of its call.
 use native.Mathlib.Omega.{arith}
-use Rattle.sheet.proofs.Answered.{fits, small-fits, answered-none, call-reply, answered-call}
+use Rattle.sheet.proofs.Answered.{short-fits, answered-none, call-fits, answered-call}
 use borrow.Author.Needs.{needs}
 use Rattle.sheet.proofs.answer_line.Statement.{statement}
 use Rattle.sheet.proofs.answer_line.Tie as tie
@@ -13,8 +13,8 @@ enum-told c = search needs
 
 put-answer-requires : tie.Need-put-answer-requires
 put-answer-requires c κs =
-    small-fits (c .before .before .before .before .before .pre) _
-    (record { code = omega arith; item = omega arith; key = omega arith; moves = omega arith })
+    short-fits (c .before .before .before .before .before .pre) _
+    (record { code = omega arith; item = omega arith; key = omega arith; links = omega arith; cuts = omega arith })
 
 same-length : tie.Need-same-length
 same-length c = search needs
@@ -33,7 +33,7 @@ put-answer-requires-2 c κs =
     let performed = c .before .before .before .before in
     let yields = performed .before .before .before in
     let start = yields .before .before .before .before in
-    fits (start .pre) _ (call-reply (start .pre) (yields .line .given .1) (performed .perform .ensures))
+    call-fits (start .pre) (yields .line .given .1) (omega arith) (performed .perform .ensures)
 
 same-length-2 : tie.Need-same-length-2
 same-length-2 c = search needs

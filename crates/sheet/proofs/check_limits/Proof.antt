@@ -1,4 +1,5 @@
 -- `check_limits` meets its contract: the conditions in the table's order.
+use native.Mathlib.Omega.{arith}
 use Rattle.soundness.proofs.Booleans.{told-false, told-true}
 use Rattle.sheet.proofs.Limits.{met, code-1, code-2, code-3, code-4, none-met}
 use borrow.Author.Needs.{needs}
@@ -52,7 +53,7 @@ returns-4 c =
     let test = count .before .before in
     met 3
     (code-4 _ _ _ (told-true _ _ (test .before .is-store .ensures) (test .if1 .left)) (count .before .if2 .left)
-    (count .line-count .ensures) (c .before .before .if3 .left) (c .before .if4 .taken))
+    (count .line-count .ensures) (c .before .before .if3 .left) (omega (arith, c .before .if4 .taken)))
     (c .beyond4 .ensures)
 
 items-of-requires : tie.Need-items-of-requires

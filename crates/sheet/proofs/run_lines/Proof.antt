@@ -5,13 +5,13 @@ use native.Mathlib.Omega.{arith}
 use lib.ListN.{length}
 use Rattle.text.proofs.Wrote.{wrote-length}
 use Rattle.lines.proofs.LineFound.{found}
-use Rattle.sheet.proofs.RanLines.{Going, none-done, answerable, one-more, all-done}
+use Rattle.sheet.proofs.RanLines.{AnsweredTo, none-done, answerable, one-more, all-done}
 use borrow.Author.Needs.{needs}
 use Rattle.sheet.proofs.run_lines.Statement.{statement}
 use Rattle.sheet.proofs.run_lines.Tie as tie
 
 abbrev Inv-loop : tie.InvT-loop
-Inv-loop store₀ sheet out₀ at₀ to₀ store out at to = Going store₀ sheet out₀ store out at to
+Inv-loop store₀ sheet out₀ at₀ to₀ store out at to = AnsweredTo store₀ sheet out₀ store out at to
 
 abbrev μ-loop : tie.MeasureT-loop
 μ-loop store₀ sheet out₀ at₀ to₀ store out at to = length sheet + 1 - at

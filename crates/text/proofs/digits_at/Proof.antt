@@ -3,12 +3,12 @@ use borrow.Author.Needs.{needs}
 use mathlib.Core.Logic.{⊎-elim, inl, inr}
 use Prim.Native.Nat.{_-_}
 use lib.ListN.{length}
-use Rattle.text.proofs.Digits.{Reading, none-read, one-read, all-read, ends-low, ends-high, ends-text}
+use Rattle.text.proofs.Digits.{DigitsReadTo, none-read, one-read, all-read, ends-low, ends-high, ends-text}
 use Rattle.text.proofs.digits_at.Statement.{statement}
 use Rattle.text.proofs.digits_at.Tie as tie
 
 abbrev Inv-loop : tie.InvT-loop
-Inv-loop s at i₀ v₀ i v = Reading s at i v
+Inv-loop s at i₀ v₀ i v = DigitsReadTo s at i v
 
 abbrev μ-loop : tie.MeasureT-loop
 μ-loop s at i₀ v₀ i v = length s - i

@@ -2,12 +2,12 @@
 use borrow.Author.Needs.{needs}
 use Prim.Native.Nat.{_-_}
 use lib.ListN.{length}
-use Rattle.text.proofs.LineEnd.{Passed, none-passed, one-passed, all-passed, ends-feed, ends-text}
+use Rattle.text.proofs.LineEnd.{BytesPassed, none-passed, one-passed, all-passed, ends-feed, ends-text}
 use Rattle.text.proofs.line_end.Statement.{statement}
 use Rattle.text.proofs.line_end.Tie as tie
 
 abbrev Inv-loop : tie.InvT-loop
-Inv-loop s at i₀ i = Passed s at i
+Inv-loop s at i₀ i = BytesPassed s at i
 
 abbrev μ-loop : tie.MeasureT-loop
 μ-loop s at i₀ i = length s - i

@@ -1,7 +1,7 @@
 -- `parse` meets its contract.
 use mathlib.Core.Path.{refl, sym, _∙_}
 use native.Mathlib.Omega.{arith}
-use Rattle.lines.proofs.Parsing.{parses-empty, parses-feed, parses-call, parses-no-call}
+use Rattle.lines.proofs.Parsing.{parses-empty, parses-call, parses-no-call}
 use borrow.Author.Needs.{needs}
 use Rattle.lines.proofs.calls.parse.Statement.{statement}
 use Rattle.lines.proofs.calls.parse.Tie as tie
@@ -14,12 +14,6 @@ returns c = parses-empty (c .no-call .ensures) (c .before .if1 .taken)
 
 shared-slice-read-letter : tie.Need-shared-slice-read-letter
 shared-slice-read-letter c = search needs
-
-no-call-requires-2 : tie.Need-no-call-requires-2
-no-call-requires-2 c κs = search needs
-
-returns-2 : tie.Need-returns-2
-returns-2 c = parses-feed (c .no-call2 .ensures) (c .before .if2 .taken)
 
 field-at-requires : tie.Need-field-at-requires
 field-at-requires c κs = search needs
@@ -36,22 +30,22 @@ enum-known-call c = search needs
 enum-told : tie.Need-enum-told
 enum-told c = search needs
 
-no-call-requires-3 : tie.Need-no-call-requires-3
-no-call-requires-3 c κs = search needs
+no-call-requires-2 : tie.Need-no-call-requires-2
+no-call-requires-2 c κs = search needs
+
+returns-2 : tie.Need-returns-2
+returns-2 c =
+    let called = c .before .before .before in
+    let tested = called .before .before .before .before in
+    parses-no-call _ (omega (arith, tested .if1 .left))
+    (called .before .before .field-at .ensures) (called .before .numbers-from .ensures)
+    (sym (called .call-of .ensures) ∙ c .before .enum-told .given .1) (c .no-call2 .ensures)
 
 returns-3 : tie.Need-returns-3
 returns-3 c =
     let called = c .before .before .before in
-    let tested = called .before .before .before in
-    parses-no-call _ (omega (arith, tested .before .before .if1 .left)) (tested .if2 .left)
-    (called .before .before .field-at .ensures) (called .before .numbers-from .ensures)
-    (sym (called .call-of .ensures) ∙ c .before .enum-told .given .1) (c .no-call3 .ensures)
-
-returns-4 : tie.Need-returns-4
-returns-4 c =
-    let called = c .before .before .before in
-    let tested = called .before .before .before in
-    parses-call _ (omega (arith, tested .before .before .if1 .left)) (tested .if2 .left)
+    let tested = called .before .before .before .before in
+    parses-call _ (omega (arith, tested .if1 .left))
     (called .before .before .field-at .ensures) (called .before .numbers-from .ensures)
     (sym (called .call-of .ensures) ∙ c .before .call .given .1) refl refl
 
@@ -62,13 +56,11 @@ parse-spec =
     no-call-requires
     returns
     shared-slice-read-letter
-    no-call-requires-2
-    returns-2
     field-at-requires
     numbers-from-requires
     call-of-requires
     enum-known-call
     enum-told
-    no-call-requires-3
-    returns-3
-    returns-4)
+    no-call-requires-2
+    returns-2
+    returns-3)

@@ -257,7 +257,8 @@ module _ {M : Type 1} (𝓤 : URA M) (H : Heap 𝓤) (A : Atoms 𝓤) (W : Given
 
 line-meets : {M : Type 1} (𝓤 : URA M) (H : Heap 𝓤) (A : Atoms 𝓤) (W : Given 𝓤 H A) (mem : Memory → SProp 𝓤)
     (run : Routine → Fun 𝓤) (𝓣 : Tables 𝓤 H)
-    → Triple 𝓤 (𝓣 .C #reader-at) (ReaderAtMeets 𝓤 H A mem run) → Triple 𝓤 (𝓣 .C #next-line) (NextLineMeets 𝓤 H A mem run)
+    → Triple 𝓤 (𝓣 .C #reader-at) (ReaderAtMeets 𝓤 H A mem run)
+    → Triple 𝓤 (𝓣 .C #next-line) (NextLineMeets 𝓤 H A mem run)
     → Meets 𝓤 H A line.signature (WpFn 𝓤 H (𝓣 .C) (𝓣 .Λ) code.function) (line.spec 𝓤 H A mem run)
 line-meets 𝓤 H A W mem run 𝓣 known-new known-next =
     walk-meets 𝓤 H A line.ended stayed W (
@@ -274,8 +275,10 @@ read-line-spec 𝓤 H 𝓜 𝓖 𝓡 =
     (tables 𝓤 H 𝓜 𝓡 code.env .C) (tables 𝓤 H 𝓜 𝓡 code.env .Λ) #read-line code.function (code.unfolded 𝓤 H 𝓜 𝓡)
     (line-meets 𝓤 H (𝓖 .A) (givenOf 𝓤 H 𝓜 𝓖) (𝓜 .mem) (𝓡 .run) (tablesOf 𝓤 H 𝓜 (tables 𝓤 H 𝓜 𝓡 code.env))
     (cited 𝓤 H
-    (ReaderAtMeets 𝓤 H (𝓖 .A) (𝓜 .mem) (𝓡 .run)) 𝓜 𝓡 code.env #reader-at new-def.routine code.calls-lines·reader·reader-at
+    (ReaderAtMeets 𝓤 H (𝓖 .A) (𝓜 .mem) (𝓡 .run)) 𝓜 𝓡 code.env #reader-at new-def.routine
+    code.calls-lines·reader·reader-at
     (new-thm.met 𝓤 H 𝓜 𝓖 𝓡))
     (cited 𝓤 H
-    (NextLineMeets 𝓤 H (𝓖 .A) (𝓜 .mem) (𝓡 .run)) 𝓜 𝓡 code.env #next-line next-def.routine code.calls-lines·reader·next-line
+    (NextLineMeets 𝓤 H (𝓖 .A) (𝓜 .mem) (𝓡 .run)) 𝓜 𝓡 code.env #next-line next-def.routine
+    code.calls-lines·reader·next-line
     (next-thm.met 𝓤 H 𝓜 𝓖 𝓡)))

@@ -1,12 +1,19 @@
 -- `put_number` meets its contract. The invariant: writing what is left gives the whole.
 use borrow.Author.Needs.{needs}
 use native.Mathlib.Omega.{arith}
-use Rattle.text.proofs.Writing.{Writing, none-written, place-positive, first-within, one-written, all-written}
+use Rattle.text.proofs.Writing.{
+  DigitsWritten,
+  none-written,
+  place-positive,
+  first-within,
+  one-written,
+  all-written,
+}
 use Rattle.text.proofs.output.put_number.Statement.{statement}
 use Rattle.text.proofs.output.put_number.Tie as tie
 
 abbrev Inv-loop : tie.InvT-loop
-Inv-loop out₀ at n end i₀ m₀ out i m = Writing out₀ at n out i m
+Inv-loop out₀ at n end i₀ m₀ out i m = DigitsWritten out₀ at n out i m
 
 abbrev μ-loop : tie.MeasureT-loop
 μ-loop out₀ at n end i₀ m₀ out i m = m

@@ -1,9 +1,9 @@
 -- `result_number` meets its contract.
 use borrow.Author.Tests.{eq-eqb, ne-eqb}
 use borrow.Author.Needs.{needs}
-use Rattle.sheet.specs.Runs.{resultNumber}
-use Rattle.sheet.proofs.result_number.Statement.{statement}
-use Rattle.sheet.proofs.result_number.Tie as tie
+use Rattle.modem.specs.QueueRun.{resultNumber}
+use Rattle.modem.proofs.result_number.Statement.{statement}
+use Rattle.modem.proofs.result_number.Tie as tie
 
 returns : tie.Need-returns
 unfolding resultNumber
