@@ -33,9 +33,12 @@ pub data Verdict : Type 0 where
   tie : Verdict
   worse : Verdict
 
--- the offer of loss l by span e to a place that has loss l₀ by span e₀
+-- the verdict on a loss and a span that are offered, by the loss and the span that the place has
 unfoldable pub judge : ℕ → ℕ → ℕ → ℕ → Verdict
-judge l₀ e₀ l e = cond (eqb l₀ none) unmet (cond (ltb l l₀) smaller (cond (eqb l l₀ && ltb e e₀) tie worse))
+judge hasLoss hasSpan loss span =
+    cond (eqb hasLoss none) unmet
+    (cond (ltb loss hasLoss) smaller
+    (cond (eqb loss hasLoss && ltb span hasSpan) tie worse))
 
 -- Place p is offered loss l by span e: if not met it is inserted, a smaller loss lowers it, an equal one makes no call.
 unfoldable pub update : Verdict → ℕ → ℕ → ℕ → Search → Search
