@@ -60,7 +60,8 @@ module _ (m : Map) (lent : ResultLists) (code : ℕ)
         }
 
     pub feeds-done : (left : ResultLists) (r : Progress) → Found m left r
-        → Feeds m lent (record { code = 0; links = r .tally .links; cuts = r .tally .cuts; examined = r .examined }) left
+        → Feeds m lent
+        (record { code = 0; links = r .tally .links; cuts = r .tally .cuts; examined = r .examined }) left
     unfolding feedAs search
     feeds-done left r F =
         let w = result-is z in

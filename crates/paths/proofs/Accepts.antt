@@ -30,7 +30,7 @@ no-cond : (t : Bool) (c x : ℕ) → c ≢ 0 → _≡_ {A = ℕ} (cond t c x) 0 
 no-cond true c x n e = absurd (n e)
 no-cond false c x n e = (refl, e)
 
-no-or : (a b : Bool) → (a || b) ≡ false → (a ≡ false) × (b ≡ false)
+pub no-or : (a b : Bool) → (a || b) ≡ false → (a ≡ false) × (b ≡ false)
 no-or true b e = absurd (true≢false e)
 no-or false b e = (refl, e)
 

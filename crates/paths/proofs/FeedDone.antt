@@ -15,8 +15,8 @@ pub feedDone : FeedDone
 unfolding feedResult feedAs search
 feedDone m lent = go (feedCode m (length (lent .best)) (length (lent .last)) (length (lent .store))) refl
   where
-    go : (c : ℕ) → feedCode m (length (lent .best)) (length (lent .last)) (length (lent .store)) ≡ c → (feedAs c m lent) .code ≡ 0
-        → Right m (feedAs c m lent)
+    go : (c : ℕ) → feedCode m (length (lent .best)) (length (lent .last)) (length (lent .store)) ≡ c
+        → (feedAs c m lent) .code ≡ 0 → Right m (feedAs c m lent)
     go zero e _ =
         let A = codeZero .only m (length (lent .best)) (length (lent .last)) (length (lent .store)) e .accepted in
         record {

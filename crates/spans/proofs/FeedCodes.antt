@@ -52,7 +52,12 @@ module _ (m : Map) (bestN lastN storeN : ℕ) where
 
       module _ (toN : length (m .lists .to) ≡ spans m) where
         pub code-loss : length (m .lists .loss) ≢ spans m → 16 ≡ code
-        code-loss h = rw (past-15, eq-eqb (length (m .lists .to)) (spans m) toN, ne-eqb (length (m .lists .loss)) (spans m) h)
+        code-loss h =
+            rw (
+              past-15,
+              eq-eqb (length (m .lists .to)) (spans m) toN,
+              ne-eqb (length (m .lists .loss)) (spans m) h,
+            )
 
         module _ (lossN : length (m .lists .loss) ≡ spans m) where
           pub code-long : 16384 < spans m → 16 ≡ code

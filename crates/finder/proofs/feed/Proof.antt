@@ -11,7 +11,8 @@ feed-code-requires : tie.Need-feed-code-requires
 feed-code-requires c κs = search needs
 
 returns : tie.Need-returns
-returns c = feeds-refused (mapOf _ _ (spanLists _ _ _)) (resultLists _ _ _) _ (c .before .feed-code .ensures) (c .if1 .taken)
+returns c =
+    feeds-refused (mapOf _ _ (spanLists _ _ _)) (resultLists _ _ _) _ (c .before .feed-code .ensures) (c .if1 .taken)
 
 begin-search-requires : tie.Need-begin-search-requires
 begin-search-requires c κs =
