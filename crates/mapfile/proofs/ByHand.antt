@@ -19,6 +19,6 @@ use Rattle.mapfile.specs.ByHand.{paperText, readOnto, malformed, WorkedT
 
 pub workedTexts : WorkedTexts
 unfolding readOnto paperText malformed readMap readAnswer refusedReading refusedAnswer storeSpans runOut isMap
-    spanLines firstLine column allSpans isThree isTwo spanFrom numbersOf lines ahead numbersFrom twoFrom threeFrom fieldAt
-    numberAt numberOf digitRun isDigit wellFormed valueFrom endsAt lineLength
+    spanLines firstLine column allSpans isThree isTwo spanFrom numbersOf lines ahead numbersFrom twoFrom threeFrom
+    fieldAt numberAt numberOf digitRun isDigit wellFormed valueFrom endsAt lineLength
 workedTexts = record { paper = refl; short = refl; uneven = refl; refusals = refl }

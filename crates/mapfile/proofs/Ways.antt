@@ -79,7 +79,8 @@ module _ (text : List ℕ) (lent : SpanLists) where
   bad-head end q n e h = rw (first-line text end q, ← e, not-two n h, or-true (ltb 60000 (length text)))
 
 pub good-head : (text : List ℕ) → length text ≤ 60000 → (end : ℕ) → end ≡ lineEnd text 0 → (places start : ℕ)
-    (n : Numbers) → n ≡ numbersOf (take (end - 0) (drop 0 text)) → n ≡ Two places start → HeadRead text (end + 1) places start
+    (n : Numbers) → n ≡ numbersOf (take (end - 0) (drop 0 text)) → n ≡ Two places start
+    → HeadRead text (end + 1) places start
 good-head text short end q places start n e h =
     record { short = short; head = rw (first-line text end q, ← e) h; rest = later-lines text end q }
 

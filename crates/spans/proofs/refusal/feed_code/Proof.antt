@@ -67,7 +67,8 @@ returns-9 c =
     let c8 = sized .before in
     let c4 = c8 .before .before .before .before in
     code-store (mapOf _ _ (spanLists _ _ _)) _ _ _ (c4 .before .before .before .if1 .left)
-    (c4 .before .before .if2 .left) (c4 .before .if3 .left) (c4 .if4 .left) (c8 .before .before .before .if5 .left) (c8 .before .before .if6 .left)
+    (c4 .before .before .if2 .left) (c4 .before .if3 .left) (c4 .if4 .left)
+    (c8 .before .before .before .if5 .left) (c8 .before .before .if6 .left)
     (c8 .before .if7 .left) (c8 .if8 .left) (λ e. c .if9 .taken (e ∙ sym (sized .size-for .ensures)))
 
 spans-code-requires : tie.Need-spans-code-requires
@@ -80,7 +81,8 @@ returns-10 c =
     let c8 = sized .before in
     let c4 = c8 .before .before .before .before in
     code-spans (mapOf _ _ (spanLists _ _ _)) _ _ _ (c4 .before .before .before .if1 .left)
-    (c4 .before .before .if2 .left) (c4 .before .if3 .left) (c4 .if4 .left) (c8 .before .before .before .if5 .left) (c8 .before .before .if6 .left)
+    (c4 .before .before .if2 .left) (c4 .before .if3 .left) (c4 .if4 .left)
+    (c8 .before .before .before .if5 .left) (c8 .before .before .if6 .left)
     (c8 .before .if7 .left) (c8 .if8 .left) (c9 .if9 .left ∙ sized .size-for .ensures) _ (c .spans-code .ensures)
 
 pub feed-code-spec : {M : Type 1} → statement M
