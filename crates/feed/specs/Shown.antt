@@ -2,7 +2,7 @@
 use Prim.Native.Nat.{ℕ, zero, suc, _+_, _*_, _^_, _≤_, _<_}
 use mathlib.Core.Path.{_≡_}
 use mathlib.Core.List.{List, [], _∷_, _++_}
-use mathlib.Core.Bool.{cond}
+use mathlib.Core.Bool.{cond, not}
 use lib.ListN.{length, getD, take, replicate}
 use lib.Dec.{eqb, ltb}
 use Rattle.rules.specs.Forests.{none}
@@ -34,11 +34,60 @@ codeLine code = field code lineFeed
 -- a feed call with n places; the number of spans examined is given apart
 unfoldable pub feedText : ℕ → Feed → ℕ → List ℕ
 feedText n w examined =
-    cond (eqb (w .code) 0)
+    cond (not (eqb (w .code) 0)) (codeLine (w .code))
     (entryRows (w .left .best) (w .left .last) n ++ row (w .links ∷ w .cuts ∷ examined ∷ []))
-    (codeLine (w .code))
+
+-- ---- a map text
+
+-- the lists up to n spans, and up to n places
+unfoldable pub takeSpans : ℕ → SpanLists → SpanLists
+takeSpans n l = spanLists (take n (l .from)) (take n (l .to)) (take n (l .loss))
+
+unfoldable pub takeResults : ℕ → ResultLists → ResultLists
+takeResults n l = resultLists (take n (l .best)) (take n (l .last)) (take (storeSize n) (l .store))
+
+-- the map of a reading
+unfoldable pub mapRead : Reading → Map
+mapRead w = mapOf (w .answer .places) (w .answer .start) (takeSpans (w .answer .spans) (w .left))
+
+-- the feed call on it, with the first words of longer lists
+unfoldable pub fedBy : Reading → ResultLists → Feed
+fedBy w own = feedResult (mapRead w) (takeResults (w .answer .places) own)
+
+-- the program's sizes, and its lists
+abbrev pub mostSpans : ℕ
+mostSpans = 4096
+
+abbrev pub mostPlaces : ℕ
+mostPlaces = 1024
+
+unfoldable pub ownSpans : SpanLists
+ownSpans = spanLists (replicate mostSpans 0) (replicate mostSpans 0) (replicate mostSpans 0)
+
+unfoldable pub ownResults : ResultLists
+ownResults = resultLists (replicate mostPlaces 0) (replicate mostPlaces 0) (replicate (storeSize mostPlaces) 0)
+
+-- The reader's code is tested first, then 14 for more places than the program has room for, then the call's code.
+unfoldable pub mapText : Reading → ResultLists → ℕ → List ℕ
+mapText w own examined =
+    cond (not (eqb (w .answer .code) 0)) (codeLine (w .answer .code))
+    (cond (ltb mostPlaces (w .answer .places)) (codeLine 14)
+    (feedText (w .answer .places) (fedBy w own) examined))
 
 -- The number of spans examined is open up to the number of spans. The first r bytes are what is printed.
+pub record ShowsMap (w : Reading) (own : ResultLists) (out : List ℕ) (r : ℕ) (out′ : List ℕ) : Type 0 where
+  pub examined : ℕ
+  pub most : examined ≤ w .answer .spans
+  pub wrote : Wrote out 0 (mapText w own examined) out′ r
+  pub within : r ≤ length out′
+
+-- what the program prints of a map text
+abbrev pub ShowsText : List ℕ → List ℕ → ℕ → List ℕ → Type 0
+ShowsText text out r out′ = ShowsMap (readMap text ownSpans) ownResults out r out′
+
+-- ---- for the functions inside
+
+-- the same of a feed call
 pub record ShowsFeed (m : Map) (lent : ResultLists) (out : List ℕ) (r : ℕ) (out′ : List ℕ) : Type 0 where
   pub examined : ℕ
   pub most : examined ≤ spans m
@@ -62,51 +111,3 @@ pub record TableReady (best last out : List ℕ) : Type 0 where
 pub record TableWrote (best last out : List ℕ) (r : ℕ) (out′ : List ℕ) : Type 0 where
   pub wrote : Wrote out 0 (entryRows best last (length best)) out′ r
   pub short : r ≤ 33 * length best
-
--- ---- a map text
-
--- the lists up to n spans, and up to n places
-unfoldable pub takeSpans : ℕ → SpanLists → SpanLists
-takeSpans n l = spanLists (take n (l .from)) (take n (l .to)) (take n (l .loss))
-
-unfoldable pub takeResults : ℕ → ResultLists → ResultLists
-takeResults n l = resultLists (take n (l .best)) (take n (l .last)) (take (storeSize n) (l .store))
-
--- the map of a reading
-unfoldable pub mapRead : Reading → Map
-mapRead w = mapOf (w .answer .places) (w .answer .start) (takeSpans (w .answer .spans) (w .left))
-
--- the feed call on it, with the first words of the lists that are there
-unfoldable pub fedBy : Reading → ResultLists → Feed
-fedBy w own = feedResult (mapRead w) (takeResults (w .answer .places) own)
-
--- the program's sizes, and the lists that it has
-abbrev pub mostSpans : ℕ
-mostSpans = 4096
-
-abbrev pub mostPlaces : ℕ
-mostPlaces = 1024
-
-unfoldable pub ownSpans : SpanLists
-ownSpans = spanLists (replicate mostSpans 0) (replicate mostSpans 0) (replicate mostSpans 0)
-
-unfoldable pub ownResults : ResultLists
-ownResults = resultLists (replicate mostPlaces 0) (replicate mostPlaces 0) (replicate (storeSize mostPlaces) 0)
-
--- The reader's code comes first, then 14 for more places than the program has room for, then the call's code.
-unfoldable pub mapText : Reading → ResultLists → ℕ → List ℕ
-mapText w own examined =
-    cond (eqb (w .answer .code) 0)
-    (cond (ltb mostPlaces (w .answer .places)) (codeLine 14)
-    (feedText (w .answer .places) (fedBy w own) examined))
-    (codeLine (w .answer .code))
-
-pub record ShowsMap (w : Reading) (own : ResultLists) (out : List ℕ) (r : ℕ) (out′ : List ℕ) : Type 0 where
-  pub examined : ℕ
-  pub most : examined ≤ w .answer .spans
-  pub wrote : Wrote out 0 (mapText w own examined) out′ r
-  pub within : r ≤ length out′
-
--- what the program prints of a map text
-abbrev pub ShowsText : List ℕ → List ℕ → ℕ → List ℕ → Type 0
-ShowsText text out r out′ = ShowsMap (readMap text ownSpans) ownResults out r out′

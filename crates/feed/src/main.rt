@@ -92,7 +92,8 @@ fn answer_feed(
     put_figures(out, at, fed.links, fed.cuts, fed.examined)
 }
 
-// Leaves in `out` what is printed of a map text, and returns the number of its bytes.
+// Leaves in `out` what is printed of a map text, and returns the number of its bytes. `out` has room for the rows of
+// 1,024 places and for the figures.
 fn answer_text(text: &[u8], out: &mut [u8]) -> usize
     requires { ⌜ 40000 ≤ length (now out) ⌝ }
     ensures { λ r. ⌜ ShowsText (now (text .entry)) (now (out .entry)) r (now (out .exit)) ⌝ }

@@ -9,7 +9,7 @@ use Rattle.mapfile.specs.Read.{
   spanLines,
   isMap,
   runOut,
-  storeSpans,
+  withSpans,
   refusedAnswer,
   refusedReading,
   readAnswer,
@@ -18,7 +18,7 @@ use Rattle.mapfile.specs.Read.{
 use Rattle.mapfile.specs.ByHand.{paperText, readOnto, malformed, WorkedTexts}
 
 pub workedTexts : WorkedTexts
-unfolding readOnto paperText malformed readMap readAnswer refusedReading refusedAnswer storeSpans runOut isMap
+unfolding readOnto paperText malformed readMap readAnswer refusedReading refusedAnswer withSpans runOut isMap
     spanLines firstLine column allSpans isThree isTwo spanFrom numbersOf lines ahead numbersFrom twoFrom threeFrom
     fieldAt numberAt numberOf digitRun isDigit wellFormed valueFrom endsAt lineLength
 workedTexts = record { paper = refl; short = refl; uneven = refl; refusals = refl }

@@ -11,7 +11,7 @@ use Rattle.text.proofs.Lines.{lines-at, lines-end}
 use Rattle.mapfile.specs.declared.Span.{Span}
 use Rattle.paths.specs.Map.{spanLists}
 use Rattle.mapfile.specs.Lines.{numbersOf, spanFrom, column}
-use Rattle.mapfile.specs.Read.{storeSpans}
+use Rattle.mapfile.specs.Read.{withSpans}
 use Rattle.mapfile.proofs.LineAt.{at-line}
 
 pub record Stored (f : Span → ℕ) (text : List ℕ) (first : ℕ) (l₀ l : List ℕ) (at n : ℕ) : Type 0 where
@@ -48,6 +48,6 @@ module _ {f : Span → ℕ} {text : List ℕ} {first : ℕ} {l₀ l : List ℕ} 
 pub all-spans : {text : List ℕ} {first : ℕ} {from₀ to₀ loss₀ from to loss : List ℕ} {at n : ℕ}
     → Stored (λ s. s .from) text first from₀ from at n → Stored (λ s. s .to) text first to₀ to at n
     → Stored (λ s. s .loss) text first loss₀ loss at n → length text ≤ at
-    → spanLists from to loss ≡ storeSpans (lines (drop first text)) (spanLists from₀ to₀ loss₀)
-unfolding storeSpans
+    → spanLists from to loss ≡ withSpans (lines (drop first text)) (spanLists from₀ to₀ loss₀)
+unfolding withSpans
 all-spans F T L h = rw (all-stored F h, all-stored T h, all-stored L h)

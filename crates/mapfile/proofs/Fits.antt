@@ -18,7 +18,7 @@ use Rattle.mapfile.specs.Read.{
   Reading,
   isMap,
   runOut,
-  storeSpans,
+  withSpans,
   refusedAnswer,
   refusedReading,
   readAnswer,
@@ -44,8 +44,8 @@ spans-most (Three x y z) n = omega arith
 spans-most Other n = omega arith
 
 stored-fits : (numbers : Numbers) (ls : List (List ℕ)) (lent : SpanLists) → runOut lent (length ls) ≡ false
-    → ReadFits (record { answer = readAnswer numbers (length ls); left = storeSpans ls lent })
-unfolding runOut storeSpans
+    → ReadFits (record { answer = readAnswer numbers (length ls); left = withSpans ls lent })
+unfolding runOut withSpans
 stored-fits numbers ls lent e =
     let a = no-or _ (ltb (length (lent .from)) (length ls)) e in
     let b =
@@ -76,7 +76,7 @@ read-fits text lent =
         → ReadFits
         (cond s (refusedReading 21 lent)
         (cond t (refusedReading 16 lent)
-        (record { answer = readAnswer numbers (length ls); left = storeSpans ls lent })))
+        (record { answer = readAnswer numbers (length ls); left = withSpans ls lent })))
     go true t e = refused-fits 21 lent
     go false true e = refused-fits 16 lent
     go false false e = stored-fits numbers ls lent e

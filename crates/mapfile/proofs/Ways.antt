@@ -23,7 +23,7 @@ use Rattle.mapfile.specs.Read.{
   spanLines,
   isMap,
   runOut,
-  storeSpans,
+  withSpans,
   refusedAnswer,
   refusedReading,
   readAnswer,
@@ -116,7 +116,7 @@ module _ {text : List ℕ} {first places start : ℕ} (H : HeadRead text first p
     filled =
         record {
           answer = record { code = 0; places = places; start = start; spans = n };
-          left = storeSpans ls lent;
+          left = withSpans ls lent;
         }
 
     past-21 : readMap text lent ≡ cond (runOut lent n) (refusedReading 16 lent) filled
@@ -157,7 +157,7 @@ module _ {text : List ℕ} {first places start : ℕ} (H : HeadRead text first p
               let c = counted ls n e in
               record { inFrom = omega (arith, c .1); inTo = omega (arith, c .1); inLoss = omega (arith, c .1) }
 
-          pub all-filled : (left : SpanLists) → left ≡ storeSpans ls lent
+          pub all-filled : (left : SpanLists) → left ≡ withSpans ls lent
               → Reads (readMap text lent) (record { code = 0; places = places; start = start; spans = n }) left
           unfolding filled
           all-filled left F =

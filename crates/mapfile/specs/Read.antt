@@ -33,8 +33,8 @@ runOut l n =
     || ltb (length (l .from)) n
 
 -- The spans of the lines ls go to the beginning of the lists.
-unfoldable pub storeSpans : List (List ℕ) → SpanLists → SpanLists
-storeSpans ls l =
+unfoldable pub withSpans : List (List ℕ) → SpanLists → SpanLists
+withSpans ls l =
     spanLists (sets (l .from) 0 (column (λ s. s .from) ls)) (sets (l .to) 0 (column (λ s. s .to) ls))
     (sets (l .loss) 0 (column (λ s. s .loss) ls))
 
@@ -63,7 +63,7 @@ readMap text lent =
     let rest = spanLines (lines text) in
     cond (ltb 60000 (length text) || not (isMap (lines text))) (refusedReading 21 lent)
     (cond (runOut lent (length rest)) (refusedReading 16 lent)
-    (record { answer = readAnswer (numbersOf first) (length rest); left = storeSpans rest lent }))
+    (record { answer = readAnswer (numbersOf first) (length rest); left = withSpans rest lent }))
 
 -- an answer and three lists are what a reading says
 pub record Reads (w : Reading) (r : MapRead) (left : SpanLists) : Type 0 where

@@ -5,7 +5,7 @@ ghost use lib.ListN.{length, drop};
 ghost use Rattle.text.specs.Lines.{lines};
 ghost use Rattle.paths.specs.Map.{spanLists};
 ghost use Rattle.mapfile.specs.Lines.{numbersOf, isThree, spanFrom, countOf};
-ghost use Rattle.mapfile.specs.Read.{storeSpans, refusedAnswer, readMap, Reads, HeadRead, SpansFit};
+ghost use Rattle.mapfile.specs.Read.{withSpans, refusedAnswer, readMap, Reads, HeadRead, SpansFit};
 use text::Numbers;
 use text::line_end;
 use text::number_at;
@@ -91,7 +91,7 @@ fn count_spans(text: &[u8], first: usize) -> Spans
 fn fill(text: &[u8], first: usize, from: &mut [u32], to: &mut [u32], loss: &mut [u32])
     requires { ⌜ SpansFit (lines (drop first (now text))) (spanLists (now from) (now to) (now loss)) ⌝ }
     ensures { λ _. ⌜ spanLists (now (from .exit)) (now (to .exit)) (now (loss .exit))
-        ≡ storeSpans (lines (drop first (now (text .entry))))
+        ≡ withSpans (lines (drop first (now (text .entry))))
         (spanLists (now (from .entry)) (now (to .entry)) (now (loss .entry))) ⌝ }
 {
     let mut at = first;
