@@ -11,50 +11,57 @@ use Rattle.text.specs.Decimal.{field, row}
 use Rattle.text.specs.Output.{Wrote}
 use Rattle.text.proofs.Wrote.{wrote-then, wrote-length}
 use Rattle.paths.specs.Map.{Map}
-use Rattle.paths.specs.Feed.{Feed, feedResult}
+use Rattle.paths.specs.Table.{Table}
+use Rattle.paths.specs.Feed.{ResultLists, Feed, feedResult}
 use Rattle.paths.proofs.FeedDone.{feedDone}
 use Rattle.finder.specs.declared.Fed.{Fed}
 use Rattle.finder.specs.Promise.{Feeds}
 use Rattle.feed.specs.Shown.{codeLine, feedText, ShowsFeed, Roomy, WroteRow, TableReady, TableWrote}
 use Rattle.feed.proofs.Fields.{code-within}
 
-module _ (m : Map) (best last store : List ℕ) (fed : Fed) (best′ last′ store′ : List ℕ)
-    (F : Feeds m (feedResult m best last store) fed best′ last′ store′) where
+module _ (m : Map) (lent : ResultLists) (fed : Fed) (left : ResultLists) (F : Feeds m lent fed left) where
   abbrev w : Feed
-  w = feedResult m best last store
+  w = feedResult m lent
 
-  pub shows-refused : fed .code ≢ 0 → fed .code < 2 ^ 32 → (out : List ℕ) → Roomy out → (r : ℕ) (out′ : List ℕ)
-      → Wrote out 0 (field (fed .code) lineFeed) out′ r → ShowsFeed m w out r out′
+  pub shows-refused : fed .code ≢ 0 → fed .code < 2 ^ 32 → (out : List ℕ) → Roomy (m .places) out → (r : ℕ)
+      (out′ : List ℕ) → Wrote out 0 (field (fed .code) lineFeed) out′ r → ShowsFeed m lent out r out′
   unfolding feedText codeLine
   shows-refused z h out room r out′ v =
       record {
         examined = 0;
         most = omega arith;
         wrote = rw (sym (F .code-is), ne-eqb (fed .code) 0 z) v;
-        within = code-within (fed .code) h room v;
+        within = code-within (fed .code) h (omega (arith, room)) v;
       }
 
   module _ (z : fed .code ≡ 0) where
     abbrev done : w .code ≡ 0
     done = sym (F .code-is) ∙ z
 
-    best-n : length best′ ≡ m .places
-    best-n = ap length (F .best-is) ∙ feedDone m best last store done .table .bestN
+    abbrev table : Table m (w .left .best) (w .left .last)
+    table = feedDone m lent done .table
 
-    last-n : length last′ ≡ m .places
-    last-n = ap length (F .last-is) ∙ feedDone m best last store done .table .lastN
+    best-n : length (left .best) ≡ m .places
+    best-n = ap (λ (l : ResultLists). length (l .best)) (F .left-is) ∙ table .bestN
 
-    module _ (few : m .places ≤ 1024) (out : List ℕ) (room : Roomy out) where
-      pub table-ready : TableReady best′ last′ out
+    last-n : length (left .last) ≡ m .places
+    last-n = ap (λ (l : ResultLists). length (l .last)) (F .left-is) ∙ table .lastN
+
+    module _ (few : m .places < 2 ^ 32) (out : List ℕ) (room : Roomy (m .places) out) where
+      pub table-ready : TableReady (left .best) (left .last) out
       table-ready =
-          record { same = omega (arith, best-n, last-n); few = omega (arith, best-n); room = room }
+          record {
+            same = omega (arith, best-n, last-n);
+            few = omega (arith, best-n, few);
+            room = omega (arith, best-n, room);
+          }
 
-      module _ (at : ℕ) (out₁ : List ℕ) (T : TableWrote best′ last′ out at out₁) where
+      module _ (at : ℕ) (out₁ : List ℕ) (T : TableWrote (left .best) (left .last) out at out₁) where
         pub figures-room : at + 33 ≤ length out₁
         figures-room = omega (arith, T .short, best-n, room, wrote-length (T .wrote))
 
         pub shows-done : (r : ℕ) (out′ : List ℕ)
-            → WroteRow out₁ at (row (fed .links ∷ fed .cuts ∷ fed .examined ∷ [])) out′ r → ShowsFeed m w out r out′
+            → WroteRow out₁ at (row (fed .links ∷ fed .cuts ∷ fed .examined ∷ [])) out′ r → ShowsFeed m lent out r out′
         unfolding feedText
         shows-done r out′ v =
             record {
@@ -63,8 +70,7 @@ module _ (m : Map) (best last store : List ℕ) (fed : Fed) (best′ last′ sto
               wrote =
                   rw (
                     eq-eqb (w .code) 0 done,
-                    sym (F .best-is),
-                    sym (F .last-is),
+                    sym (F .left-is),
                     sym (F .links-is),
                     sym (F .cuts-is),
                     sym best-n,

@@ -15,7 +15,7 @@ use Rattle.text.specs.Decimal.{field, row}
 use Rattle.text.specs.Output.{Wrote}
 use Rattle.text.proofs.Row.{field-short, wrote-row-last, wrote-row-more}
 use Rattle.text.proofs.Wrote.{wrote-then, wrote-length}
-use Rattle.feed.specs.Shown.{wordField, entryRow, Roomy, WroteRow}
+use Rattle.feed.specs.Shown.{wordField, entryRow, WroteRow}
 
 pub field-11 : (n b : ℕ) → n < 2 ^ 32 → length (field n b) ≤ 11
 field-11 n b h = field-short 9 n b (omega arith)
@@ -49,7 +49,7 @@ pub after-word : {l l′ : List ℕ} {a r : ℕ} (k w b : ℕ) → w < 2 ^ 32 �
 after-word k w b h v i = omega (arith, v .next, word-11 w b h, wrote-length v)
 
 -- a code alone is within the output
-pub code-within : {out out′ : List ℕ} {r : ℕ} (code : ℕ) → code < 2 ^ 32 → Roomy out
+pub code-within : {out out′ : List ℕ} {r : ℕ} (code : ℕ) → code < 2 ^ 32 → 11 ≤ length out
     → Wrote out 0 (field code lineFeed) out′ r → r ≤ length out′
 code-within code h room v = omega (arith, v .next, field-11 code lineFeed h, wrote-length v, room)
 

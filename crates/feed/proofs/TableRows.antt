@@ -30,7 +30,7 @@ module _ (best last out : List ℕ) (p at : ℕ) (out′ : List ℕ) (R : Rows b
       }
 
   pub row-room : TableReady best last out → p < length best → at + 33 ≤ length out′
-  row-room T h = omega (arith, R .short, T .few, T .room, wrote-length (R .wrote))
+  row-room T h = omega (arith, R .short, T .room, wrote-length (R .wrote))
 
   pub all-rows : length best ≤ p → TableWrote best last out at out′
   all-rows h =

@@ -1,9 +1,9 @@
 -- What the program prints of a map: the table and the figures, or the code of a refusal alone.
-use Prim.Native.Nat.{ℕ, zero, suc, _+_, _*_, _≤_}
+use Prim.Native.Nat.{ℕ, zero, suc, _+_, _*_, _^_, _≤_, _<_}
 use mathlib.Core.Path.{_≡_}
 use mathlib.Core.List.{List, [], _∷_, _++_}
-use mathlib.Core.Bool.{cond}
-use lib.ListN.{length, getD, take}
+use mathlib.Core.Bool.{cond, not}
+use lib.ListN.{length, getD, take, replicate}
 use lib.Dec.{eqb, ltb}
 use Rattle.rules.specs.Forests.{none}
 use Rattle.rules.specs.Words.{storeSize}
@@ -11,9 +11,9 @@ use Rattle.text.specs.Fields.{comma}
 use Rattle.text.specs.Lines.{lineFeed}
 use Rattle.text.specs.Decimal.{field, row}
 use Rattle.text.specs.Output.{Wrote}
-use Rattle.paths.specs.Map.{Map, mapOf, spans}
-use Rattle.paths.specs.Feed.{Feed, feedResult}
-use Rattle.mapfile.specs.Read.{Reading}
+use Rattle.paths.specs.Map.{SpanLists, spanLists, Map, mapOf, spans}
+use Rattle.paths.specs.Feed.{ResultLists, resultLists, Feed, feedResult}
+use Rattle.mapfile.specs.Read.{Reading, readMap}
 
 -- a word of the table and the byte that ends it; `-` stands for none
 unfoldable pub wordField : ℕ → ℕ → List ℕ
@@ -34,14 +34,64 @@ codeLine code = field code lineFeed
 -- a feed call with n places; the number of spans examined is given apart
 unfoldable pub feedText : ℕ → Feed → ℕ → List ℕ
 feedText n w examined =
-    cond (eqb (w .code) 0) (entryRows (w .best) (w .last) n ++ row (w .links ∷ w .cuts ∷ examined ∷ []))
-    (codeLine (w .code))
+    cond (not (eqb (w .code) 0)) (codeLine (w .code))
+    (entryRows (w .left .best) (w .left .last) n ++ row (w .links ∷ w .cuts ∷ examined ∷ []))
 
--- The number of spans examined is free, but at most the spans listed. The first r bytes are what is printed.
-pub record ShowsFeed (m : Map) (w : Feed) (out : List ℕ) (r : ℕ) (out′ : List ℕ) : Type 0 where
+-- ---- a map text
+
+-- the lists up to n spans, and up to n places
+unfoldable pub takeSpans : ℕ → SpanLists → SpanLists
+takeSpans n l = spanLists (take n (l .from)) (take n (l .to)) (take n (l .loss))
+
+unfoldable pub takeResults : ℕ → ResultLists → ResultLists
+takeResults n l = resultLists (take n (l .best)) (take n (l .last)) (take (storeSize n) (l .store))
+
+-- the map of a reading
+unfoldable pub mapRead : Reading → Map
+mapRead w = mapOf (w .answer .places) (w .answer .start) (takeSpans (w .answer .spans) (w .left))
+
+-- the feed call on it, with the first words of longer lists
+unfoldable pub fedBy : Reading → ResultLists → Feed
+fedBy w own = feedResult (mapRead w) (takeResults (w .answer .places) own)
+
+-- the program's sizes, and its lists
+abbrev pub mostSpans : ℕ
+mostSpans = 4096
+
+abbrev pub mostPlaces : ℕ
+mostPlaces = 1024
+
+unfoldable pub ownSpans : SpanLists
+ownSpans = spanLists (replicate mostSpans 0) (replicate mostSpans 0) (replicate mostSpans 0)
+
+unfoldable pub ownResults : ResultLists
+ownResults = resultLists (replicate mostPlaces 0) (replicate mostPlaces 0) (replicate (storeSize mostPlaces) 0)
+
+-- The reader's code is tested first, then 14 for more places than the program has room for, then the call's code.
+unfoldable pub mapText : Reading → ResultLists → ℕ → List ℕ
+mapText w own examined =
+    cond (not (eqb (w .answer .code) 0)) (codeLine (w .answer .code))
+    (cond (ltb mostPlaces (w .answer .places)) (codeLine 14)
+    (feedText (w .answer .places) (fedBy w own) examined))
+
+-- The number of spans examined is open up to the number of spans. The first r bytes are what is printed.
+pub record ShowsMap (w : Reading) (own : ResultLists) (out : List ℕ) (r : ℕ) (out′ : List ℕ) : Type 0 where
+  pub examined : ℕ
+  pub most : examined ≤ w .answer .spans
+  pub wrote : Wrote out 0 (mapText w own examined) out′ r
+  pub within : r ≤ length out′
+
+-- what the program prints of a map text
+abbrev pub ShowsText : List ℕ → List ℕ → ℕ → List ℕ → Type 0
+ShowsText text out r out′ = ShowsMap (readMap text ownSpans) ownResults out r out′
+
+-- ---- for the functions inside
+
+-- the same of a feed call
+pub record ShowsFeed (m : Map) (lent : ResultLists) (out : List ℕ) (r : ℕ) (out′ : List ℕ) : Type 0 where
   pub examined : ℕ
   pub most : examined ≤ spans m
-  pub wrote : Wrote out 0 (feedText (m .places) w examined) out′ r
+  pub wrote : Wrote out 0 (feedText (m .places) (feedResult m lent) examined) out′ r
   pub within : r ≤ length out′
 
 -- a row was written: three fields of at most eleven bytes
@@ -49,48 +99,15 @@ pub record WroteRow (out : List ℕ) (at : ℕ) (bytes out′ : List ℕ) (r : �
   pub wrote : Wrote out at bytes out′ r
   pub short : r ≤ at + 33
 
--- room for the rows of 1,024 places and for the figures
-abbrev pub Roomy : List ℕ → Type 0
-Roomy out = 40000 ≤ length out
+-- room for the rows of n places and for the figures
+abbrev pub Roomy : ℕ → List ℕ → Type 0
+Roomy n out = 33 * (n + 1) ≤ length out
 
 pub record TableReady (best last out : List ℕ) : Type 0 where
   pub same : length last ≡ length best
-  pub few : length best ≤ 1024
-  pub room : Roomy out
+  pub few : length best < 2 ^ 32
+  pub room : Roomy (length best) out
 
 pub record TableWrote (best last out : List ℕ) (r : ℕ) (out′ : List ℕ) : Type 0 where
   pub wrote : Wrote out 0 (entryRows best last (length best)) out′ r
   pub short : r ≤ 33 * length best
-
--- ---- a map text
-
--- the map of a reading: its lists up to the number of spans
-unfoldable pub mapRead : Reading → Map
-mapRead w =
-    mapOf (w .answer .places) (w .answer .start) (take (w .answer .spans) (w .from)) (take (w .answer .spans) (w .to))
-    (take (w .answer .spans) (w .loss))
-
--- the feed call on it, with the first words of longer result lists and of a longer store
-unfoldable pub fedBy : Reading → List ℕ → List ℕ → List ℕ → Feed
-fedBy w best last store =
-    feedResult (mapRead w) (take (w .answer .places) best) (take (w .answer .places) last)
-    (take (storeSize (w .answer .places)) store)
-
--- The reader's code comes first, then 14 for more than 1,024 places, then the call's.
-unfoldable pub mapText : Reading → Feed → ℕ → List ℕ
-mapText w fed examined =
-    cond (eqb (w .answer .code) 0)
-    (cond (ltb 1024 (w .answer .places)) (codeLine 14) (feedText (w .answer .places) fed examined))
-    (codeLine (w .answer .code))
-
-pub record ShowsMap (w : Reading) (fed : Feed) (out : List ℕ) (r : ℕ) (out′ : List ℕ) : Type 0 where
-  pub examined : ℕ
-  pub most : examined ≤ w .answer .spans
-  pub wrote : Wrote out 0 (mapText w fed examined) out′ r
-  pub within : r ≤ length out′
-
-pub record MapReady (best last store out : List ℕ) : Type 0 where
-  pub bestRoom : 1024 ≤ length best
-  pub lastRoom : 1024 ≤ length last
-  pub storeRoom : storeSize 1024 ≤ length store
-  pub room : Roomy out

@@ -1,20 +1,23 @@
-// Reads a map on standard input and prints its feed table for at most 1,024 places and 4,096 spans, or the code of the
-// refusal alone.
+// Reads a map on standard input and prints its feed table, or the code of the refusal alone.
 ghost use mathlib.Core.List.{[], _∷_};
 ghost use Prim.Native.Nat.{_+_, _≤_};
 ghost use lib.ListN.{length};
 ghost use Rattle.text.specs.Decimal.{row};
 ghost use Rattle.text.specs.Output.{Wrote};
-ghost use Rattle.paths.specs.Map.{mapOf};
-ghost use Rattle.paths.specs.Feed.{feedResult};
+ghost use Rattle.paths.specs.Map.{spanLists, mapOf};
+ghost use Rattle.paths.specs.Feed.{resultLists};
 ghost use Rattle.feed.specs.Shown.{wordField, entryRow, Roomy, WroteRow, TableReady, TableWrote, ShowsFeed};
-ghost use Rattle.feed.specs.Shown.{fedBy, MapReady, ShowsMap};
-ghost use Rattle.mapfile.specs.Read.{readMap};
+ghost use Rattle.feed.specs.Shown.{ShowsText};
 use libc::STDIN_FILENO;
 use libc::STDOUT_FILENO;
 use store::NONE;
 use text::output::put_byte;
 use text::output::put_field;
+
+// The most places and spans that the program has room for.
+const PLACES: usize = 1024;
+
+const SPANS: usize = 4096;
 
 // Writes a word of the table and the byte that ends it.
 fn put_word(out: &mut [u8], at: usize, word: u32, end: u8) -> usize
@@ -74,11 +77,10 @@ fn answer_feed(
     store: &mut [u32],
     out: &mut [u8],
 ) -> usize
-    requires { ⌜ places ≤ 1024 ⌝ }
-    requires { ⌜ Roomy (now out) ⌝ }
-    ensures { λ r. ⌜ ShowsFeed (mapOf places start (now (from .entry)) (now (to .entry)) (now (loss .entry)))
-        (feedResult (mapOf places start (now (from .entry)) (now (to .entry)) (now (loss .entry)))
-        (now (best .entry)) (now (last .entry)) (now (store .entry)))
+    requires { ⌜ Roomy places (now out) ⌝ }
+    ensures { λ r. ⌜ ShowsFeed
+        (mapOf places start (spanLists (now (from .entry)) (now (to .entry)) (now (loss .entry))))
+        (resultLists (now (best .entry)) (now (last .entry)) (now (store .entry)))
         (now (out .entry)) r (now (out .exit)) ⌝ }
 {
     let fed = finder::feed(places, start, from, to, loss, best, last, store);
@@ -90,38 +92,31 @@ fn answer_feed(
     put_figures(out, at, fed.links, fed.cuts, fed.examined)
 }
 
-// Leaves in `out` what is printed of a map text, and returns the number of its bytes.
-fn answer_map(
-    text: &[u8],
-    from: &mut [u32],
-    to: &mut [u32],
-    loss: &mut [u32],
-    best: &mut [u32],
-    last: &mut [u32],
-    store: &mut [u32],
-    out: &mut [u8],
-) -> usize
-    requires { ⌜ MapReady (now best) (now last) (now store) (now out) ⌝ }
-    ensures { λ r. ⌜ ShowsMap
-        (readMap (now (text .entry)) (now (from .entry)) (now (to .entry)) (now (loss .entry)))
-        (fedBy (readMap (now (text .entry)) (now (from .entry)) (now (to .entry)) (now (loss .entry)))
-        (now (best .entry)) (now (last .entry)) (now (store .entry)))
-        (now (out .entry)) r (now (out .exit)) ⌝ }
+// Leaves in `out` what is printed of a map text, and returns the number of its bytes. `out` has room for the rows of
+// 1,024 places and for the figures.
+fn answer_text(text: &[u8], out: &mut [u8]) -> usize
+    requires { ⌜ 40000 ≤ length (now out) ⌝ }
+    ensures { λ r. ⌜ ShowsText (now (text .entry)) (now (out .entry)) r (now (out .exit)) ⌝ }
 {
-    let map = mapfile::read(text, from, to, loss);
+    let mut from = [0u32; SPANS];
+    let mut to = [0u32; SPANS];
+    let mut loss = [0u32; SPANS];
+    let map = mapfile::read(text, &mut from, &mut to, &mut loss);
     let code = map.code;
     if code != 0 {
         return put_field(out, 0, code, b'\n');
     }
-    let places = map.places;
-    if places > 1024 {
+    let n = map.places as usize;
+    if n > PLACES {
         return put_field(out, 0, 14, b'\n');
     }
-    let n = places as usize;
+    let mut best = [0u32; PLACES];
+    let mut last = [0u32; PLACES];
+    let mut store = [0u32; store::HEAP_WORDS + store::ITEM_WORDS * PLACES];
     let e = map.spans as usize;
     let words = store::size_for(n);
     answer_feed(
-        places,
+        map.places,
         map.start,
         &from[..e],
         &to[..e],
@@ -133,26 +128,11 @@ fn answer_map(
     )
 }
 
-// The words are a store for 1,024 places; a text of 60,001 bytes is one byte too long.
+// A text of 60,001 bytes is one byte too long.
 fn main() {
     let mut text = [0u8; 60001];
     let read = io::read_full(STDIN_FILENO, &mut text);
-    let mut from = [0u32; 4096];
-    let mut to = [0u32; 4096];
-    let mut loss = [0u32; 4096];
-    let mut best = [0u32; 1024];
-    let mut last = [0u32; 1024];
-    let mut store = [0u32; store::HEAP_WORDS + store::ITEM_WORDS * 1024];
     let mut out = [0u8; 40000];
-    let bytes = answer_map(
-        &text[..read],
-        &mut from,
-        &mut to,
-        &mut loss,
-        &mut best,
-        &mut last,
-        &mut store,
-        &mut out,
-    );
+    let bytes = answer_text(&text[..read], &mut out);
     io::write_all(STDOUT_FILENO, &out[..bytes]);
 }

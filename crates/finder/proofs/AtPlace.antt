@@ -5,6 +5,7 @@ use mathlib.Core.List.{List}
 use native.Mathlib.Omega.{arith}
 use Rattle.paths.specs.Map.{Map, spans}
 use Rattle.paths.specs.Search.{Search, tried, extracted, steps, never, bestAt}
+use Rattle.paths.specs.Feed.{ResultLists}
 use Rattle.paths.proofs.Waiting.{next-takes, waits-below}
 use Rattle.paths.proofs.Offers.{TryingOf}
 use Rattle.paths.proofs.Tried.{tried-trying}
@@ -26,8 +27,8 @@ abbrev pub at : Map → ℕ → ℕ → ℕ → Search
 at m k u e = tried m u (bestAt (steps never m k) u) e (extracted u (steps never m k))
 
 module _
-    {m : Map} {index to loss : List ℕ} {u d : ℕ} {best₀ last₀ store₀ : List ℕ} {taken : Progress}
-    (K : Taken m index to loss u d best₀ last₀ store₀ taken) where
+    {m : Map} {index to loss : List ℕ} {u d : ℕ} {l₀ : ResultLists} {taken : Progress}
+    (K : Taken m index to loss u d l₀ taken) where
   abbrev k : ℕ
   k = taken .visited
 

@@ -15,9 +15,9 @@ use Rattle.rules.proofs.SoundWords.{sound-encode}
 use Rattle.rules.proofs.Sums.{sumBy-set}
 use Rattle.heap.specs.declared.Reply.{Reply}
 use Rattle.heap.specs.Performed.{Ready, Performed}
-use Rattle.paths.specs.Map.{Map, mapOf, Accepted}
+use Rattle.paths.specs.Map.{SpanLists, noSpans, Map, mapOf, Accepted}
 use Rattle.paths.specs.Search.{begin, steps, never}
-use Rattle.paths.specs.Feed.{linksOf, cutsOf}
+use Rattle.paths.specs.Feed.{linksOf, cutsOf, ResultLists, resultLists}
 use Rattle.paths.proofs.Begin.{sum-zeros}
 use Rattle.relax.specs.declared.Progress.{Progress}
 use Rattle.relax.specs.Tracks.{Logged, Tracks}
@@ -27,7 +27,7 @@ use Rattle.relax.proofs.Logged.{call-logged}
 abbrev noCall : Tally
 noCall = record { links = 0; cuts = 0 }
 
-module _ (places start : ℕ) (best last store : List ℕ) (R : BeginReady places start best last store) where
+module _ (places start : ℕ) (l : ResultLists) (R : BeginReady places start l) where
   -- the empty store is sound
   pub begin-ready : (store₁ : List ℕ) → store₁ ≡ encode (empty places) → Ready store₁ noCall
   begin-ready store₁ e =
@@ -41,11 +41,11 @@ module _ (places start : ℕ) (best last store : List ℕ) (R : BeginReady place
   none-logged store₁ e = record { words = e; links = refl; cuts = refl }
 
   -- after the insertion the code stands where the search begins
-  pub begun : (best₁ last₁ store₁ : List ℕ) → best₁ ≡ replicate (length best) none
-      → last₁ ≡ replicate (length last) none
+  pub begun : (best₁ last₁ store₁ : List ℕ) → best₁ ≡ replicate (length (l .best)) none
+      → last₁ ≡ replicate (length (l .last)) none
       → store₁ ≡ encode (empty places) → (reply : Reply) (store′ : List ℕ)
       → Performed store₁ (Insert 0 start 0) noCall reply store′
-      → Begun places start (set best₁ start 0) last₁ store′
+      → Begun places start (resultLists (set best₁ start 0) last₁ store′)
       (record { visited = 0; met = 1; examined = 0; tally = reply .tally })
   unfolding begin after
   begun best₁ last₁ store₁ eb el es reply store′ P =
@@ -53,7 +53,7 @@ module _ (places start : ℕ) (best last store : List ℕ) (R : BeginReady place
         visited-is = refl;
         tracks =
             record {
-              best-is = ap (λ l. set l start 0) (eb ∙ ap (λ n. replicate n none) (R .bestN));
+              best-is = ap (λ b. set b start 0) (eb ∙ ap (λ n. replicate n none) (R .bestN));
               last-is = el ∙ ap (λ n. replicate n none) (R .lastN);
               logged =
                   call-logged places [] store₁ noCall (none-logged store₁ es)
@@ -71,25 +71,25 @@ module _ (places start : ℕ) (best last store : List ℕ) (R : BeginReady place
       }
 
 -- no step is made
-no-turn : (m : Map) (k : ℕ) → k ≡ 0 → (best last store : List ℕ) (r : Progress)
-    → Tracks (m .places) 0 (begin m) best last store r → Tracks (m .places) k (steps never m k) best last store r
+no-turn : (m : Map) (k : ℕ) → k ≡ 0 → (l : ResultLists) (r : Progress)
+    → Tracks (m .places) 0 (begin m) l r → Tracks (m .places) k (steps never m k) l r
 unfolding steps
-no-turn m k z best last store r H = rw z H
+no-turn m k z l r H = rw z H
 
-pub begun-stands : {places start : ℕ} {from to loss : List ℕ} → Accepted (mapOf places start from to loss)
-    → {best last store : List ℕ} {r : Progress} → Begun places start best last store r
-    → Stands (mapOf places start from to loss) best last store r
+pub begun-stands : {places start : ℕ} {lists : SpanLists} → Accepted (mapOf places start lists)
+    → {l : ResultLists} {r : Progress} → Begun places start l r
+    → Stands (mapOf places start lists) l r
 unfolding begin
-begun-stands {places} {start} {from} {to} {loss} A {best} {last} {store} {r} G =
+begun-stands {places} {start} {lists} A {l} {r} G =
     record {
       accepted = A;
       few = omega (arith, G .visited-is);
       tracks =
-          no-turn (mapOf places start from to loss) (r .visited) (G .visited-is) best last store r
+          no-turn (mapOf places start lists) (r .visited) (G .visited-is) l r
           (same (G .tracks));
     }
   where
     -- a search begins alike whatever the spans are
-    same : Tracks places 0 (begin (mapOf places start [] [] [])) best last store r
-        → Tracks places 0 (begin (mapOf places start from to loss)) best last store r
+    same : Tracks places 0 (begin (mapOf places start noSpans)) l r
+        → Tracks places 0 (begin (mapOf places start lists)) l r
     same H = H

@@ -19,7 +19,7 @@ tried-skip m u d s a (suc n) (suc b) q f =
     rw (ne-eqb (fromOf m b) u (f b (omega arith) (omega arith)))
     (tried-skip m u d s a n b (omega arith) (λ e i j. f e i (omega arith)))
 
-pub sorted : (m : Map) → Accepted m → Sorted (m .from)
+pub sorted : (m : Map) → Accepted m → Sorted (m .lists .from)
 sorted m A = record { rising = A .rising }
 
 -- The walk begins at a span below which all leave lower places, and ends at the first that leaves a higher one.
@@ -33,5 +33,5 @@ walk-ends m A u d s hi k f =
     tried-skip m u d s hi (spans m - hi) (spans m) (omega arith)
     (λ e i j z.
     let w = f (omega arith) in
-    let v = sorted-all (m .from) (sorted m A) hi e i j in
+    let v = sorted-all (m .lists .from) (sorted m A) hi e i j in
     omega arith)

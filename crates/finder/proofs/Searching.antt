@@ -11,8 +11,9 @@ use Rattle.rules.specs.Answers.{answer}
 use Rattle.rules.proofs.Sums.{sumBy-set}
 use Rattle.heap.specs.declared.Reply.{Reply}
 use Rattle.heap.specs.Performed.{Ready, Performed}
-use Rattle.paths.specs.Map.{Map, mapOf}
+use Rattle.paths.specs.Map.{SpanLists, Map, mapOf}
 use Rattle.paths.specs.Search.{Search, steps, never, bestAt}
+use Rattle.paths.specs.Feed.{ResultLists, resultLists}
 use Rattle.paths.specs.Theorems.{between}
 use Rattle.paths.proofs.Waiting.{next-takes, waits-below, some-next, none-next}
 use Rattle.paths.proofs.Steps.{extracted-rest, steps-between, steps-keep, search-is}
@@ -26,9 +27,9 @@ use Rattle.finder.proofs.Ready.{logged-ready}
 -- ---- a place is taken
 
 -- the map that has these lists
-pub goes-on : {places start : ℕ} {from to loss index best last store : List ℕ} {go : Progress}
-    → IsIndex places from index → Stands (mapOf places start from to loss) best last store go → go .visited < go .met
-    → Goes (mapOf places start from to loss) index to loss best last store go
+pub goes-on : {places start : ℕ} {lists : SpanLists} {index : List ℕ} {l : ResultLists} {go : Progress}
+    → IsIndex places (lists .from) index → Stands (mapOf places start lists) l go → go .visited < go .met
+    → Goes (mapOf places start lists) index (lists .to) (lists .loss) l go
 goes-on I S h =
     record {
       lists = record { indexed = I; to-is = refl; loss-is = refl; free = λ _. refl };
@@ -37,18 +38,18 @@ goes-on I S h =
     }
 
 module _
-    {m : Map} {index to loss best last store : List ℕ} {go : Progress}
-    (G : Goes m index to loss best last store go) where
+    {m : Map} {index to loss : List ℕ} {l : ResultLists} {go : Progress}
+    (G : Goes m index to loss l go) where
   abbrev s : Search
   s = steps never m (go .visited)
 
-  pub extract-ready : Ready store (go .tally)
+  pub extract-ready : Ready (l .store) (go .tally)
   extract-ready =
-      logged-ready m (G .stands .accepted) s (between (go .visited)) store (go .tally) (G .stands .tracks .logged)
+      logged-ready m (G .stands .accepted) s (between (go .visited)) (l .store) (go .tally) (G .stands .tracks .logged)
 
   -- the call takes the place that comes next in the search, with its loss
-  pub taken : {reply : Reply} {store′ : List ℕ} → Performed store (ExtractMin 0) (go .tally) reply store′
-      → Taken m index to loss (reply .item) (reply .key) best last store′
+  pub taken : {reply : Reply} {store′ : List ℕ} → Performed (l .store) (ExtractMin 0) (go .tally) reply store′
+      → Taken m index to loss (reply .item) (reply .key) (resultLists (l .best) (l .last) store′)
       (record { visited = go .visited; met = go .met; examined = go .examined; tally = reply .tally })
   taken {reply} {store′} P =
       let A = G .stands .accepted in
@@ -57,7 +58,7 @@ module _
       let N = some-next (s .queue) (λ z. omega (arith, z, H .met-is, G .more)) in
       let u : ℕ = N .0 in
       let M = takesMinimum never m A (go .visited) u (N .1) in
-      let e = logged-forests (m .places) (s .calls) store (go .tally) (H .logged) (S .formed) in
+      let e = logged-forests (m .places) (s .calls) (l .store) (go .tally) (H .logged) (S .formed) in
       let item : reply .item ≡ u =
       P .item ∙ ap (λ f. (answer f (Yields (ExtractMin 0))) .reply .item) e ∙ M .0 in
       let key : reply .key ≡ bestAt s u =
@@ -75,7 +76,7 @@ module _
               best-is = H .best-is;
               last-is = H .last-is;
               logged =
-                  call-logged (m .places) (s .calls) store (go .tally) (H .logged) (S .formed) (ExtractMin 0) reply
+                  call-logged (m .places) (s .calls) (l .store) (go .tally) (H .logged) (S .formed) (ExtractMin 0) reply
                   store′ P;
               examined-is = H .examined-is;
               met-is =
@@ -100,8 +101,8 @@ module _
 -- ---- the end
 
 -- as many were visited as met: none waits, and the search is done
-pub stands-found : (m : Map) (best last store : List ℕ) (go : Progress) → Stands m best last store go
-    → go .met ≤ go .visited → Found m best last store go
-stands-found m best last store go S h =
+pub stands-found : (m : Map) (l : ResultLists) (go : Progress) → Stands m l go
+    → go .met ≤ go .visited → Found m l go
+stands-found m l go S h =
     let n = none-next ((steps never m (go .visited)) .queue) (omega (arith, S .tracks .met-is)) in
     record { out = go .visited; tracks = rw (search-is never m (go .visited) (S .few) n) (S .tracks) }

@@ -9,6 +9,7 @@ use borrow.Author.Tests.{eq-eqb}
 use Rattle.rules.specs.Forests.{none}
 use Rattle.paths.specs.Map.{Map, spans, fromOf, toOf}
 use Rattle.paths.specs.Search.{Search, offer, try, tried, examine, steps, never, bestAt}
+use Rattle.paths.specs.Feed.{ResultLists}
 use Rattle.paths.specs.Theorems.{trying}
 use Rattle.paths.proofs.Invariant.{unsettled}
 use Rattle.paths.proofs.Offers.{TryingOf, sum-fits, out-of-queue}
@@ -22,8 +23,8 @@ use Rattle.finder.proofs.AtPlace.{at, left, left-is, tryingAt, servedAt
 use Rattle.finder.proofs.Walking.{Walking}
 
 module _
-    {m : Map} {index to loss : List ℕ} {u d : ℕ} {best₀ last₀ store₀ : List ℕ} {taken : Progress}
-    (K : Taken m index to loss u d best₀ last₀ store₀ taken) where
+    {m : Map} {index to loss : List ℕ} {u d : ℕ} {l₀ : ResultLists} {taken : Progress}
+    (K : Taken m index to loss u d l₀ taken) where
   abbrev k : ℕ
   k = taken .visited
 
@@ -32,7 +33,7 @@ module _
 
   -- span e is one of u's
   module _
-      {end e : ℕ} {best last store : List ℕ} {go : Progress} (W : Walking m k u end e best last store go)
+      {end e : ℕ} {l : ResultLists} {go : Progress} (W : Walking m k u end e l go)
       (j : e < end) where
     span-in : e < spans m
     span-in = omega (arith, W .within)
@@ -82,7 +83,7 @@ module _
               (span-in, K .lists .free e) leaves-u z;
         }
 
-    pub offer-ready : OfferReady (getD to e 0) best last store (examineOne go)
+    pub offer-ready : OfferReady (getD to e 0) l (examineOne go)
     unfolding examineOne unsettled
     offer-ready =
         rw (K .lists .to-is)
@@ -92,12 +93,12 @@ module _
           inLast =
               omega (arith, ap length (W .tracks .last-is), tryingE .invariant .lastN, K .accepted .toIn e span-in);
           ready =
-              logged-ready m (K .accepted) (at m k u e) (trying k u e (K .next-is) (omega (arith, span-in))) store
+              logged-ready m (K .accepted) (at m k u e) (trying k u e (K .next-is) (omega (arith, span-in))) (l .store)
               (go .tally) (W .tracks .logged);
           room = omega (arith, W .tracks .met-is, tryingE .left, left-is K, K .accepted .few);
         })
 
-    examined-tracks : Tracks (m .places) (suc k) (examine (at m k u e)) best last store (examineOne go)
+    examined-tracks : Tracks (m .places) (suc k) (examine (at m k u e)) l (examineOne go)
     unfolding examineOne
     examined-tracks =
         record {
@@ -108,10 +109,9 @@ module _
           met-is = W .tracks .met-is;
         }
 
-    pub walking-on : {best′ last′ store′ : List ℕ} {r : Progress}
-        → Advances (getD to e 0) (offer (getD to e 0) (d + getD loss e 0) e) best last store
-        (examineOne go) best′ last′ store′ r
-        → Walking m k u end (e + 1) best′ last′ store′ r
+    pub walking-on : {l′ : ResultLists} {r : Progress}
+        → Advances (getD to e 0) (offer (getD to e 0) (d + getD loss e 0) e) l (examineOne go) l′ r
+        → Walking m k u end (e + 1) l′ r
     unfolding examineOne tried try
     walking-on M₀ =
         let M = rw (K .lists .to-is, K .lists .loss-is, K .loss-is) at M₀ in

@@ -10,6 +10,7 @@ use lib.Dec.{ltb}
 use borrow.Author.Tests.{ltb-true, ltb-false}
 use Rattle.paths.specs.Map.{Map, spans, fromOf}
 use Rattle.paths.specs.Search.{Search, extracted, visit, step, steps, never, bestAt}
+use Rattle.paths.specs.Feed.{ResultLists}
 use Rattle.spans.specs.Range.{FirstSpan}
 use Rattle.relax.specs.declared.Progress.{Progress}
 use Rattle.relax.specs.Tracks.{Tracks, visitOne}
@@ -18,17 +19,17 @@ use Rattle.finder.proofs.OwnSpans.{walk-begins, walk-ends}
 use Rattle.finder.proofs.AtPlace.{at, left-is, place-in}
 
 -- Before span e of place u, which was taken after k steps: the spans from e to `end` are its spans still to be tried.
-pub record Walking (m : Map) (k u end e : ℕ) (best last store : List ℕ) (go : Progress) : Type 0 where
+pub record Walking (m : Map) (k u end e : ℕ) (l : ResultLists) (go : Progress) : Type 0 where
   pub visited-is : go .visited ≡ k
   pub ordered : e ≤ end
   pub within : end ≤ spans m
   pub own : (i : ℕ) → e ≤ i → i < end → fromOf m i ≡ u
   pub beyond : end < spans m → u < fromOf m end
-  pub tracks : Tracks (m .places) (suc k) (at m k u e) best last store go
+  pub tracks : Tracks (m .places) (suc k) (at m k u e) l go
 
 module _
-    {m : Map} {index to loss : List ℕ} {u d : ℕ} {best₀ last₀ store₀ : List ℕ} {taken : Progress}
-    (K : Taken m index to loss u d best₀ last₀ store₀ taken) where
+    {m : Map} {index to loss : List ℕ} {u d : ℕ} {l₀ : ResultLists} {taken : Progress}
+    (K : Taken m index to loss u d l₀ taken) where
   abbrev k : ℕ
   k = taken .visited
 
@@ -36,10 +37,10 @@ module _
   before = steps never m k
 
   -- the first span of u, and that of the next place
-  firstOf : FirstSpan (m .from) u (getD index u 0)
+  firstOf : FirstSpan (m .lists .from) u (getD index u 0)
   firstOf = K .lists .indexed .first u (omega (arith, place-in K))
 
-  endOf : FirstSpan (m .from) (u + 1) (getD index (u + 1) 0)
+  endOf : FirstSpan (m .lists .from) (u + 1) (getD index (u + 1) 0)
   endOf = K .lists .indexed .first (u + 1) (omega (arith, place-in K))
 
   -- a word of the index is the number of a span, or the number of the spans
@@ -49,7 +50,7 @@ module _
   pub end-small : getD index (u + 1) 0 ≤ 16384
   end-small = omega (arith, endOf .within, K .accepted .short)
 
-  pub walking-begins : Walking m k u (getD index (u + 1) 0) (getD index u 0) best₀ last₀ store₀ taken
+  pub walking-begins : Walking m k u (getD index (u + 1) 0) (getD index u 0) l₀ taken
   walking-begins =
       record {
         visited-is = refl;
@@ -81,7 +82,7 @@ module _
                 endOf .above end (le-refl _) (omega (arith, h, firstOf .within)),
               ))
 
-  module _ {end e : ℕ} {best last store : List ℕ} {go : Progress} (W : Walking m k u end e best last store go) where
+  module _ {end e : ℕ} {l : ResultLists} {go : Progress} (W : Walking m k u end e l go) where
     pub visited-small : go .visited < 4294967295
     visited-small = omega (arith, W .visited-is, left-is K, K .accepted .few)
 
@@ -94,7 +95,7 @@ module _
         (walk-ends m (K .accepted) u (bestAt before u) (extracted u before) end (W .within) (W .beyond)
         ∙ ap (λ i. at m k u i) q)
 
-    visited-tracks : Tracks (m .places) (suc k) (at m k u e) best last store (visitOne go)
+    visited-tracks : Tracks (m .places) (suc k) (at m k u e) l (visitOne go)
     unfolding visitOne
     visited-tracks =
         record {
@@ -105,10 +106,10 @@ module _
           met-is = W .tracks .met-is;
         }
 
-    turned : end ≤ e → (i : ℕ) → i ≡ suc k → Tracks (m .places) i (steps never m i) best last store (visitOne go)
+    turned : end ≤ e → (i : ℕ) → i ≡ suc k → Tracks (m .places) i (steps never m i) l (visitOne go)
     turned j i q = rw (q, steps-next j) visited-tracks
 
-    pub walking-ends : end ≤ e → Visits m taken best last store (visitOne go)
+    pub walking-ends : end ≤ e → Visits m taken l (visitOne go)
     unfolding visitOne
     walking-ends j =
         record {

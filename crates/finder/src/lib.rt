@@ -2,8 +2,8 @@
 ghost use mathlib.Core.Path.{_≡_};
 ghost use Prim.Native.Nat.{ℕ};
 ghost use lib.ListN.{length, replicate};
-ghost use Rattle.paths.specs.Map.{mapOf};
-ghost use Rattle.paths.specs.Feed.{feedResult};
+ghost use Rattle.paths.specs.Map.{spanLists, mapOf};
+ghost use Rattle.paths.specs.Feed.{resultLists};
 ghost use Rattle.finder.specs.SearchState.{BeginReady, Begun, Stands, Found};
 ghost use Rattle.finder.specs.Promise.{Feeds};
 use heap::perform::perform;
@@ -45,8 +45,8 @@ fn begin_search(
     last: &mut [u32],
     store: &mut [u32],
 ) -> Progress
-    requires { ⌜ BeginReady places start (now best) (now last) (now store) ⌝ }
-    ensures { λ r. ⌜ Begun places start (now (best .exit)) (now (last .exit)) (now (store .exit)) r ⌝ }
+    requires { ⌜ BeginReady places start (resultLists (now best) (now last) (now store)) ⌝ }
+    ensures { λ r. ⌜ Begun places start (resultLists (now (best .exit)) (now (last .exit)) (now (store .exit))) r ⌝ }
 {
     fill(best, NONE);
     fill(last, NONE);
@@ -83,13 +83,13 @@ fn search(
     store: &mut [u32],
     begun: Progress,
 ) -> Progress
-    requires { ⌜ ((start : ℕ) × Stands (mapOf places start (now from) (now to) (now loss))
-        (now best) (now last) (now store) begun) ⌝ }
+    requires { ⌜ ((start : ℕ) × Stands (mapOf places start (spanLists (now from) (now to) (now loss)))
+        (resultLists (now best) (now last) (now store)) begun) ⌝ }
     ensures { λ r. ⌜ ((start : ℕ)
-        → Stands (mapOf places start (now (from .entry)) (now (to .entry)) (now (loss .entry)))
-        (now (best .entry)) (now (last .entry)) (now (store .entry)) begun
-        → Found (mapOf places start (now (from .entry)) (now (to .entry)) (now (loss .entry)))
-        (now (best .exit)) (now (last .exit)) (now (store .exit)) r) ⌝ }
+        → Stands (mapOf places start (spanLists (now (from .entry)) (now (to .entry)) (now (loss .entry))))
+        (resultLists (now (best .entry)) (now (last .entry)) (now (store .entry))) begun
+        → Found (mapOf places start (spanLists (now (from .entry)) (now (to .entry)) (now (loss .entry))))
+        (resultLists (now (best .exit)) (now (last .exit)) (now (store .exit))) r) ⌝ }
 {
     let mut index: Index = [0; 4097];
     index_spans(places, from, &mut index);
@@ -111,10 +111,10 @@ pub fn feed(
     last: &mut [u32],
     store: &mut [u32],
 ) -> Fed
-    ensures { λ r. ⌜ Feeds (mapOf places start (now (from .entry)) (now (to .entry)) (now (loss .entry)))
-        (feedResult (mapOf places start (now (from .entry)) (now (to .entry)) (now (loss .entry)))
-        (now (best .entry)) (now (last .entry)) (now (store .entry)))
-        r (now (best .exit)) (now (last .exit)) (now (store .exit)) ⌝ }
+    ensures { λ r. ⌜ Feeds
+        (mapOf places start (spanLists (now (from .entry)) (now (to .entry)) (now (loss .entry))))
+        (resultLists (now (best .entry)) (now (last .entry)) (now (store .entry)))
+        r (resultLists (now (best .exit)) (now (last .exit)) (now (store .exit))) ⌝ }
 {
     let code = feed_code(
         places,

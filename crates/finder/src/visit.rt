@@ -1,6 +1,7 @@
 // A place is taken from the queue, and its spans are tried. The map is no argument: the contracts hold for any whose
 // lists these are.
 ghost use Rattle.paths.specs.Map.{Map};
+ghost use Rattle.paths.specs.Feed.{resultLists};
 ghost use Rattle.finder.specs.SearchState.{Taken, Goes, Visits};
 use heap::perform::perform;
 use relax::Progress;
@@ -20,10 +21,11 @@ fn try_spans(
     d: u32,
     taken: Progress,
 ) -> Progress
-    requires { ⌜ ((m : Map) × Taken m (now index) (now to) (now loss) u d (now best) (now last) (now store) taken) ⌝ }
+    requires { ⌜ ((m : Map) × Taken m (now index) (now to) (now loss) u d
+        (resultLists (now best) (now last) (now store)) taken) ⌝ }
     ensures { λ r. ⌜ ((m : Map) → Taken m (now (index .entry)) (now (to .entry)) (now (loss .entry)) u d
-        (now (best .entry)) (now (last .entry)) (now (store .entry)) taken
-        → Visits m taken (now (best .exit)) (now (last .exit)) (now (store .exit)) r) ⌝ }
+        (resultLists (now (best .entry)) (now (last .entry)) (now (store .entry))) taken
+        → Visits m taken (resultLists (now (best .exit)) (now (last .exit)) (now (store .exit))) r) ⌝ }
 {
     let i = u as usize;
     let end = index[i + 1] as usize;
@@ -48,10 +50,11 @@ pub fn visit_next(
     store: &mut [u32],
     go: Progress,
 ) -> Progress
-    requires { ⌜ ((m : Map) × Goes m (now index) (now to) (now loss) (now best) (now last) (now store) go) ⌝ }
+    requires { ⌜ ((m : Map) × Goes m (now index) (now to) (now loss)
+        (resultLists (now best) (now last) (now store)) go) ⌝ }
     ensures { λ r. ⌜ ((m : Map) → Goes m (now (index .entry)) (now (to .entry)) (now (loss .entry))
-        (now (best .entry)) (now (last .entry)) (now (store .entry)) go
-        → Visits m go (now (best .exit)) (now (last .exit)) (now (store .exit)) r) ⌝ }
+        (resultLists (now (best .entry)) (now (last .entry)) (now (store .entry))) go
+        → Visits m go (resultLists (now (best .exit)) (now (last .exit)) (now (store .exit))) r) ⌝ }
 {
     let before = go.tally;
     let reply = perform(store, Call::ExtractMin { heap: 0 }, before);

@@ -7,8 +7,8 @@ use mathlib.Core.Bool.{cond}
 use Rattle.soundness.specs.Check.{soundWords}
 use Rattle.sheet.specs.Runs.{Run}
 use Rattle.finder.specs.declared.Fed.{Fed}
-use Rattle.paths.specs.Map.{Map}
-use Rattle.paths.specs.Feed.{Feed}
+use Rattle.paths.specs.Map.{SpanLists, Map}
+use Rattle.paths.specs.Feed.{ResultLists}
 use Rattle.finder.specs.Promise.{Feeds}
 use Rattle.mapfile.specs.Read.{Reading}
 
@@ -23,18 +23,16 @@ pub record RunReturns (run : Run) (r : ℕ) (store out figures : List ℕ) : Typ
 unfoldable pub soundNumber : List ℕ → ℕ
 soundNumber words = cond (soundWords words) 1 0
 
--- The code and the figures are those of an answer `fed`, and `Feeds` says that this answer, the lists and the store are
--- those of w, but for the count of examined spans in a call that is done.
-pub record FeedReturns (m : Map) (w : Feed) (r : ℕ) (best last store figures : List ℕ) : Type 0 where
+-- The code and the figures are those of an answer `fed`, and `Feeds` says that this answer and the lists left are those
+-- of a feed call on the map and the lists lent.
+pub record FeedReturns (m : Map) (lent : ResultLists) (r : ℕ) (left : ResultLists) (figures : List ℕ) : Type 0 where
   pub fed : Fed
   pub sameCode : r ≡ fed .code
   pub sameFigures : figures ≡ fed .links ∷ fed .cuts ∷ fed .examined ∷ []
-  pub feeds : Feeds m w fed best last store
+  pub feeds : Feeds m lent fed left
 
 -- code, figures and lists are those of the reading
-pub record ReadReturns (w : Reading) (r : ℕ) (from to loss figures : List ℕ) : Type 0 where
+pub record ReadReturns (w : Reading) (r : ℕ) (left : SpanLists) (figures : List ℕ) : Type 0 where
   pub sameCode : r ≡ w .answer .code
   pub sameFigures : figures ≡ w .answer .places ∷ w .answer .start ∷ w .answer .spans ∷ []
-  pub sameFrom : from ≡ w .from
-  pub sameTo : to ≡ w .to
-  pub sameLoss : loss ≡ w .loss
+  pub sameLists : left ≡ w .left

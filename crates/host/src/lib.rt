@@ -1,8 +1,8 @@
 // The entries for hosts in C, all but the modem's own run.
 ghost use mathlib.Core.Path.{_≡_};
 ghost use Rattle.sheet.specs.Runs.{freshRun, keptRun};
-ghost use Rattle.paths.specs.Map.{mapOf};
-ghost use Rattle.paths.specs.Feed.{feedResult};
+ghost use Rattle.paths.specs.Map.{spanLists, mapOf};
+ghost use Rattle.paths.specs.Feed.{resultLists};
 ghost use Rattle.mapfile.specs.Read.{readMap};
 ghost use Rattle.host.specs.Entries.{RunReturns, soundNumber, FeedReturns, ReadReturns};
 
@@ -62,10 +62,10 @@ pub extern "C" fn feed_table(
     store: &mut [u32],
     figures: &mut [u32; 3],
 ) -> u32
-    ensures { λ r. ⌜ FeedReturns (mapOf places start (now (from .entry)) (now (to .entry)) (now (loss .entry)))
-        (feedResult (mapOf places start (now (from .entry)) (now (to .entry)) (now (loss .entry)))
-        (now (best .entry)) (now (last .entry)) (now (store .entry)))
-        r (now (best .exit)) (now (last .exit)) (now (store .exit)) (now (figures .exit)) ⌝ }
+    ensures { λ r. ⌜ FeedReturns
+        (mapOf places start (spanLists (now (from .entry)) (now (to .entry)) (now (loss .entry))))
+        (resultLists (now (best .entry)) (now (last .entry)) (now (store .entry)))
+        r (resultLists (now (best .exit)) (now (last .exit)) (now (store .exit))) (now (figures .exit)) ⌝ }
 {
     let fed = finder::feed(places, start, from, to, loss, best, last, store);
     *figures = [fed.links, fed.cuts, fed.examined];
@@ -82,8 +82,8 @@ pub extern "C" fn read_map(
     figures: &mut [u32; 3],
 ) -> u32
     ensures { λ r. ⌜ ReadReturns
-        (readMap (now (text .entry)) (now (from .entry)) (now (to .entry)) (now (loss .entry)))
-        r (now (from .exit)) (now (to .exit)) (now (loss .exit)) (now (figures .exit)) ⌝ }
+        (readMap (now (text .entry)) (spanLists (now (from .entry)) (now (to .entry)) (now (loss .entry))))
+        r (spanLists (now (from .exit)) (now (to .exit)) (now (loss .exit))) (now (figures .exit)) ⌝ }
 {
     let map = mapfile::read(text, from, to, loss);
     *figures = [map.places, map.start, map.spans];

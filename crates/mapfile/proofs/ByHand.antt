@@ -3,22 +3,22 @@ use mathlib.Core.Path.{refl}
 use Rattle.text.specs.Numbers.{isDigit, digitRun, valueFrom, wellFormed, numberOf, numberAt}
 use Rattle.text.specs.Fields.{endsAt, fieldAt, numbersFrom, twoFrom, threeFrom}
 use Rattle.text.specs.Lines.{ahead, lineLength, lines}
-use Rattle.mapfile.specs.Lines.{numbersOf, spanFrom, isThree, allSpans, countOf, column}
+use Rattle.mapfile.specs.Lines.{numbersOf, spanFrom, isTwo, isThree, allSpans, column}
 use Rattle.mapfile.specs.Read.{
   firstLine,
   spanLines,
+  isMap,
+  runOut,
+  withSpans,
   refusedAnswer,
   refusedReading,
-  filled,
-  countRead,
-  spansOnto,
-  headRead,
+  readAnswer,
   readMap,
 }
 use Rattle.mapfile.specs.ByHand.{paperText, readOnto, malformed, WorkedTexts}
 
 pub workedTexts : WorkedTexts
-unfolding readOnto paperText malformed readMap headRead spansOnto countRead filled refusedReading refusedAnswer spanLines firstLine
-    column countOf allSpans isThree spanFrom numbersOf lines ahead numbersFrom twoFrom threeFrom fieldAt numberAt
-    numberOf digitRun isDigit wellFormed valueFrom endsAt lineLength
+unfolding readOnto paperText malformed readMap readAnswer refusedReading refusedAnswer withSpans runOut isMap
+    spanLines firstLine column allSpans isThree isTwo spanFrom numbersOf lines ahead numbersFrom twoFrom threeFrom
+    fieldAt numberAt numberOf digitRun isDigit wellFormed valueFrom endsAt lineLength
 workedTexts = record { paper = refl; short = refl; uneven = refl; refusals = refl }

@@ -9,7 +9,9 @@ use lib.Seq.{sets}
 use Rattle.text.specs.Lines.{lines, lineEnd}
 use Rattle.text.proofs.Lines.{lines-at, lines-end}
 use Rattle.mapfile.specs.declared.Span.{Span}
+use Rattle.paths.specs.Map.{spanLists}
 use Rattle.mapfile.specs.Lines.{numbersOf, spanFrom, column}
+use Rattle.mapfile.specs.Read.{withSpans}
 use Rattle.mapfile.proofs.LineAt.{at-line}
 
 pub record Stored (f : Span → ℕ) (text : List ℕ) (first : ℕ) (l₀ l : List ℕ) (at n : ℕ) : Type 0 where
@@ -22,7 +24,7 @@ pub none-stored : (f : Span → ℕ) (text : List ℕ) (first : ℕ) (l : List �
 none-stored f text first l h = record { whole = refl; room = omega arith; same = refl }
 
 module _ {f : Span → ℕ} {text : List ℕ} {first : ℕ} {l₀ l : List ℕ} {at n : ℕ} (S : Stored f text first l₀ l at n) where
-  pub all-stored : length text ≤ at → l ≡ sets l₀ 0 (column f (lines (drop first text)))
+  all-stored : length text ≤ at → l ≡ sets l₀ 0 (column f (lines (drop first text)))
   unfolding column
   all-stored h = sym (S .whole ∙ rw (lines-end text at h))
 
@@ -41,3 +43,11 @@ module _ {f : Span → ℕ} {text : List ℕ} {first : ℕ} {l₀ l : List ℕ} 
         room = rw length-set (omega (arith, S .room, ap length e));
         same = rw length-set (S .same);
       }
+
+-- All three numbers of each span are stored.
+pub all-spans : {text : List ℕ} {first : ℕ} {from₀ to₀ loss₀ from to loss : List ℕ} {at n : ℕ}
+    → Stored (λ s. s .from) text first from₀ from at n → Stored (λ s. s .to) text first to₀ to at n
+    → Stored (λ s. s .loss) text first loss₀ loss at n → length text ≤ at
+    → spanLists from to loss ≡ withSpans (lines (drop first text)) (spanLists from₀ to₀ loss₀)
+unfolding withSpans
+all-spans F T L h = rw (all-stored F h, all-stored T h, all-stored L h)

@@ -2,87 +2,81 @@
 use Prim.Native.Nat.{ℕ, _≤_}
 use mathlib.Core.Path.{_≡_, refl}
 use mathlib.Core.List.{List}
-use mathlib.Core.Bool.{Bool, true, false, cond, not, _&&_}
+use mathlib.Core.Bool.{Bool, true, false, cond, not, _||_}
 use native.Mathlib.Omega.{arith}
 use lib.ListN.{length}
 use lib.Seq.{length-sets}
-use lib.Dec.{eqb, ltb, leb}
-use borrow.Author.Tests.{eqb-true, leb-true}
+use lib.Dec.{eqb, ltb}
+use borrow.Author.Tests.{eqb-true, ltb-false, not-false}
 use Rattle.text.specs.Lines.{lines}
 use Rattle.text.specs.declared.Numbers.{Numbers}
 use Rattle.text.specs.declared.Numbers.the-variants.{One, Two, Three, Other}
-use Rattle.mapfile.specs.declared.Spans.{Spans}
-use Rattle.mapfile.specs.declared.Spans.the-variants.{Count, Malformed}
-use Rattle.mapfile.specs.Lines.{numbersOf, countOf, column}
+use Rattle.paths.specs.Map.{SpanLists}
+use Rattle.paths.proofs.Accepts.{no-or}
+use Rattle.mapfile.specs.Lines.{numbersOf, column}
 use Rattle.mapfile.specs.Read.{
   Reading,
+  isMap,
+  runOut,
+  withSpans,
   refusedAnswer,
   refusedReading,
-  done,
-  filled,
-  countRead,
-  spansOnto,
-  headRead,
+  readAnswer,
   readMap,
   firstLine,
   spanLines,
 }
 
-pub record SpansFit (w : Reading) : Type 0 where
-  pub inFrom : w .answer .spans ≤ length (w .from)
-  pub inTo : w .answer .spans ≤ length (w .to)
-  pub inLoss : w .answer .spans ≤ length (w .loss)
+pub record ReadFits (w : Reading) : Type 0 where
+  pub inFrom : w .answer .spans ≤ length (w .left .from)
+  pub inTo : w .answer .spans ≤ length (w .left .to)
+  pub inLoss : w .answer .spans ≤ length (w .left .loss)
 
-module _ (from to loss : List ℕ) where
-  filled-fits : (places start n : ℕ) (ls : List (List ℕ)) → (filled places start n ls from to loss) .answer .code ≡ 0
-      → SpansFit (filled places start n ls from to loss)
-  unfolding filled refusedReading refusedAnswer
-  filled-fits places start n ls =
-      go (eqb (length to) (length from)) (eqb (length loss) (length from)) (leb n (length from)) refl refl refl
-    where
-      full : Reading
-      full = done places start n ls from to loss
+refused-fits : (code : ℕ) (lent : SpanLists) → ReadFits (refusedReading code lent)
+unfolding refusedReading refusedAnswer
+refused-fits code lent = record { inFrom = omega arith; inTo = omega arith; inLoss = omega arith }
 
-      go : (a b c : Bool) → eqb (length to) (length from) ≡ a → eqb (length loss) (length from) ≡ b
-          → leb n (length from) ≡ c → (cond (not (a && b && c)) (refusedReading 16 from to loss) full) .answer .code ≡ 0
-          → SpansFit (cond (not (a && b && c)) (refusedReading 16 from to loss) full)
-      go true true true ea eb ec z =
-          let h = leb-true n (length from) ec in
-          let i = eqb-true (length to) (length from) ea in
-          let j = eqb-true (length loss) (length from) eb in
-          record {
-            inFrom = omega (arith, h, length-sets from 0 (column (λ s. s .from) ls));
-            inTo = omega (arith, h, i, length-sets to 0 (column (λ s. s .to) ls));
-            inLoss = omega (arith, h, j, length-sets loss 0 (column (λ s. s .loss) ls));
-          }
-      go true true false ea eb ec z = absurd (omega (arith, z))
-      go true false c ea eb ec z = absurd (omega (arith, z))
-      go false b c ea eb ec z = absurd (omega (arith, z))
+spans-most : (numbers : Numbers) (n : ℕ) → (readAnswer numbers n) .spans ≤ n
+unfolding readAnswer refusedAnswer
+spans-most (One x) n = omega arith
+spans-most (Two x y) n = omega arith
+spans-most (Three x y z) n = omega arith
+spans-most Other n = omega arith
 
-  count-fits : (places start : ℕ) (ls : List (List ℕ)) (c : Spans)
-      → (countRead c places start ls from to loss) .answer .code ≡ 0
-      → SpansFit (countRead c places start ls from to loss)
-  unfolding countRead refusedReading refusedAnswer
-  count-fits places start ls (Count n) z = filled-fits places start n ls z
-  count-fits places start ls Malformed z = absurd (omega (arith, z))
+stored-fits : (numbers : Numbers) (ls : List (List ℕ)) (lent : SpanLists) → runOut lent (length ls) ≡ false
+    → ReadFits (record { answer = readAnswer numbers (length ls); left = withSpans ls lent })
+unfolding runOut withSpans
+stored-fits numbers ls lent e =
+    let a = no-or _ (ltb (length (lent .from)) (length ls)) e in
+    let b =
+    no-or (not (eqb (length (lent .to)) (length (lent .from)))) (not (eqb (length (lent .loss)) (length (lent .from))))
+    (a .0) in
+    let h = ltb-false (length (lent .from)) (length ls) (a .1) in
+    let i = eqb-true (length (lent .to)) (length (lent .from)) (not-false _ (b .0)) in
+    let j = eqb-true (length (lent .loss)) (length (lent .from)) (not-false _ (b .1)) in
+    let n = spans-most numbers (length ls) in
+    record {
+      inFrom = omega (arith, h, length-sets (lent .from) 0 (column (λ s. s .from) ls));
+      inTo = omega (arith, h, i, length-sets (lent .to) 0 (column (λ s. s .to) ls));
+      inLoss = omega (arith, h, j, length-sets (lent .loss) 0 (column (λ s. s .loss) ls));
+    }
 
-  head-fits : (ls : List (List ℕ)) (n : Numbers) → (headRead n ls from to loss) .answer .code ≡ 0
-      → SpansFit (headRead n ls from to loss)
-  unfolding headRead spansOnto refusedReading refusedAnswer
-  head-fits ls (One x) z = absurd (omega (arith, z))
-  head-fits ls (Two places start) z = count-fits places start ls (countOf ls) z
-  head-fits ls (Three x y w) z = absurd (omega (arith, z))
-  head-fits ls Other z = absurd (omega (arith, z))
+pub read-fits : (text : List ℕ) (lent : SpanLists) → ReadFits (readMap text lent)
+unfolding readMap
+read-fits text lent =
+    go (ltb 60000 (length text) || not (isMap (lines text))) (runOut lent (length ls)) refl
+  where
+    ls : List (List ℕ)
+    ls = spanLines (lines text)
 
-  pub read-fits : (text : List ℕ) → (readMap text from to loss) .answer .code ≡ 0
-      → SpansFit (readMap text from to loss)
-  unfolding readMap refusedReading refusedAnswer
-  read-fits text = go (ltb 60000 (length text))
-    where
-      rest : Reading
-      rest = headRead (numbersOf (firstLine (lines text))) (spanLines (lines text)) from to loss
+    numbers : Numbers
+    numbers = numbersOf (firstLine (lines text))
 
-      go : (t : Bool) → (cond t (refusedReading 21 from to loss) rest) .answer .code ≡ 0
-          → SpansFit (cond t (refusedReading 21 from to loss) rest)
-      go true z = absurd (omega (arith, z))
-      go false z = head-fits (spanLines (lines text)) (numbersOf (firstLine (lines text))) z
+    go : (s t : Bool) → runOut lent (length ls) ≡ t
+        → ReadFits
+        (cond s (refusedReading 21 lent)
+        (cond t (refusedReading 16 lent)
+        (record { answer = readAnswer numbers (length ls); left = withSpans ls lent })))
+    go true t e = refused-fits 21 lent
+    go false true e = refused-fits 16 lent
+    go false false e = stored-fits numbers ls lent e

@@ -3,7 +3,7 @@ use Prim.Native.Nat.{ℕ}
 use mathlib.Core.Path.{_≡_, refl}
 use mathlib.Core.Logic.{inl, inr}
 use mathlib.Core.Bool.{false}
-use mathlib.Core.List.{List, [], _∷_}
+use mathlib.Core.List.{[], _∷_}
 use native.Mathlib.Omega.{arith}
 use types.Run.{OneOf}
 use denote.Enum.Declared.{tagOf}
@@ -11,8 +11,7 @@ use Rattle.text.proofs.Numbers.{the-type}
 use Rattle.text.specs.declared.Numbers.{Numbers}
 use Rattle.text.specs.declared.Numbers.the-variants.{One, Two, Three, Other}
 use Rattle.mapfile.specs.declared.Span.{Span}
-use Rattle.mapfile.specs.Lines.{isThree, spanFrom}
-use Rattle.mapfile.specs.Read.{refusedReading, headRead}
+use Rattle.mapfile.specs.Lines.{isTwo, isThree, spanFrom}
 
 none-of : (x : ℕ) → x ≡ 2 → OneOf (0 ∷ 1 ∷ 3 ∷ []) x → ⊥
 none-of x e (inl h) = omega arith
@@ -34,12 +33,11 @@ no-span (Two x y) h = refl
 no-span (Three x y z) h = absurd (none-of 2 refl h)
 no-span Other h = refl
 
-pub not-two : (n : Numbers) (ls : List (List ℕ)) (from to loss : List ℕ) → OneOf (0 ∷ 2 ∷ 3 ∷ []) (tagOf the-type n)
-    → headRead n ls from to loss ≡ refusedReading 21 from to loss
-unfolding headRead
-not-two (One x) ls from to loss h = refl
-not-two (Two x y) ls from to loss (inl h) = absurd (omega arith)
-not-two (Two x y) ls from to loss (inr (inl h)) = absurd (omega arith)
-not-two (Two x y) ls from to loss (inr (inr h)) = absurd (omega arith)
-not-two (Three x y z) ls from to loss h = refl
-not-two Other ls from to loss h = refl
+pub not-two : (n : Numbers) → OneOf (0 ∷ 2 ∷ 3 ∷ []) (tagOf the-type n) → isTwo n ≡ false
+unfolding isTwo
+not-two (One x) h = refl
+not-two (Two x y) (inl h) = absurd (omega arith)
+not-two (Two x y) (inr (inl h)) = absurd (omega arith)
+not-two (Two x y) (inr (inr h)) = absurd (omega arith)
+not-two (Three x y z) h = refl
+not-two Other h = refl

@@ -3,6 +3,7 @@ use Prim.Native.Nat.{ℕ}
 use mathlib.Core.Path.{_≡_}
 use mathlib.Core.List.{List, [], _∷_, _++_, map}
 use lib.ListN.{replicate}
+use Rattle.paths.specs.Map.{spanLists, noSpans}
 use Rattle.mapfile.specs.Read.{Reading, refusedReading, readMap}
 
 -- `3,0` `0,1,7` `0,2,20` `1,2,5`, each with LF
@@ -13,7 +14,7 @@ paperText =
 
 -- read into lists of n words, all nines
 unfoldable pub readOnto : ℕ → List ℕ → Reading
-readOnto n text = readMap text (replicate n 9) (replicate n 9) (replicate n 9)
+readOnto n text = readMap text (spanLists (replicate n 9) (replicate n 9) (replicate n 9))
 
 -- nothing; `3,0` and an empty line; `3,0` and `0,1`; `3`; `3,0` with CR
 unfoldable pub malformed : List (List ℕ)
@@ -27,14 +28,12 @@ pub record WorkedTexts : Type 0 where
       readOnto 4 paperText
       ≡ record {
         answer = record { code = 0; places = 3; start = 0; spans = 3 };
-        from = 0 ∷ 0 ∷ 1 ∷ 9 ∷ [];
-        to = 1 ∷ 2 ∷ 2 ∷ 9 ∷ [];
-        loss = 7 ∷ 20 ∷ 5 ∷ 9 ∷ [];
+        left = spanLists (0 ∷ 0 ∷ 1 ∷ 9 ∷ []) (1 ∷ 2 ∷ 2 ∷ 9 ∷ []) (7 ∷ 20 ∷ 5 ∷ 9 ∷ []);
       }
   -- no room for the third span
-  pub short : readOnto 2 paperText ≡ refusedReading 16 (9 ∷ 9 ∷ []) (9 ∷ 9 ∷ []) (9 ∷ 9 ∷ [])
+  pub short : readOnto 2 paperText ≡ refusedReading 16 (spanLists (9 ∷ 9 ∷ []) (9 ∷ 9 ∷ []) (9 ∷ 9 ∷ []))
   pub uneven :
-      readMap paperText (9 ∷ 9 ∷ 9 ∷ []) (9 ∷ []) (9 ∷ 9 ∷ 9 ∷ [])
-      ≡ refusedReading 16 (9 ∷ 9 ∷ 9 ∷ []) (9 ∷ []) (9 ∷ 9 ∷ 9 ∷ [])
+      readMap paperText (spanLists (9 ∷ 9 ∷ 9 ∷ []) (9 ∷ []) (9 ∷ 9 ∷ 9 ∷ []))
+      ≡ refusedReading 16 (spanLists (9 ∷ 9 ∷ 9 ∷ []) (9 ∷ []) (9 ∷ 9 ∷ 9 ∷ []))
   -- 21 comes before 16
-  pub refusals : map (readOnto 0) malformed ≡ replicate 5 (refusedReading 21 [] [] [])
+  pub refusals : map (readOnto 0) malformed ≡ replicate 5 (refusedReading 21 noSpans)

@@ -22,6 +22,12 @@ spanFrom (Two x y) = record { from = 0; to = 0; loss = 0 }
 spanFrom (Three f t l) = record { from = f; to = t; loss = l }
 spanFrom Other = record { from = 0; to = 0; loss = 0 }
 
+unfoldable pub isTwo : Numbers → Bool
+isTwo (One x) = false
+isTwo (Two x y) = true
+isTwo (Three x y z) = false
+isTwo Other = false
+
 unfoldable pub isThree : Numbers → Bool
 isThree (One x) = false
 isThree (Two x y) = false

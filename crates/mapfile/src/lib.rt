@@ -3,8 +3,9 @@ ghost use mathlib.Core.Path.{_≡_};
 ghost use Prim.Native.Nat.{_≤_};
 ghost use lib.ListN.{length, drop};
 ghost use Rattle.text.specs.Lines.{lines};
+ghost use Rattle.paths.specs.Map.{spanLists};
 ghost use Rattle.mapfile.specs.Lines.{numbersOf, isThree, spanFrom, countOf};
-ghost use Rattle.mapfile.specs.Read.{refusedAnswer, spansOnto, readMap, SpansFit, Fills, Reads};
+ghost use Rattle.mapfile.specs.Read.{withSpans, refusedAnswer, readMap, Reads, HeadRead, SpansFit};
 use text::Numbers;
 use text::line_end;
 use text::number_at;
@@ -88,10 +89,10 @@ fn count_spans(text: &[u8], first: usize) -> Spans
 
 // The spans of the lines from a position on go to the beginning of the three lists.
 fn fill(text: &[u8], first: usize, from: &mut [u32], to: &mut [u32], loss: &mut [u32])
-    requires { ⌜ SpansFit (lines (drop first (now text))) (now from) (now to) (now loss) ⌝ }
-    ensures { λ _. ⌜ Fills (lines (drop first (now (text .entry))))
-        (now (from .entry)) (now (to .entry)) (now (loss .entry))
-        (now (from .exit)) (now (to .exit)) (now (loss .exit)) ⌝ }
+    requires { ⌜ SpansFit (lines (drop first (now text))) (spanLists (now from) (now to) (now loss)) ⌝ }
+    ensures { λ _. ⌜ spanLists (now (from .exit)) (now (to .exit)) (now (loss .exit))
+        ≡ withSpans (lines (drop first (now (text .entry))))
+        (spanLists (now (from .entry)) (now (to .entry)) (now (loss .entry))) ⌝ }
 {
     let mut at = first;
     let mut n = 0;
@@ -117,7 +118,7 @@ fn refuse(code: u32) -> MapRead
     }
 }
 
-// Reads the spans of a map, from the position after its first line on.
+// Reads the spans of a map whose first line is read, from the position after it on.
 fn read_spans(
     text: &[u8],
     first: usize,
@@ -127,11 +128,10 @@ fn read_spans(
     to: &mut [u32],
     loss: &mut [u32],
 ) -> MapRead
-    requires { ⌜ length (now text) ≤ 60000 ⌝ }
+    requires { ⌜ HeadRead (now text) first places start ⌝ }
     ensures { λ r. ⌜ Reads
-        (spansOnto (lines (drop first (now (text .entry)))) places start
-        (now (from .entry)) (now (to .entry)) (now (loss .entry)))
-        r (now (from .exit)) (now (to .exit)) (now (loss .exit)) ⌝ }
+        (readMap (now (text .entry)) (spanLists (now (from .entry)) (now (to .entry)) (now (loss .entry))))
+        r (spanLists (now (from .exit)) (now (to .exit)) (now (loss .exit))) ⌝ }
 {
     let spans = count_spans(text, first);
     let Spans::Count(n) = spans else {
@@ -158,8 +158,8 @@ fn read_spans(
 // Reads a map text into three span lists.
 pub fn read(text: &[u8], from: &mut [u32], to: &mut [u32], loss: &mut [u32]) -> MapRead
     ensures { λ r. ⌜ Reads
-        (readMap (now (text .entry)) (now (from .entry)) (now (to .entry)) (now (loss .entry)))
-        r (now (from .exit)) (now (to .exit)) (now (loss .exit)) ⌝ }
+        (readMap (now (text .entry)) (spanLists (now (from .entry)) (now (to .entry)) (now (loss .entry))))
+        r (spanLists (now (from .exit)) (now (to .exit)) (now (loss .exit))) ⌝ }
 {
     if text.len() > 60000 {
         return refuse(21);

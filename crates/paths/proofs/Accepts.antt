@@ -22,7 +22,7 @@ use borrow.Author.Tests.{
 use Rattle.rules.specs.Words.{storeSize}
 use Rattle.rules.proofs.Occurs.{and-split}
 use Rattle.paths.specs.Map.{Map, spans, fromOf, toOf, lossOf, Accepted}
-use Rattle.paths.specs.Codes.{fault, previous, spanCode, spanLists, resultLists, feedCode}
+use Rattle.paths.specs.Codes.{fault, previous, spanCode, spanListsFit, resultListsFit, feedCode}
 use Rattle.paths.specs.Theorems.{Fits, CodeZero}
 use Rattle.paths.proofs.Codes.{fault-none, each-none, all-none}
 
@@ -30,7 +30,7 @@ no-cond : (t : Bool) (c x : ℕ) → c ≢ 0 → _≡_ {A = ℕ} (cond t c x) 0 
 no-cond true c x n e = absurd (n e)
 no-cond false c x n e = (refl, e)
 
-no-or : (a b : Bool) → (a || b) ≡ false → (a ≡ false) × (b ≡ false)
+pub no-or : (a b : Bool) → (a || b) ≡ false → (a ≡ false) × (b ≡ false)
 no-or true b e = absurd (true≢false e)
 no-or false b e = (refl, e)
 
@@ -41,14 +41,14 @@ module _ (m : Map) where
     toIn : toOf m e < m .places
     low : 1 ≤ lossOf m e
     high : lossOf m e ≤ 1000000
-    level : previous (m .from) e ≤ fromOf m e
+    level : previous (m .lists .from) e ≤ fromOf m e
 
-  faultless : (e : ℕ) → spanCode (m .places) (m .from) (m .to) (m .loss) e ≡ 0 → Faultless e
+  faultless : (e : ℕ) → spanCode (m .places) (m .lists) e ≡ 0 → Faultless e
   unfolding spanCode fault
   faultless e z =
       let a = no-cond (leb (m .places) (fromOf m e) || leb (m .places) (toOf m e)) 18 _ (λ q. omega arith) z in
       let b = no-cond (eqb (lossOf m e) 0 || ltb 1000000 (lossOf m e)) 19 _ (λ q. omega arith) (a .1) in
-      let c = no-cond (ltb (fromOf m e) (previous (m .from) e)) 20 0 (λ q. omega arith) (b .1) in
+      let c = no-cond (ltb (fromOf m e) (previous (m .lists .from) e)) 20 0 (λ q. omega arith) (b .1) in
       let f = no-or (leb (m .places) (fromOf m e)) (leb (m .places) (toOf m e)) (a .0) in
       let g = no-or (eqb (lossOf m e) 0) (ltb 1000000 (lossOf m e)) (b .0) in
       let n : lossOf m e ≢ 0 = eqb-false (lossOf m e) 0 (g .0) in
@@ -57,16 +57,16 @@ module _ (m : Map) where
         toIn = leb-false (m .places) (toOf m e) (f .1);
         low = omega (arith, n);
         high = ltb-false 1000000 (lossOf m e) (g .1);
-        level = ltb-false (fromOf m e) (previous (m .from) e) (c .0);
+        level = ltb-false (fromOf m e) (previous (m .lists .from) e) (c .0);
       }
 
-  no-fault : Accepted m → (e : ℕ) → e < spans m → spanCode (m .places) (m .from) (m .to) (m .loss) e ≡ 0
+  no-fault : Accepted m → (e : ℕ) → e < spans m → spanCode (m .places) (m .lists) e ≡ 0
   unfolding spanCode previous
   no-fault A e h =
-      sym (fault-none (m .places) (fromOf m e) (toOf m e) (lossOf m e) (previous (m .from) e) (A .fromIn e h)
+      sym (fault-none (m .places) (fromOf m e) (toOf m e) (lossOf m e) (previous (m .lists .from) e) (A .fromIn e h)
       (A .toIn e h) (λ q. omega (arith, A .low e h)) (A .high e h) (level e h))
     where
-      level : (e : ℕ) → e < spans m → previous (m .from) e ≤ fromOf m e
+      level : (e : ℕ) → e < spans m → previous (m .lists .from) e ≤ fromOf m e
       level zero h = omega arith
       level (suc e) h = A .rising e h
 
@@ -76,24 +76,24 @@ module _ (m : Map) where
     fits z =
         let c₁ = no-cond (eqb (m .places) 0 || ltb 4096 (m .places)) 14 _ (λ q. omega arith) z in
         let c₂ = no-cond (leb (m .places) (m .start)) 15 _ (λ q. omega arith) (c₁ .1) in
-        let c₃ = no-cond (not (spanLists m)) 16 _ (λ q. omega arith) (c₂ .1) in
-        let c₄ = no-cond (not (resultLists m bestN lastN storeN)) 17 _ (λ q. omega arith) (c₃ .1) in
+        let c₃ = no-cond (not (spanListsFit (m .lists))) 16 _ (λ q. omega arith) (c₂ .1) in
+        let c₄ = no-cond (not (resultListsFit (m .places) bestN lastN storeN)) 17 _ (λ q. omega arith) (c₃ .1) in
         let f = no-or (eqb (m .places) 0) (ltb 4096 (m .places)) (c₁ .0) in
         let g = and-split _ (leb (spans m) 16384) (not-false _ (c₃ .0)) in
-        let g′ = and-split (eqb (length (m .to)) (spans m)) (eqb (length (m .loss)) (spans m)) (g .0) in
+        let g′ = and-split (eqb (length (m .lists .to)) (spans m)) (eqb (length (m .lists .loss)) (spans m)) (g .0) in
         let h = and-split _ (eqb storeN (storeSize (m .places))) (not-false _ (c₄ .0)) in
         let h′ = and-split (eqb bestN (m .places)) (eqb lastN (m .places)) (h .0) in
         let n : m .places ≢ 0 = eqb-false (m .places) 0 (f .0) in
         let s : (e : ℕ) → e < spans m → Faultless e =
-        λ e k. faultless e (each-none (m .places) (m .from) (m .to) (m .loss) (spans m) (c₄ .1) e k) in
+        λ e k. faultless e (each-none (m .places) (m .lists) (spans m) (c₄ .1) e k) in
         record {
           accepted =
               record {
                 some = omega (arith, n);
                 few = ltb-false 4096 (m .places) (f .1);
                 startIn = leb-false (m .places) (m .start) (c₂ .0);
-                toN = eqb-true (length (m .to)) (spans m) (g′ .0);
-                lossN = eqb-true (length (m .loss)) (spans m) (g′ .1);
+                toN = eqb-true (length (m .lists .to)) (spans m) (g′ .0);
+                lossN = eqb-true (length (m .lists .loss)) (spans m) (g′ .1);
                 short = leb-true (spans m) 16384 (g .1);
                 fromIn = λ e k. s e k .fromIn;
                 toIn = λ e k. s e k .toIn;
@@ -114,14 +114,14 @@ module _ (m : Map) where
           ne-eqb (m .places) 0 (λ q. omega (arith, A .some)),
           le-ltb 4096 (m .places) (A .few),
           lt-leb (m .places) (m .start) (A .startIn),
-          eq-eqb (length (m .to)) (spans m) (A .toN),
-          eq-eqb (length (m .loss)) (spans m) (A .lossN),
+          eq-eqb (length (m .lists .to)) (spans m) (A .toN),
+          eq-eqb (length (m .lists .loss)) (spans m) (A .lossN),
           le-leb (spans m) 16384 (A .short),
           eq-eqb bestN (m .places) (F .best),
           eq-eqb lastN (m .places) (F .last),
           eq-eqb storeN (storeSize (m .places)) (F .store),
         )
-        (all-none (m .places) (m .from) (m .to) (m .loss) (spans m) (no-fault A))
+        (all-none (m .places) (m .lists) (spans m) (no-fault A))
 
 pub codeZero : CodeZero
 codeZero = record { accepts = accepts; only = fits }

@@ -12,6 +12,7 @@ use Rattle.paths.specs.Search.{judge, update, offer, try, tried, visit, 
 use Rattle.paths.specs.Codes.{fault, previous, spanCode, codeBelow, feedCode}
 use Rattle.paths.specs.Feed.{linksOf, cutsOf, feedAs, feedResult}
 use Rattle.paths.specs.ByHand.{
+  ninesThree,
   onThree,
   doneThree,
   refusedThree,
@@ -22,9 +23,9 @@ use Rattle.paths.specs.ByHand.{
 }
 
 pub workedMaps : WorkedMaps
-unfolding onThree doneThree refusedThree paperMap tieMap refusedMaps feedResult feedAs linksOf cutsOf feedCode storeSize
-    codeBelow spanCode previous fault search steps begin step visit tried try offer update judge next nextOf
-    waiting answers answer unlessRefused refused refusal isEmpty perform decreaseKey hasParent extract
+unfolding ninesThree onThree doneThree refusedThree paperMap tieMap refusedMaps feedResult feedAs linksOf cutsOf
+    feedCode storeSize codeBelow spanCode previous fault search steps begin step visit tried try offer update judge next
+    nextOf waiting answers answer unlessRefused refused refusal isEmpty perform decreaseKey hasParent extract
     removeRoot setFree release insert consolidate consolidateWithin occupied linkTrees climb isFree link cutIf
     cutOut cutWithin cascadingCut nodeKind cut minimum leastIn leastOf comesBefore setAll without sumBy
 workedMaps = record { calls = refl; paper = refl; tie = refl; refusals = refl }

@@ -1,11 +1,11 @@
 -- What the calls of a search are allowed by the ledger, at every moment.
 use Prim.Native.Nat.{ℕ, suc, _+_, _*_, _≤_, zero-le}
-use mathlib.Core.Path.{_≡_, refl, ap}
-use mathlib.Core.List.{List, [], _∷_}
+use mathlib.Core.Path.{_≡_, refl, ap, _∙_}
+use mathlib.Core.List.{List, [], _∷_, _++_}
 use mathlib.Core.Bool.{Bool, true, false, cond}
 use native.Mathlib.Nat.{le-refl, mul-le-mul-left}
 use native.Mathlib.Omega.{arith}
-use lib.ListN.{replicate, length-replicate}
+use lib.ListN.{set, replicate, length-replicate}
 use lib.Dec.{eqb}
 use borrow.Author.Tests.{eqb-true}
 use Rattle.rules.specs.declared.Call.{Call}
@@ -88,56 +88,48 @@ module _ (stop : Stop) (m : Map) (A : Accepted m) where
   abbrev n : ℕ
   n = m .places
 
+  -- An offer that makes a call; `more` is 1 if the place was not met, else 0.
+  call-costs : (u d k r : ℕ) (s : Search) → TryingOf m u d k r s → IsSpan m k → fromOf m k ≡ u → (v : Verdict)
+      → Case s (toOf m k) (d + lossOf m k) k v → Costs m s →
+      let t : Search = update v (toOf m k) (d + lossOf m k) k (examine s) in
+      (c : Call) (more : ℕ) → t .calls ≡ s .calls ++ (Yields c ∷ [])
+      → t .best ≡ set (s .best) (toOf m k) (d + lossOf m k)
+      → t .examined ≡ suc (s .examined) → unsettled (t .queue .waits) (t .best) ≡ r
+      → isNone (bestAt s (toOf m k)) ≡ more → price (forestsAfter m s) c + 3 * more ≤ 4 → Costs m t
+  call-costs u d k r s T is fu v case C c more ec eb ex left em h =
+      let p : ℕ = toOf m k in
+      let l : ℕ = d + lossOf m k in
+      let grows = mul-le-mul-left (C .taken) (R-mono (C .entered) (more + C .entered) (omega arith)) in
+      record {
+        served = update-served stop m A u d k r s T is fu v case (C .served);
+        entered = more + C .entered;
+        taken = C .taken;
+        entered-is =
+            rw eb
+            (omega (
+              arith,
+              C .entered-is,
+              sumBy-set isNone (s .best) p l none (omega (arith, T .invariant .bestN, A .toIn k (is .0))),
+              em,
+              isNone-no l (λ e. omega (arith, sum-fits m A u d k r s T is fu)),
+            ));
+        taken-is = omega (arith, C .taken-is, left, T .left);
+        pays =
+            rw (ec, ex, allowed-snoc (Yields c) (empty n) (s .calls))
+            (omega (arith, C .pays, allowance-le (forestsAfter m s) c, grows));
+      }
+
   update-costs : (u d k r : ℕ) (s : Search) → TryingOf m u d k r s → IsSpan m k → fromOf m k ≡ u → (v : Verdict)
       → Case s (toOf m k) (d + lossOf m k) k v → Costs m s
       → Costs m (update v (toOf m k) (d + lossOf m k) k (examine s))
   unfolding update price
   update-costs u d k r s T is fu unmet (at-unmet z o) C =
-      let p : ℕ = toOf m k in
-      let l : ℕ = d + lossOf m k in
-      let c : Call = Insert 0 p l in
-      let t = update-trying m A u d k r s T is fu unmet (at-unmet z o) in
-      let grows = mul-le-mul-left (C .taken) (R-mono (C .entered) (suc (C .entered)) (omega arith)) in
-      record {
-        served = update-served stop m A u d k r s T is fu unmet (at-unmet z o) (C .served);
-        entered = suc (C .entered);
-        taken = C .taken;
-        entered-is =
-            omega (
-              arith,
-              C .entered-is,
-              sumBy-set isNone (s .best) p l none (omega (arith, T .invariant .bestN, A .toIn k (is .0))),
-              ap isNone z,
-              isNone-yes,
-              isNone-no l (λ e. omega (arith, sum-fits m A u d k r s T is fu)),
-            );
-        taken-is = omega (arith, C .taken-is, t .left, T .left);
-        pays =
-            rw (allowed-snoc (Yields c) (empty n) (s .calls))
-            (omega (arith, C .pays, allowance-le (forestsAfter m s) c, grows));
-      }
+      call-costs u d k r s T is fu unmet (at-unmet z o) C (Insert 0 (toOf m k) (d + lossOf m k)) 1 refl refl refl
+      (update-trying m A u d k r s T is fu unmet (at-unmet z o) .left) (ap isNone z ∙ isNone-yes) (omega arith)
   update-costs u d k r s T is fu smaller (at-smaller x o w y) C =
-      let p : ℕ = toOf m k in
-      let l : ℕ = d + lossOf m k in
-      let c : Call = DecreaseKey p l in
-      let t = update-trying m A u d k r s T is fu smaller (at-smaller x o w y) in
-      record {
-        served = update-served stop m A u d k r s T is fu smaller (at-smaller x o w y) (C .served);
-        entered = C .entered;
-        taken = C .taken;
-        entered-is =
-            omega (
-              arith,
-              C .entered-is,
-              sumBy-set isNone (s .best) p l none (omega (arith, T .invariant .bestN, A .toIn k (is .0))),
-              isNone-no (bestAt s p) x,
-              isNone-no l (λ e. omega (arith, sum-fits m A u d k r s T is fu)),
-            );
-        taken-is = omega (arith, C .taken-is, t .left, T .left);
-        pays =
-            rw (allowed-snoc (Yields c) (empty n) (s .calls))
-            (omega (arith, C .pays, allowance-le (forestsAfter m s) c));
-      }
+      call-costs u d k r s T is fu smaller (at-smaller x o w y) C (DecreaseKey (toOf m k) (d + lossOf m k)) 0 refl refl
+      refl (update-trying m A u d k r s T is fu smaller (at-smaller x o w y) .left)
+      (isNone-no (bestAt s (toOf m k)) x) (omega arith)
   update-costs u d k r s T is fu tie c C = no-call m s _ C
   update-costs u d k r s T is fu worse c C = no-call m s _ C
 

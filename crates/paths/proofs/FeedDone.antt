@@ -13,12 +13,12 @@ use Rattle.paths.proofs.Accepts.{codeZero}
 
 pub feedDone : FeedDone
 unfolding feedResult feedAs search
-feedDone m best last store = go (feedCode m (length best) (length last) (length store)) refl
+feedDone m lent = go (feedCode m (length (lent .best)) (length (lent .last)) (length (lent .store))) refl
   where
-    go : (c : ℕ) → feedCode m (length best) (length last) (length store) ≡ c → (feedAs c m best last store) .code ≡ 0
-        → Right m (feedAs c m best last store)
+    go : (c : ℕ) → feedCode m (length (lent .best)) (length (lent .last)) (length (lent .store)) ≡ c
+        → (feedAs c m lent) .code ≡ 0 → Right m (feedAs c m lent)
     go zero e _ =
-        let A = codeZero .only m (length best) (length last) (length store) e .accepted in
+        let A = codeZero .only m (length (lent .best)) (length (lent .last)) (length (lent .store)) e .accepted in
         record {
           table = finderTable m A;
           store = refl;

@@ -7,25 +7,25 @@ use Rattle.rules.specs.Forests.{none}
 use Rattle.rules.proofs.Occurs.{and-false}
 use Rattle.paths.specs.Search.{unmet, smaller, tie, worse, judge}
 
-module _ (l₀ e₀ l e : ℕ) where
-  pub judge-unmet : l₀ ≡ none → judge l₀ e₀ l e ≡ unmet
+module _ (hasLoss hasSpan loss span : ℕ) where
+  pub judge-unmet : hasLoss ≡ none → judge hasLoss hasSpan loss span ≡ unmet
   unfolding judge
-  judge-unmet z = rw (eq-eqb l₀ none z)
+  judge-unmet z = rw (eq-eqb hasLoss none z)
 
-  module _ (met : l₀ ≢ none) where
-    pub judge-smaller : l < l₀ → judge l₀ e₀ l e ≡ smaller
+  module _ (met : hasLoss ≢ none) where
+    pub judge-smaller : loss < hasLoss → judge hasLoss hasSpan loss span ≡ smaller
     unfolding judge
-    judge-smaller h = rw (ne-eqb l₀ none met, lt-ltb l l₀ h)
+    judge-smaller h = rw (ne-eqb hasLoss none met, lt-ltb loss hasLoss h)
 
-    module _ (h : l₀ ≤ l) where
-      pub judge-larger : l ≢ l₀ → judge l₀ e₀ l e ≡ worse
+    module _ (h : hasLoss ≤ loss) where
+      pub judge-larger : loss ≢ hasLoss → judge hasLoss hasSpan loss span ≡ worse
       unfolding judge
-      judge-larger n = rw (ne-eqb l₀ none met, le-ltb l l₀ h, ne-eqb l l₀ n)
+      judge-larger n = rw (ne-eqb hasLoss none met, le-ltb loss hasLoss h, ne-eqb loss hasLoss n)
 
-      pub judge-tie : l ≡ l₀ → e < e₀ → judge l₀ e₀ l e ≡ tie
+      pub judge-tie : loss ≡ hasLoss → span < hasSpan → judge hasLoss hasSpan loss span ≡ tie
       unfolding judge
-      judge-tie q k = rw (ne-eqb l₀ none met, le-ltb l l₀ h, eq-eqb l l₀ q, lt-ltb e e₀ k)
+      judge-tie q k = rw (ne-eqb hasLoss none met, le-ltb loss hasLoss h, eq-eqb loss hasLoss q, lt-ltb span hasSpan k)
 
-      pub judge-late : e₀ ≤ e → judge l₀ e₀ l e ≡ worse
+      pub judge-late : hasSpan ≤ span → judge hasLoss hasSpan loss span ≡ worse
       unfolding judge
-      judge-late k = rw (ne-eqb l₀ none met, le-ltb l l₀ h, le-ltb e e₀ k, and-false)
+      judge-late k = rw (ne-eqb hasLoss none met, le-ltb loss hasLoss h, le-ltb span hasSpan k, and-false)

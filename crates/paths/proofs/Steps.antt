@@ -111,7 +111,8 @@ module _ (stop : Stop) (m : Map) (A : Accepted m) where
     steps-keep zero = K .begins
     steps-keep (suc k) = go (next stop ((steps stop m k) .queue)) refl (steps-keep k)
       where
-        go : (x : NextPlace) → next stop ((steps stop m k) .queue) ≡ x → P (steps stop m k) → P (step m x (steps stop m k))
+        go : (x : NextPlace) → next stop ((steps stop m k) .queue) ≡ x → P (steps stop m k)
+            → P (step m x (steps stop m k))
         go halts e h = h
         go (takes u) e h = trying-keeps k u e h (spans m) (le-refl _)
 

@@ -18,32 +18,36 @@ linksOf n calls = sumBy (λ a. a .links) (answers (empty n) calls)
 unfoldable pub cutsOf : ℕ → List Line → ℕ
 cutsOf n calls = sumBy (λ a. a .cuts) (answers (empty n) calls)
 
--- the four numbers of the answer, and the two result lists and the store as they are left
+-- what a feed call is lent and writes: the table's losses, its spans, and a store
+pub record ResultLists : Type 0 where
+  pub best : List ℕ
+  pub last : List ℕ
+  pub store : List ℕ
+
+abbrev pub resultLists : List ℕ → List ℕ → List ℕ → ResultLists
+resultLists best last store = record { best = best; last = last; store = store }
+
+-- the four numbers of the answer, and the lists as they are left
 pub record Feed : Type 0 where
   pub code : ℕ
   pub links : ℕ
   pub cuts : ℕ
   pub examined : ℕ
-  pub best : List ℕ
-  pub last : List ℕ
-  pub store : List ℕ
+  pub left : ResultLists
 
 -- A refusal gives its code and three zeros, and changes nothing. A call that is done leaves the store empty.
-unfoldable pub feedAs : ℕ → Map → List ℕ → List ℕ → List ℕ → Feed
-feedAs zero m best last store =
+unfoldable pub feedAs : ℕ → Map → ResultLists → Feed
+feedAs zero m lent =
     let s = find m in
     record {
       code = 0;
       links = linksOf (m .places) (s .calls);
       cuts = cutsOf (m .places) (s .calls);
       examined = s .examined;
-      best = s .best;
-      last = s .last;
-      store = encode (empty (m .places));
+      left = resultLists (s .best) (s .last) (encode (empty (m .places)));
     }
-feedAs (suc code) m best last store =
-    record { code = suc code; links = 0; cuts = 0; examined = 0; best = best; last = last; store = store }
+feedAs (suc code) m lent = record { code = suc code; links = 0; cuts = 0; examined = 0; left = lent }
 
--- best, last and store as they are lent
-unfoldable pub feedResult : Map → List ℕ → List ℕ → List ℕ → Feed
-feedResult m best last store = feedAs (feedCode m (length best) (length last) (length store)) m best last store
+unfoldable pub feedResult : Map → ResultLists → Feed
+feedResult m lent =
+    feedAs (feedCode m (length (lent .best)) (length (lent .last)) (length (lent .store))) m lent

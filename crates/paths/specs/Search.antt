@@ -33,40 +33,45 @@ pub data Verdict : Type 0 where
   tie : Verdict
   worse : Verdict
 
--- the offer of loss l by span e to a place that has loss l₀ by span e₀
+-- the verdict on a loss and a span that are offered, by the loss and the span that the place has
 unfoldable pub judge : ℕ → ℕ → ℕ → ℕ → Verdict
-judge l₀ e₀ l e = cond (eqb l₀ none) unmet (cond (ltb l l₀) smaller (cond (eqb l l₀ && ltb e e₀) tie worse))
+judge hasLoss hasSpan loss span =
+    cond (eqb hasLoss none) unmet
+    (cond (ltb loss hasLoss) smaller
+    (cond (eqb loss hasLoss && ltb span hasSpan) tie worse))
 
--- Place p is offered loss l by span e: if not met it is inserted, a smaller loss lowers it, an equal one makes no call.
+-- What a place makes of an offer. It enters the queue when it is met, and its key falls with its loss; on a tie the
+-- table alone changes.
 unfoldable pub update : Verdict → ℕ → ℕ → ℕ → Search → Search
-update unmet p l e s =
+update unmet place loss span s =
     record {
-      queue = enter p l (s .queue);
-      best = set (s .best) p l;
-      last = set (s .last) p e;
-      calls = s .calls ++ (Yields (Insert 0 p l) ∷ []);
+      queue = enter place loss (s .queue);
+      best = set (s .best) place loss;
+      last = set (s .last) place span;
+      calls = s .calls ++ (Yields (Insert 0 place loss) ∷ []);
       examined = s .examined;
     }
-update smaller p l e s =
+update smaller place loss span s =
     record {
-      queue = lower p l (s .queue);
-      best = set (s .best) p l;
-      last = set (s .last) p e;
-      calls = s .calls ++ (Yields (DecreaseKey p l) ∷ []);
+      queue = lower place loss (s .queue);
+      best = set (s .best) place loss;
+      last = set (s .last) place span;
+      calls = s .calls ++ (Yields (DecreaseKey place loss) ∷ []);
       examined = s .examined;
     }
-update tie p l e s =
+update tie place loss span s =
     record {
       queue = s .queue;
       best = s .best;
-      last = set (s .last) p e;
+      last = set (s .last) place span;
       calls = s .calls;
       examined = s .examined;
     }
-update worse p l e s = s
+update worse place loss span s = s
 
+-- A place is offered a loss by a span: the edge is relaxed.
 unfoldable pub offer : ℕ → ℕ → ℕ → Search → Search
-offer p l e s = update (judge (bestAt s p) (lastAt s p) l e) p l e s
+offer place loss span s = update (judge (bestAt s place) (lastAt s place) loss span) place loss span s
 
 abbrev pub examine : Search → Search
 examine s =

@@ -20,7 +20,7 @@ use Rattle.paths.specs.Table.{Table}
 use Rattle.paths.specs.Queue.{Stop, halts, takes, next}
 use Rattle.paths.specs.Search.{Search, tried, extracted, steps, search, bestAt, find}
 use Rattle.paths.specs.Codes.{feedCode}
-use Rattle.paths.specs.Feed.{linksOf, cutsOf, Feed, feedResult}
+use Rattle.paths.specs.Feed.{linksOf, cutsOf, ResultLists, Feed, feedResult}
 
 -- ---- the table
 
@@ -129,13 +129,13 @@ pub record CodeZero : Type 0 where
 
 -- What a feed call that is done leaves: the feed table, an empty store, and the count of spans examined.
 pub record Right (m : Map) (r : Feed) : Type 0 where
-  pub table : Table m (r .best) (r .last)
-  pub store : r .store ≡ encode (empty (m .places))
-  pub examined : r .examined ≡ leavingReached m (r .best)
+  pub table : Table m (r .left .best) (r .left .last)
+  pub store : r .left .store ≡ encode (empty (m .places))
+  pub examined : r .examined ≡ leavingReached m (r .left .best)
   pub atMost : r .examined ≤ spans m
 
 abbrev pub FeedDone : Type 0
 FeedDone =
-    (m : Map) (best last store : List ℕ) →
-    let r : Feed = feedResult m best last store in
+    (m : Map) (lent : ResultLists) →
+    let r : Feed = feedResult m lent in
     r .code ≡ 0 → Right m r

@@ -2,67 +2,73 @@
 use Prim.Native.Nat.{ℕ, _+_, _≤_, _<_}
 use mathlib.Core.Path.{_≡_, refl, sym, ap, _∙_}
 use mathlib.Core.Logic.{_≢_}
-use mathlib.Core.List.{List}
+use mathlib.Core.List.{[], _∷_, _++_}
 use native.Mathlib.Omega.{arith}
-use lib.ListN.{getD, set}
+use lib.ListN.{length, getD, set}
+use Rattle.rules.specs.declared.Call.{Call}
 use Rattle.rules.specs.declared.Call.the-variants.{Insert, DecreaseKey}
-use Rattle.rules.specs.Forests.{none}
+use Rattle.rules.specs.declared.Line.the-variants.{Yields}
+use Rattle.rules.specs.Lists.{sumBy}
+use Rattle.rules.specs.Forests.{none, empty}
+use Rattle.rules.specs.Answers.{after}
+use Rattle.rules.specs.WellFormed.{WellFormed}
 use Rattle.rules.proofs.Default.{getD-any}
 use Rattle.rules.proofs.Sums.{sumBy-set}
-use Rattle.heap.specs.declared.Reply.{Reply}
-use Rattle.heap.specs.Performed.{Performed}
 use Rattle.relax.specs.declared.Progress.{Progress}
-use Rattle.paths.specs.Search.{Verdict, unmet, smaller, tie, worse, judge, update, offer}
-use Rattle.relax.specs.Advances.{InsertReady, OfferReady, Advances}
+use Rattle.paths.specs.Search.{Search, Verdict, unmet, smaller, tie, worse, judge, update, offer}
+use Rattle.paths.specs.Feed.{ResultLists, resultLists}
+use Rattle.relax.specs.Tracks.{Tracks}
+use Rattle.relax.specs.Advances.{OfferReady, Improved, Advances}
 use Rattle.paths.proofs.Judge.{judge-unmet, judge-smaller, judge-larger, judge-tie, judge-late}
 use Rattle.relax.proofs.Logged.{call-logged}
 
-module _ (p l e : ℕ) (best last store : List ℕ) (go : Progress) where
-  -- the progress with another tally, and with k places met
-  abbrev on : ℕ → Reply → Progress
-  on k reply = record { visited = go .visited; met = k; examined = go .examined; tally = reply .tally }
+module _ (p loss span : ℕ) (l : ResultLists) (go : Progress) where
+  -- A queue call for p, as the search logs it.
+  module _ (call : Call) (met : ℕ) (l′ : ResultLists) (r : Progress) (I : Improved call p loss span met l go l′ r) where
+    improved-tracks : {n out : ℕ} {s t : Search} → WellFormed (after (empty n) (s .calls)) → Tracks n out s l go
+        → t .best ≡ set (s .best) p loss → t .last ≡ set (s .last) p span
+        → t .calls ≡ s .calls ++ (Yields call ∷ []) → t .examined ≡ s .examined
+        → met ≡ out + sumBy (λ w. w) (t .queue .waits) → Tracks n out t l′ r
+    improved-tracks {n} {out} {s} {t} W H eb el ec ex em =
+        rw (I .progress)
+        (record {
+          best-is = I .best-is ∙ ap (λ b. set b p loss) (H .best-is) ∙ sym eb;
+          last-is = I .last-is ∙ ap (λ b. set b p span) (H .last-is) ∙ sym el;
+          logged =
+              rw ec
+              (call-logged n (s .calls) (l .store) (go .tally) (H .logged) W call (I .reply) (l′ .store)
+              (I .performed));
+          examined-is = H .examined-is ∙ sym ex;
+          met-is = em;
+        })
 
-  pub enter-advances : InsertReady p best last store go → (reply : Reply) (store′ : List ℕ)
-      → Performed store (Insert 0 p l) (go .tally) reply store′
-      → Advances p (update unmet p l e) best last store go (set best p l) (set last p e) store′ (on (go .met + 1) reply)
+  enter-advances : p < length (l .best) → getD (l .best) p 0 ≡ none → {l′ : ResultLists} {r : Progress}
+      → Improved (Insert 0 p loss) p loss span (go .met + 1) l go l′ r
+      → Advances p (update unmet p loss span) l go l′ r
   unfolding update
-  enter-advances E reply store′ P =
+  enter-advances i u {l′} {r} I =
       record {
-        visited-is = refl;
+        visited-is = ap (λ (q : Progress). q .visited) (I .progress);
         tracks =
             λ n out s O H.
             let z : getD (s .best) p none ≡ none =
-            rw (sym (H .best-is)) (getD-any best p none 0 (E .offer .inBest) ∙ E .isNone) in
-            record {
-              best-is = ap (λ b. set b p l) (H .best-is);
-              last-is = ap (λ b. set b p e) (H .last-is);
-              logged = call-logged n (s .calls) store (go .tally) (H .logged) (O .formed)
-                  (Insert 0 p l) reply store′ P;
-              examined-is = H .examined-is;
-              met-is =
-                  omega (arith, H .met-is, sumBy-set (λ w. w) (s .queue .waits) p 1 0 (O .inside), O .apart z);
-            };
+            rw (sym (H .best-is)) (getD-any (l .best) p none 0 i ∙ u) in
+            improved-tracks (Insert 0 p loss) (go .met + 1) l′ r I (O .formed) H refl refl refl refl
+            (omega (arith, H .met-is, sumBy-set (λ w. w) (s .queue .waits) p 1 0 (O .inside), O .apart z));
       }
 
-  pub lower-advances : (reply : Reply) (store′ : List ℕ) → Performed store (DecreaseKey p l) (go .tally) reply store′
-      → Advances p (update smaller p l e) best last store go (set best p l) (set last p e) store′ (on (go .met) reply)
+  lower-advances : {l′ : ResultLists} {r : Progress} → Improved (DecreaseKey p loss) p loss span (go .met) l go l′ r
+      → Advances p (update smaller p loss span) l go l′ r
   unfolding update
-  lower-advances reply store′ P =
+  lower-advances {l′} {r} I =
       record {
-        visited-is = refl;
+        visited-is = ap (λ (q : Progress). q .visited) (I .progress);
         tracks =
             λ n out s O H.
-            record {
-              best-is = ap (λ b. set b p l) (H .best-is);
-              last-is = ap (λ b. set b p e) (H .last-is);
-              logged = call-logged n (s .calls) store (go .tally) (H .logged) (O .formed)
-                  (DecreaseKey p l) reply store′ P;
-              examined-is = H .examined-is;
-              met-is = H .met-is;
-            };
+            improved-tracks (DecreaseKey p loss) (go .met) l′ r I (O .formed) H refl refl refl refl (H .met-is);
       }
 
-  tie-advances : Advances p (update tie p l e) best last store go best (set last p e) store go
+  tie-advances : Advances p (update tie p loss span) l go (resultLists (l .best) (set (l .last) p span) (l .store)) go
   unfolding update
   tie-advances =
       record {
@@ -71,81 +77,81 @@ module _ (p l e : ℕ) (best last store : List ℕ) (go : Progress) where
             λ n out s O H.
             record {
               best-is = H .best-is;
-              last-is = ap (λ b. set b p e) (H .last-is);
+              last-is = ap (λ b. set b p span) (H .last-is);
               logged = H .logged;
               examined-is = H .examined-is;
               met-is = H .met-is;
             };
       }
 
-  worse-moves : Advances p (update worse p l e) best last store go best last store go
+  worse-advances : Advances p (update worse p loss span) l go l go
   unfolding update
-  worse-moves = record { visited-is = refl; tracks = λ n out s O H. H }
+  worse-advances = record { visited-is = refl; tracks = λ n out s O H. H }
+
+  -- the loss and the span that the lists show p
+  abbrev hasLoss : ℕ
+  hasLoss = getD (l .best) p none
+
+  abbrev hasSpan : ℕ
+  hasSpan = getD (l .last) p none
 
   -- the verdict is that on the words of the lists
-  judged-advances : (v : Verdict) → judge (getD best p none) (getD last p none) l e ≡ v
-      → (best′ last′ store′ : List ℕ) (r : Progress)
-      → Advances p (update v p l e) best last store go best′ last′ store′ r
-      → Advances p (offer p l e) best last store go best′ last′ store′ r
+  judged-advances : (v : Verdict) → judge hasLoss hasSpan loss span ≡ v → {l′ : ResultLists} {r : Progress}
+      → Advances p (update v p loss span) l go l′ r → Advances p (offer p loss span) l go l′ r
   unfolding offer
-  judged-advances v q best′ last′ store′ r M =
+  judged-advances v q M =
       record {
         visited-is = M .visited-is;
         tracks =
             λ n out s O H.
-            let j : judge (getD (s .best) p none) (getD (s .last) p none) l e ≡ v =
+            let j : judge (getD (s .best) p none) (getD (s .last) p none) loss span ≡ v =
             rw (sym (H .best-is), sym (H .last-is)) q in
             rw j (M .tracks n out s O H);
       }
 
-  module _ (O : OfferReady p best last store go) where
+  module _ (O : OfferReady p l go) where
     -- the code reads a word as `getD .. 0`
-    best-word : getD best p none ≡ getD best p 0
-    best-word = getD-any best p none 0 (O .inBest)
+    best-word : hasLoss ≡ getD (l .best) p 0
+    best-word = getD-any (l .best) p none 0 (O .inBest)
 
-    last-word : getD last p none ≡ getD last p 0
-    last-word = getD-any last p none 0 (O .inLast)
+    last-word : hasSpan ≡ getD (l .last) p 0
+    last-word = getD-any (l .last) p none 0 (O .inLast)
 
     -- One law for each way out, in the order of the tests.
-    module _ (best′ last′ store′ : List ℕ) (r : Progress) where
-      pub offer-enters : getD best p 0 ≡ none → Advances p (update unmet p l e) best last store go best′ last′ store′ r
-          → Advances p (offer p l e) best last store go best′ last′ store′ r
-      offer-enters z M =
-          judged-advances unmet (judge-unmet (getD best p none) (getD last p none) l e (best-word ∙ z)) best′ last′
-          store′ r M
+    pub offer-enters : getD (l .best) p 0 ≡ none → {l′ : ResultLists} {r : Progress}
+        → Improved (Insert 0 p loss) p loss span (go .met + 1) l go l′ r → Advances p (offer p loss span) l go l′ r
+    offer-enters z I =
+        judged-advances unmet (judge-unmet hasLoss hasSpan loss span (best-word ∙ z))
+        (enter-advances (O .inBest) z I)
 
-      pub offer-lowers : getD best p 0 ≢ none → l < getD best p 0
-          → Advances p (update smaller p l e) best last store go best′ last′ store′ r
-          → Advances p (offer p l e) best last store go best′ last′ store′ r
-      offer-lowers z k M =
-          judged-advances smaller
-          (judge-smaller (getD best p none) (getD last p none) l e (λ q. z (sym best-word ∙ q))
-          (omega (arith, best-word)))
-          best′ last′ store′ r M
-
-    module _ (met : getD best p 0 ≢ none) (low : getD best p 0 ≤ l) where
-      met′ : getD best p none ≢ none
+    module _ (met : getD (l .best) p 0 ≢ none) where
+      met′ : hasLoss ≢ none
       met′ q = met (sym best-word ∙ q)
 
-      low′ : getD best p none ≤ l
-      low′ = omega (arith, best-word)
+      pub offer-lowers : loss < getD (l .best) p 0 → {l′ : ResultLists} {r : Progress}
+          → Improved (DecreaseKey p loss) p loss span (go .met) l go l′ r → Advances p (offer p loss span) l go l′ r
+      offer-lowers k I =
+          judged-advances smaller (judge-smaller hasLoss hasSpan loss span met′ (omega (arith, best-word)))
+          (lower-advances I)
 
-      pub offer-larger : getD best p 0 < l → Advances p (offer p l e) best last store go best last store go
-      offer-larger k =
-          judged-advances worse
-          (judge-larger (getD best p none) (getD last p none) l e met′ low′ (λ q. omega (arith, k, q, best-word)))
-          best last store go worse-moves
+      module _ (low : getD (l .best) p 0 ≤ loss) where
+        low′ : hasLoss ≤ loss
+        low′ = omega (arith, best-word)
 
-      pub offer-late : getD last p 0 ≤ e → Advances p (offer p l e) best last store go best last store go
-      offer-late k =
-          judged-advances worse
-          (judge-late (getD best p none) (getD last p none) l e met′ low′ (omega (arith, last-word)))
-          best last store go worse-moves
+        pub offer-larger : getD (l .best) p 0 < loss → Advances p (offer p loss span) l go l go
+        offer-larger k =
+            judged-advances worse
+            (judge-larger hasLoss hasSpan loss span met′ low′ (λ q. omega (arith, k, q, best-word))) worse-advances
 
-      pub offer-ties : l ≤ getD best p 0 → e < getD last p 0
-          → Advances p (offer p l e) best last store go best (set last p e) store go
-      offer-ties k i =
-          judged-advances tie
-          (judge-tie (getD best p none) (getD last p none) l e met′ low′ (omega (arith, low, k, best-word))
-          (omega (arith, last-word)))
-          best (set last p e) store go tie-advances
+        pub offer-late : getD (l .last) p 0 ≤ span → Advances p (offer p loss span) l go l go
+        offer-late k =
+            judged-advances worse (judge-late hasLoss hasSpan loss span met′ low′ (omega (arith, last-word)))
+            worse-advances
+
+        pub offer-ties : loss ≤ getD (l .best) p 0 → span < getD (l .last) p 0
+            → Advances p (offer p loss span) l go (resultLists (l .best) (set (l .last) p span) (l .store)) go
+        offer-ties k i =
+            judged-advances tie
+            (judge-tie hasLoss hasSpan loss span met′ low′ (omega (arith, low, k, best-word))
+            (omega (arith, last-word)))
+            tie-advances

@@ -9,7 +9,7 @@ use Rattle.rules.specs.Forests.{empty}
 use Rattle.rules.specs.Answers.{after}
 use Rattle.rules.specs.Words.{encode}
 use Rattle.paths.specs.Search.{Search}
-use Rattle.paths.specs.Feed.{linksOf, cutsOf}
+use Rattle.paths.specs.Feed.{linksOf, cutsOf, ResultLists}
 use Rattle.relax.specs.declared.Progress.{Progress}
 
 -- The store holds the forests that the calls leave, and the tally is theirs.
@@ -19,10 +19,10 @@ pub record Logged (n : ℕ) (calls : List Line) (store : List ℕ) (t : Tally) :
   pub cuts : t .cuts ≡ cutsOf n calls
 
 -- The result lists, the store and the progress are those of the search s; `out` places were taken.
-pub record Tracks (n out : ℕ) (s : Search) (best last store : List ℕ) (go : Progress) : Type 0 where
-  pub best-is : best ≡ s .best
-  pub last-is : last ≡ s .last
-  pub logged : Logged n (s .calls) store (go .tally)
+pub record Tracks (n out : ℕ) (s : Search) (l : ResultLists) (go : Progress) : Type 0 where
+  pub best-is : l .best ≡ s .best
+  pub last-is : l .last ≡ s .last
+  pub logged : Logged n (s .calls) (l .store) (go .tally)
   pub examined-is : go .examined ≡ s .examined
   pub met-is : go .met ≡ out + sumBy (λ w. w) (s .queue .waits)
 

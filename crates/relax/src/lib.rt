@@ -1,9 +1,10 @@
 // A span offers its end a loss, and the queue and the table follow (relaxation of an edge).
 ghost use mathlib.Core.Path.{_≡_};
 ghost use Prim.Native.Nat.{_+_, _<_};
-ghost use Rattle.paths.specs.Search.{unmet, smaller, update, offer};
+ghost use Rattle.paths.specs.Search.{offer};
+ghost use Rattle.paths.specs.Feed.{resultLists};
 ghost use Rattle.relax.specs.Tracks.{examineOne, visitOne};
-ghost use Rattle.relax.specs.Advances.{InsertReady, OfferReady, Advances};
+ghost use Rattle.relax.specs.Advances.{OfferReady, Improved, Advances};
 use heap::perform::perform;
 use rules::Call;
 use rules::Tally;
@@ -48,101 +49,77 @@ impl Progress {
     }
 }
 
-// Place p, not met before, is inserted with loss l, which span e gives it.
-fn enter(
+// A queue call is made for a place, and the table shows it the loss and the span.
+fn improve(
     best: &mut [u32],
     last: &mut [u32],
     store: &mut [u32],
-    p: u32,
-    l: u32,
-    e: u32,
+    call: Call,
+    place: u32,
+    loss: u32,
+    span: u32,
+    met: u32,
     go: Progress,
 ) -> Progress
-    requires { ⌜ InsertReady p (now best) (now last) (now store) go ⌝ }
-    ensures { λ r. ⌜ Advances p (update unmet p l e)
-        (now (best .entry)) (now (last .entry)) (now (store .entry)) go
-        (now (best .exit)) (now (last .exit)) (now (store .exit)) r ⌝ }
+    requires { ⌜ OfferReady place (resultLists (now best) (now last) (now store)) go ⌝ }
+    ensures { λ r. ⌜ Improved call place loss span met
+        (resultLists (now (best .entry)) (now (last .entry)) (now (store .entry))) go
+        (resultLists (now (best .exit)) (now (last .exit)) (now (store .exit))) r ⌝ }
 {
     let before = go.tally;
-    let reply = perform(
-        store,
-        Call::Insert {
-            heap: 0,
-            item: p,
-            key: l,
-        },
-        before,
-    );
-    let i = p as usize;
-    best[i] = l;
-    last[i] = e;
+    let reply = perform(store, call, before);
+    let i = place as usize;
+    best[i] = loss;
+    last[i] = span;
     let tally = reply.tally;
     Progress {
         visited: go.visited,
-        met: go.met + 1,
+        met,
         examined: go.examined,
         tally,
     }
 }
 
-// Place p, which waits, is lowered to loss l, which span e gives it.
-fn lower(
-    best: &mut [u32],
-    last: &mut [u32],
-    store: &mut [u32],
-    p: u32,
-    l: u32,
-    e: u32,
-    go: Progress,
-) -> Progress
-    requires { ⌜ OfferReady p (now best) (now last) (now store) go ⌝ }
-    ensures { λ r. ⌜ Advances p (update smaller p l e)
-        (now (best .entry)) (now (last .entry)) (now (store .entry)) go
-        (now (best .exit)) (now (last .exit)) (now (store .exit)) r ⌝ }
-{
-    let before = go.tally;
-    let reply = perform(store, Call::DecreaseKey { item: p, key: l }, before);
-    let i = p as usize;
-    best[i] = l;
-    last[i] = e;
-    let tally = reply.tally;
-    Progress {
-        visited: go.visited,
-        met: go.met,
-        examined: go.examined,
-        tally,
-    }
-}
-
-// Place p is offered loss l by span e. An equal loss makes no call, but a lower-numbered span is shown.
+// A place is offered a loss by a span. An equal loss makes no call, but a lower-numbered span is shown.
 pub fn offered(
     best: &mut [u32],
     last: &mut [u32],
     store: &mut [u32],
-    p: u32,
-    l: u32,
-    e: u32,
+    place: u32,
+    loss: u32,
+    span: u32,
     go: Progress,
 ) -> Progress
-    requires { ⌜ OfferReady p (now best) (now last) (now store) go ⌝ }
-    ensures { λ r. ⌜ Advances p (offer p l e)
-        (now (best .entry)) (now (last .entry)) (now (store .entry)) go
-        (now (best .exit)) (now (last .exit)) (now (store .exit)) r ⌝ }
+    requires { ⌜ OfferReady place (resultLists (now best) (now last) (now store)) go ⌝ }
+    ensures { λ r. ⌜ Advances place (offer place loss span)
+        (resultLists (now (best .entry)) (now (last .entry)) (now (store .entry))) go
+        (resultLists (now (best .exit)) (now (last .exit)) (now (store .exit))) r ⌝ }
 {
-    let i = p as usize;
-    let known = best[i];
-    if known == NONE {
-        return enter(best, last, store, p, l, e, go);
+    let i = place as usize;
+    let has_loss = best[i];
+    if has_loss == NONE {
+        let call = Call::Insert {
+            heap: 0,
+            item: place,
+            key: loss,
+        };
+        let met = go.met + 1;
+        return improve(best, last, store, call, place, loss, span, met, go);
     }
-    if l < known {
-        return lower(best, last, store, p, l, e, go);
+    if loss < has_loss {
+        let call = Call::DecreaseKey {
+            item: place,
+            key: loss,
+        };
+        return improve(best, last, store, call, place, loss, span, go.met, go);
     }
-    if known < l {
+    if has_loss < loss {
         return go;
     }
-    if last[i] <= e {
+    let has_span = last[i];
+    if has_span <= span {
         return go;
     }
-    last[i] = e;
+    last[i] = span;
     go
 }

@@ -8,7 +8,7 @@ use lib.Dec.{leb}
 use borrow.Author.Tests.{eq-eqb, ne-eqb, lt-ltb, le-ltb, le-leb, lt-leb}
 use Rattle.rules.specs.Words.{storeSize}
 use Rattle.paths.specs.Map.{Map, spans}
-use Rattle.paths.specs.Codes.{spansCode, spanLists, resultLists, feedCode}
+use Rattle.paths.specs.Codes.{spansCode, spanListsFit, resultListsFit, feedCode}
 
 module _ (m : Map) (bestN lastN storeN : ℕ) where
   abbrev n : ℕ
@@ -19,10 +19,10 @@ module _ (m : Map) (bestN lastN storeN : ℕ) where
 
   -- what is left of the tests from 15, 16 and 17 on
   abbrev from-17 : ℕ
-  from-17 = cond (not (resultLists m bestN lastN storeN)) 17 (spansCode n (m .from) (m .to) (m .loss))
+  from-17 = cond (not (resultListsFit n bestN lastN storeN)) 17 (spansCode n (m .lists))
 
   abbrev from-16 : ℕ
-  from-16 = cond (not (spanLists m)) 16 from-17
+  from-16 = cond (not (spanListsFit (m .lists))) 16 from-17
 
   abbrev from-15 : ℕ
   from-15 = cond (leb n (m .start)) 15 from-16
@@ -47,20 +47,25 @@ module _ (m : Map) (bestN lastN storeN : ℕ) where
       past-15 : code ≡ from-16
       past-15 = rw (past-14, lt-leb n (m .start) startIn)
 
-      pub code-to : length (m .to) ≢ spans m → 16 ≡ code
-      code-to h = rw (past-15, ne-eqb (length (m .to)) (spans m) h)
+      pub code-to : length (m .lists .to) ≢ spans m → 16 ≡ code
+      code-to h = rw (past-15, ne-eqb (length (m .lists .to)) (spans m) h)
 
-      module _ (toN : length (m .to) ≡ spans m) where
-        pub code-loss : length (m .loss) ≢ spans m → 16 ≡ code
-        code-loss h = rw (past-15, eq-eqb (length (m .to)) (spans m) toN, ne-eqb (length (m .loss)) (spans m) h)
+      module _ (toN : length (m .lists .to) ≡ spans m) where
+        pub code-loss : length (m .lists .loss) ≢ spans m → 16 ≡ code
+        code-loss h =
+            rw (
+              past-15,
+              eq-eqb (length (m .lists .to)) (spans m) toN,
+              ne-eqb (length (m .lists .loss)) (spans m) h,
+            )
 
-        module _ (lossN : length (m .loss) ≡ spans m) where
+        module _ (lossN : length (m .lists .loss) ≡ spans m) where
           pub code-long : 16384 < spans m → 16 ≡ code
           code-long h =
               rw (
                 past-15,
-                eq-eqb (length (m .to)) (spans m) toN,
-                eq-eqb (length (m .loss)) (spans m) lossN,
+                eq-eqb (length (m .lists .to)) (spans m) toN,
+                eq-eqb (length (m .lists .loss)) (spans m) lossN,
                 lt-leb (spans m) 16384 h,
               )
 
@@ -69,8 +74,8 @@ module _ (m : Map) (bestN lastN storeN : ℕ) where
             past-16 =
                 rw (
                   past-15,
-                  eq-eqb (length (m .to)) (spans m) toN,
-                  eq-eqb (length (m .loss)) (spans m) lossN,
+                  eq-eqb (length (m .lists .to)) (spans m) toN,
+                  eq-eqb (length (m .lists .loss)) (spans m) lossN,
                   le-leb (spans m) 16384 short,
                 )
 
@@ -86,7 +91,7 @@ module _ (m : Map) (bestN lastN storeN : ℕ) where
                 code-store h =
                     rw (past-16, eq-eqb bestN n best, eq-eqb lastN n last, ne-eqb storeN (storeSize n) h)
 
-                pub code-spans : storeN ≡ storeSize n → (c : ℕ) → c ≡ spansCode n (m .from) (m .to) (m .loss)
+                pub code-spans : storeN ≡ storeSize n → (c : ℕ) → c ≡ spansCode n (m .lists)
                     → c ≡ code
                 code-spans h c q =
                     rw (past-16, eq-eqb bestN n best, eq-eqb lastN n last, eq-eqb storeN (storeSize n) h) q

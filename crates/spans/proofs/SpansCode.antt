@@ -7,11 +7,12 @@ use native.Mathlib.Omega.{arith}
 use native.Mathlib.Numerals.{add-one}
 use lib.ListN.{getD}
 use borrow.Author.Tests.{ne-eqb}
+use Rattle.paths.specs.Map.{SpanLists}
 use Rattle.paths.specs.Codes.{fault, previous, spanCode, codeBelow}
 
-module _ (n : ℕ) (from to loss : List ℕ) where
+module _ (places : ℕ) (l : SpanLists) where
   abbrev code : ℕ → ℕ
-  code k = codeBelow n from to loss k
+  code k = codeBelow places l k
 
   -- a fault once met stays the answer
   code-stays : (k d j : ℕ) → j ≡ k + d → code k ≢ 0 → code j ≡ code k
@@ -24,8 +25,8 @@ module _ (n : ℕ) (from to loss : List ℕ) where
 
   -- One turn of a loop: the spans below e are not faulty, and c is the code of span e.
   module _
-      (e b t l c : ℕ) (z : code e ≡ 0) (qb : b ≡ previous from e) (qt : t ≡ getD to e 0) (ql : l ≡ getD loss e 0)
-      (r : c ≡ fault n (getD from e 0) t l b) where
+      (e before to loss c : ℕ) (z : code e ≡ 0) (qb : before ≡ previous (l .from) e) (qt : to ≡ getD (l .to) e 0)
+      (ql : loss ≡ getD (l .loss) e 0) (r : c ≡ fault places (getD (l .from) e 0) to loss before) where
     turn-code : code (suc e) ≡ c
     unfolding codeBelow spanCode
     turn-code = rw (z, sym qb, sym qt, sym ql) (sym r)

@@ -1,7 +1,7 @@
 // The codes of a feed call, in the order in which they are tested.
 ghost use mathlib.Core.Path.{_≡_};
 ghost use lib.ListN.{getD};
-ghost use Rattle.paths.specs.Map.{mapOf};
+ghost use Rattle.paths.specs.Map.{spanLists, mapOf};
 ghost use Rattle.paths.specs.Codes.{fault, spansCode, feedCode};
 use store::size_for;
 
@@ -15,23 +15,23 @@ fn word_or_zero(list: &[u32], i: usize) -> u32
     0
 }
 
-// The fault of a span from f to t at loss l, after one from b, of a map with n places: 18, 19, 20, or 0.
-fn fault_of(n: u32, f: u32, t: u32, l: u32, b: u32) -> u32
-    ensures { λ r. ⌜ r ≡ fault n f t l b ⌝ }
+// The fault of a span, 18, 19, 20, or 0; `before` is the from of the span before it.
+fn fault_of(places: u32, from: u32, to: u32, loss: u32, before: u32) -> u32
+    ensures { λ r. ⌜ r ≡ fault places from to loss before ⌝ }
 {
-    if n <= f {
+    if places <= from {
         return 18;
     }
-    if n <= t {
+    if places <= to {
         return 18;
     }
-    if l == 0 {
+    if loss == 0 {
         return 19;
     }
-    if 1000000 < l {
+    if 1000000 < loss {
         return 19;
     }
-    if f < b {
+    if from < before {
         return 20;
     }
     0
@@ -39,17 +39,24 @@ fn fault_of(n: u32, f: u32, t: u32, l: u32, b: u32) -> u32
 
 // The code of the lowest-numbered faulty span, or 0.
 fn spans_code(places: u32, from: &[u32], to: &[u32], loss: &[u32]) -> u32
-    ensures { λ r. ⌜ r ≡ spansCode places (now (from .entry)) (now (to .entry)) (now (loss .entry)) ⌝ }
+    ensures { λ r. ⌜ r ≡ spansCode places
+        (spanLists (now (from .entry)) (now (to .entry)) (now (loss .entry))) ⌝ }
 {
     let mut e = 0;
-    let mut b = 0;
+    let mut before = 0;
     while e < from.len() {
-        let f = from[e];
-        let c = fault_of(places, f, word_or_zero(to, e), word_or_zero(loss, e), b);
-        if c != 0 {
-            return c;
+        let span_from = from[e];
+        let code = fault_of(
+            places,
+            span_from,
+            word_or_zero(to, e),
+            word_or_zero(loss, e),
+            before,
+        );
+        if code != 0 {
+            return code;
         }
-        b = f;
+        before = span_from;
         e += 1;
     }
     0
@@ -66,7 +73,8 @@ pub fn feed_code(
     last: usize,
     store: usize,
 ) -> u32
-    ensures { λ r. ⌜ r ≡ feedCode (mapOf places start (now (from .entry)) (now (to .entry)) (now (loss .entry)))
+    ensures { λ r. ⌜ r ≡ feedCode
+        (mapOf places start (spanLists (now (from .entry)) (now (to .entry)) (now (loss .entry))))
         best last store ⌝ }
 {
     if places == 0 {

@@ -1,6 +1,7 @@
 -- `answer_feed` meets its contract.
 use native.Mathlib.Omega.{arith}
-use Rattle.paths.specs.Map.{mapOf}
+use Rattle.paths.specs.Map.{spanLists, mapOf}
+use Rattle.paths.specs.Feed.{resultLists}
 use Rattle.feed.proofs.Fields.{field-11}
 use Rattle.feed.proofs.FeedShown.{shows-refused, table-ready, figures-room, shows-done}
 use borrow.Author.Needs.{needs}
@@ -14,7 +15,7 @@ put-field-requires : tie.Need-put-field-requires
 put-field-requires c κs =
     let at-feed = c .before .before .before .before .before .before .before .before in
     let start = at-feed .before .before .before .before .before .before .before .before .before .before .before in
-    omega (arith, field-11 (at-feed .feed .result .code) 10 (search needs), start .pre .1)
+    omega (arith, field-11 (at-feed .feed .result .code) 10 (search needs), start .pre)
 
 same-length : tie.Need-same-length
 same-length c = search needs
@@ -34,16 +35,16 @@ returns c =
     let at-if1 = at-put-field .before .before in
     let at-feed = at-if1 .before .before .before .before .before .before .before in
     let start = at-feed .before .before .before .before .before .before .before .before .before .before .before in
-    shows-refused (mapOf _ _ _ _ _) _ _ _ _ _ _ _ (at-feed .feed .ensures) (at-if1 .if1 .taken) (search needs) _
-    (start .pre .1) _ _ (at-put-field .put-field .ensures)
+    shows-refused (mapOf _ _ (spanLists _ _ _)) (resultLists _ _ _) _ (resultLists _ _ _) (at-feed .feed .ensures)
+    (at-if1 .if1 .taken) (search needs) _ (start .pre) _ _ (at-put-field .put-field .ensures)
 
 put-table-requires : tie.Need-put-table-requires
 put-table-requires c κs =
     let at-if1 = c .before .before .before in
     let at-feed = at-if1 .before .before .before .before .before .before .before in
     let start = at-feed .before .before .before .before .before .before .before .before .before .before .before in
-    table-ready (mapOf _ _ _ _ _) _ _ _ _ _ _ _ (at-feed .feed .ensures) (at-if1 .if1 .left) (start .pre .0) _
-    (start .pre .1)
+    table-ready (mapOf _ _ (spanLists _ _ _)) (resultLists _ _ _) _ (resultLists _ _ _) (at-feed .feed .ensures)
+    (at-if1 .if1 .left) (search needs) _ (start .pre)
 
 put-figures-requires : tie.Need-put-figures-requires
 put-figures-requires c κs =
@@ -51,8 +52,8 @@ put-figures-requires c κs =
     let at-if1 = at-put-table .before .before .before .before in
     let at-feed = at-if1 .before .before .before .before .before .before .before in
     let start = at-feed .before .before .before .before .before .before .before .before .before .before .before in
-    figures-room (mapOf _ _ _ _ _) _ _ _ _ _ _ _ (at-feed .feed .ensures) (at-if1 .if1 .left) (start .pre .0) _
-    (start .pre .1) _ _ (at-put-table .put-table .ensures)
+    figures-room (mapOf _ _ (spanLists _ _ _)) (resultLists _ _ _) _ (resultLists _ _ _) (at-feed .feed .ensures)
+    (at-if1 .if1 .left) (search needs) _ (start .pre) _ _ (at-put-table .put-table .ensures)
 
 same-length-5 : tie.Need-same-length-5
 same-length-5 c = search needs
@@ -73,8 +74,9 @@ returns-2 c =
     let at-if1 = at-put-table .before .before .before .before in
     let at-feed = at-if1 .before .before .before .before .before .before .before in
     let start = at-feed .before .before .before .before .before .before .before .before .before .before .before in
-    shows-done (mapOf _ _ _ _ _) _ _ _ _ _ _ _ (at-feed .feed .ensures) (at-if1 .if1 .left) (start .pre .0) _
-    (start .pre .1) _ _ (at-put-table .put-table .ensures) _ _ (at-put-figures .put-figures .ensures)
+    shows-done (mapOf _ _ (spanLists _ _ _)) (resultLists _ _ _) _ (resultLists _ _ _) (at-feed .feed .ensures)
+    (at-if1 .if1 .left) (search needs) _ (start .pre) _ _ (at-put-table .put-table .ensures) _ _
+    (at-put-figures .put-figures .ensures)
 
 pub answer-feed-spec : {M : Type 1} → statement M
 answer-feed-spec =

@@ -1,7 +1,6 @@
 -- `main` is safe and ends. The bytes that it prints are within the output.
 use mathlib.Core.Path.{sym}
 use lib.Seq.{length-take-le}
-use Rattle.rules.specs.Words.{storeSize}
 use borrow.Author.Needs.{needs}
 use Rattle.feed.proofs.main.Statement.{statement}
 use Rattle.feed.proofs.main.Tie as tie
@@ -15,41 +14,20 @@ read-full-requires c κs = search needs
 array-share-prefix-text : tie.Need-array-share-prefix-text
 array-share-prefix-text c = search needs
 
-slice-aggregate-answer-map : tie.Need-slice-aggregate-answer-map
-slice-aggregate-answer-map c = search needs
+slice-aggregate-answer-text : tie.Need-slice-aggregate-answer-text
+slice-aggregate-answer-text c = search needs
 
-slice-aggregate-answer-map-2 : tie.Need-slice-aggregate-answer-map-2
-slice-aggregate-answer-map-2 c = search needs
+slice-aggregate-answer-text-2 : tie.Need-slice-aggregate-answer-text-2
+slice-aggregate-answer-text-2 c = search needs
 
-slice-aggregate-answer-map-3 : tie.Need-slice-aggregate-answer-map-3
-slice-aggregate-answer-map-3 c = search needs
-
-slice-aggregate-answer-map-4 : tie.Need-slice-aggregate-answer-map-4
-slice-aggregate-answer-map-4 c = search needs
-
-slice-aggregate-answer-map-5 : tie.Need-slice-aggregate-answer-map-5
-slice-aggregate-answer-map-5 c = search needs
-
-slice-aggregate-answer-map-6 : tie.Need-slice-aggregate-answer-map-6
-slice-aggregate-answer-map-6 c = search needs
-
-slice-aggregate-answer-map-7 : tie.Need-slice-aggregate-answer-map-7
-slice-aggregate-answer-map-7 c = search needs
-
-slice-aggregate-answer-map-8 : tie.Need-slice-aggregate-answer-map-8
-slice-aggregate-answer-map-8 c = search needs
-
-answer-map-requires : tie.Need-answer-map-requires
-unfolding storeSize
-answer-map-requires c κs = search needs
+answer-text-requires : tie.Need-answer-text-requires
+answer-text-requires c κs = search needs
 
 array-share-prefix-out : tie.Need-array-share-prefix-out
 array-share-prefix-out c = search needs
 
 slice-aggregate-write-all : tie.Need-slice-aggregate-write-all
-slice-aggregate-write-all c =
-    sym (length-take-le _ _
-    (c .before .before .before .before .before .before .before .before .answer-map .ensures .within))
+slice-aggregate-write-all c = sym (length-take-le _ _ (c .before .before .answer-text .ensures .within))
 
 write-all-requires : tie.Need-write-all-requires
 write-all-requires c κs = search needs
@@ -64,15 +42,9 @@ main-spec =
     slice-aggregate-read-full
     read-full-requires
     array-share-prefix-text
-    slice-aggregate-answer-map
-    slice-aggregate-answer-map-2
-    slice-aggregate-answer-map-3
-    slice-aggregate-answer-map-4
-    slice-aggregate-answer-map-5
-    slice-aggregate-answer-map-6
-    slice-aggregate-answer-map-7
-    slice-aggregate-answer-map-8
-    answer-map-requires
+    slice-aggregate-answer-text
+    slice-aggregate-answer-text-2
+    answer-text-requires
     array-share-prefix-out
     slice-aggregate-write-all
     write-all-requires

@@ -1,4 +1,5 @@
 -- `finder::begin_search` meets its contract.
+use Rattle.paths.specs.Feed.{resultLists}
 use Rattle.finder.proofs.Beginning.{begin-ready, begun}
 use borrow.Author.Needs.{needs}
 use Rattle.finder.proofs.begin_search.Statement.{statement}
@@ -19,7 +20,7 @@ perform-requires c κs =
     let back-14 =
     at-make-empty .before .before .before .before .before .before .before .before .before .before .before in
     let start = back-14 .before .before in
-    begin-ready _ _ _ _ _ (start .pre) _ (at-make-empty .make-empty .ensures)
+    begin-ready _ _ (resultLists _ _ _) (start .pre) _ (at-make-empty .make-empty .ensures)
 
 mul-best : tie.Need-mul-best
 mul-best c = search needs
@@ -43,7 +44,7 @@ returns c =
     let at-fill2 = at-make-empty .before .before .before .before in
     let at-fill = at-fill2 .before .before .before .before in
     let start = at-fill .before .before .before .before .before in
-    begun _ _ _ _ _ (start .pre) _ _ _ (at-fill .fill .ensures) (at-fill2 .fill2 .ensures)
+    begun _ _ (resultLists _ _ _) (start .pre) _ _ _ (at-fill .fill .ensures) (at-fill2 .fill2 .ensures)
     (at-make-empty .make-empty .ensures) _ _ (at-perform .perform .ensures)
 
 pub begin-search-spec : {M : Type 1} → statement M

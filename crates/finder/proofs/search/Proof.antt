@@ -4,7 +4,8 @@ use mathlib.Core.Path.{_≡_, refl}
 use native.Mathlib.Omega.{arith}
 use borrow.Author.Needs.{needs}
 use lib.ListN.{length}
-use Rattle.paths.specs.Map.{mapOf}
+use Rattle.paths.specs.Map.{spanLists, mapOf}
+use Rattle.paths.specs.Feed.{resultLists}
 use Rattle.finder.specs.SearchState.{Stands}
 use Rattle.finder.proofs.OwnSpans.{sorted}
 use Rattle.finder.proofs.Searching.{goes-on, goes-below, stands-found}
@@ -13,8 +14,8 @@ use Rattle.finder.proofs.search.Tie as tie
 
 abbrev Inv-loop : tie.InvT-loop
 Inv-loop places from to loss best₀ last₀ store₀ index go₀ best last store go =
-    ((start : ℕ) → Stands (mapOf places start from to loss) best₀ last₀ store₀ go₀
-    → Stands (mapOf places start from to loss) best last store go)
+    ((start : ℕ) → Stands (mapOf places start (spanLists from to loss)) (resultLists best₀ last₀ store₀) go₀
+    → Stands (mapOf places start (spanLists from to loss)) (resultLists best last store) go)
     × (length best ≡ length best₀) × (length last ≡ length last₀) × (length store ≡ length store₀)
 
 abbrev μ-loop : tie.MeasureT-loop
@@ -23,7 +24,7 @@ abbrev μ-loop : tie.MeasureT-loop
 index-spans-requires : tie.Need-index-spans-requires Inv-loop μ-loop
 index-spans-requires c κs =
     let A = c .before .before .before .before .before .before .before .pre .1 .accepted in
-    record { sorted = sorted (mapOf _ _ _ _ _) A; short = A .short; few = A .few; long = refl }
+    record { sorted = sorted (mapOf _ _ (spanLists _ _ _)) A; short = A .short; few = A .few; long = refl }
 
 loop-holds : tie.Need-loop-holds Inv-loop μ-loop
 loop-holds c = (λ start S. S, refl, refl, refl)
@@ -69,7 +70,7 @@ same-length-3 c = c .before .before .loop .inv .3
 
 returns : tie.Need-returns Inv-loop μ-loop
 returns c = λ start S.
-    stands-found _ _ _ _ _ (c .before .before .loop .inv .0 start S) (c .if1 .left)
+    stands-found _ (resultLists _ _ _) _ (c .before .before .loop .inv .0 start S) (c .if1 .left)
 
 pub search-spec : {M : Type 1} → statement M
 search-spec =

@@ -1,4 +1,5 @@
 -- `read_map` meets its contract.
+use Rattle.paths.specs.Map.{spanLists}
 use Rattle.mapfile.specs.Read.{readMap}
 use Rattle.host.proofs.Returned.{read-returns}
 use borrow.Author.Needs.{needs}
@@ -19,7 +20,8 @@ same-length-3 c = search needs
 
 returns : tie.Need-returns
 returns c =
-    read-returns (readMap _ _ _ _) (c .before .before .before .before .before .before .before .read .ensures)
+    read-returns (readMap _ (spanLists _ _ _)) {left = spanLists _ _ _}
+    (c .before .before .before .before .before .before .before .read .ensures)
 
 pub read-map-spec : {M : Type 1} → statement M
 read-map-spec = tie.close (tie.spec read-requires same-length same-length-2 same-length-3 returns)

@@ -5,7 +5,7 @@ use native.Mathlib.Omega.{arith}
 use borrow.Author.Needs.{needs}
 use lib.ListN.{length}
 use Rattle.mapfile.proofs.LineAt.{line-within}
-use Rattle.mapfile.proofs.Filling.{Stored, none-stored, all-stored, place-in, one-stored}
+use Rattle.mapfile.proofs.Filling.{Stored, none-stored, place-in, one-stored, all-spans}
 use Rattle.mapfile.proofs.fill.Statement.{statement}
 use Rattle.mapfile.proofs.fill.Tie as tie
 
@@ -106,11 +106,7 @@ same-length-3 c = c .before .loop .inv .2 .same
 returns : tie.Need-returns Inv-loop μ-loop
 returns c =
     let i = c .before .loop .inv in
-    record {
-      from-is = all-stored (i .0) (omega arith);
-      to-is = all-stored (i .1) (omega arith);
-      loss-is = all-stored (i .2) (omega arith);
-    }
+    all-spans (i .0) (i .1) (i .2) (omega arith)
 
 pub fill-spec : {M : Type 1} → statement M
 fill-spec =

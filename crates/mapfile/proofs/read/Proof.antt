@@ -1,7 +1,8 @@
 -- `mapfile::read` meets its contract: one law for each way out.
 use native.Mathlib.Omega.{arith}
+use Rattle.paths.specs.Map.{spanLists}
 use Rattle.mapfile.proofs.LineAt.{line-within}
-use Rattle.mapfile.proofs.Ways.{refuses, as-read, too-long, bad-head, good-head}
+use Rattle.mapfile.proofs.Ways.{refuses, too-long, bad-head, good-head}
 use borrow.Author.Needs.{needs}
 use Rattle.mapfile.proofs.read.Statement.{statement}
 use Rattle.mapfile.proofs.read.Tie as tie
@@ -10,7 +11,7 @@ refuse-requires : tie.Need-refuse-requires
 refuse-requires c κs = search needs
 
 returns : tie.Need-returns
-returns c = refuses 21 (too-long _ _ _ _ (c .before .if1 .taken)) (c .refuse .ensures)
+returns c = refuses 21 (too-long _ (spanLists _ _ _) (omega arith)) (c .refuse .ensures)
 
 line-end-requires : tie.Need-line-end-requires
 line-end-requires c κs = search needs
@@ -38,7 +39,7 @@ returns-2 c =
     let n = c .before .before in
     let w = n .before .before in
     refuses 21
-    (bad-head _ _ _ _ (w .before .if1 .left) _ (w .line-end .ensures) _ (n .line-numbers .ensures)
+    (bad-head _ (spanLists _ _ _) _ (w .line-end .ensures) _ (n .line-numbers .ensures)
     (c .before .match .keys2))
     (c .refuse2 .ensures)
 
@@ -49,7 +50,11 @@ add-read-spans c =
     search needs
 
 read-spans-requires : tie.Need-read-spans-requires
-read-spans-requires c κs = search needs
+read-spans-requires c κs =
+    let h = c .before .before .before .before in
+    let n = h .before .before in
+    let w = n .before .before in
+    good-head _ (omega arith) _ (w .line-end .ensures) _ _ _ (n .line-numbers .ensures) (h .head .given .1)
 
 same-length : tie.Need-same-length
 same-length c = search needs
@@ -61,15 +66,7 @@ same-length-3 : tie.Need-same-length-3
 same-length-3 c = search needs
 
 returns-3 : tie.Need-returns-3
-returns-3 c =
-    let r = c .before .before .before .before .before .before in
-    let h = r .before .before .before .before .before in
-    let n = h .before .before in
-    let w = n .before .before in
-    as-read
-    (good-head _ _ _ _ (w .before .if1 .left) _ (w .line-end .ensures) _ _ _ (n .line-numbers .ensures)
-    (h .head .given .1))
-    (r .read-spans .ensures)
+returns-3 c = c .before .before .before .before .before .before .read-spans .ensures
 
 pub read-spec : {M : Type 1} → statement M
 read-spec =

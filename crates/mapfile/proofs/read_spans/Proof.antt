@@ -1,5 +1,6 @@
 -- `mapfile::read_spans` meets its contract: one law for each way out.
 use mathlib.Core.Path.{sym, _∙_}
+use Rattle.paths.specs.Map.{spanLists}
 use Rattle.mapfile.proofs.Ways.{
   refuses,
   bad-spans,
@@ -27,8 +28,10 @@ refuse-requires c κs = search needs
 
 returns : tie.Need-returns
 returns c =
-    let told = sym (c .before .enum-told .given .1) ∙ c .before .before .before .count-spans .ensures in
-    refuses 21 (bad-spans _ _ _ _ _ _ told) (c .refuse .ensures)
+    let w = c .before .before .before in
+    let start = w .before .before .before .before .before in
+    let told = sym (c .before .enum-told .given .1) ∙ w .count-spans .ensures in
+    refuses 21 (bad-spans (start .pre) _ told) (c .refuse .ensures)
 
 refuse-requires-2 : tie.Need-refuse-requires-2
 refuse-requires-2 c κs = search needs
@@ -36,8 +39,9 @@ refuse-requires-2 c κs = search needs
 returns-2 : tie.Need-returns-2
 returns-2 c =
     let w = c .before .before .before in
+    let start = w .before .before .before .before .before .before .before in
     let n = sym (w .spans .given .1) ∙ w .before .before .count-spans .ensures in
-    refuses 16 (to-differs _ _ _ _ _ _ _ n (c .before .if1 .taken)) (c .refuse2 .ensures)
+    refuses 16 (to-differs (start .pre) (spanLists _ _ _) _ n (c .before .if1 .taken)) (c .refuse2 .ensures)
 
 refuse-requires-3 : tie.Need-refuse-requires-3
 refuse-requires-3 c κs = search needs
@@ -45,8 +49,9 @@ refuse-requires-3 c κs = search needs
 returns-3 : tie.Need-returns-3
 returns-3 c =
     let w = c .before .before .before .before in
+    let start = w .before .before .before .before .before .before .before in
     let n = sym (w .spans .given .1) ∙ w .before .before .count-spans .ensures in
-    refuses 16 (loss-differs _ _ _ _ _ _ _ n (c .before .before .if1 .left) (c .before .if2 .taken))
+    refuses 16 (loss-differs (start .pre) (spanLists _ _ _) _ n (c .before .before .if1 .left) (c .before .if2 .taken))
     (c .refuse3 .ensures)
 
 cast-if3 : tie.Need-cast-if3
@@ -59,16 +64,19 @@ returns-4 : tie.Need-returns-4
 returns-4 c =
     let t = c .before .before in
     let w = c .before .before .before .before .before in
+    let start = w .before .before .before .before .before .before .before in
     let n = sym (w .spans .given .1) ∙ w .before .before .count-spans .ensures in
-    refuses 16 (no-room _ _ _ _ _ _ _ n (t .before .if1 .left) (t .if2 .left) (c .before .if3 .taken))
+    refuses 16
+    (no-room (start .pre) (spanLists _ _ _) _ n (t .before .if1 .left) (t .if2 .left) (c .before .if3 .taken))
     (c .refuse4 .ensures)
 
 fill-requires : tie.Need-fill-requires
 fill-requires c κs =
     let t = c .before .before .before in
     let w = t .before .before .before .before in
+    let start = w .before .before .before .before .before .before .before in
     let n = sym (w .spans .given .1) ∙ w .before .before .count-spans .ensures in
-    has-room _ _ _ _ _ n (t .before .before .if1 .left) (t .before .if2 .left) (t .if3 .left)
+    has-room (start .pre) (spanLists _ _ _) _ n (t .before .before .if1 .left) (t .before .if2 .left) (t .if3 .left)
 
 same-length : tie.Need-same-length
 same-length c = search needs
@@ -84,8 +92,10 @@ returns-5 c =
     let f = c .before .before .before .before .before .before in
     let t = f .before .before .before .before in
     let w = t .before .before .before .before in
+    let start = w .before .before .before .before .before .before .before in
     let n = sym (w .spans .given .1) ∙ w .before .before .count-spans .ensures in
-    all-filled _ _ _ _ _ _ _ n (t .before .before .if1 .left) (t .before .if2 .left) (t .if3 .left) _ _ _
+    all-filled (start .pre) (spanLists _ _ _) _ n (t .before .before .if1 .left) (t .before .if2 .left) (t .if3 .left)
+    (spanLists _ _ _)
     (f .fill .ensures)
 
 pub read-spans-spec : {M : Type 1} → statement M

@@ -1,17 +1,21 @@
 -- `relax::offered` meets its contract: one law for each way out.
+use Rattle.paths.specs.Feed.{resultLists}
 use Rattle.relax.proofs.Relaxing.{offer-enters, offer-lowers, offer-larger, offer-late, offer-ties}
 use borrow.Author.Needs.{needs}
 use Rattle.relax.proofs.offered.Statement.{statement}
 use Rattle.relax.proofs.offered.Tie as tie
 
-mul-known : tie.Need-mul-known
-mul-known c = search needs
+mul-has-loss : tie.Need-mul-has-loss
+mul-has-loss c = search needs
 
-slice-read-known : tie.Need-slice-read-known
-slice-read-known c = search needs
+slice-read-has-loss : tie.Need-slice-read-has-loss
+slice-read-has-loss c = search needs
 
-enter-requires : tie.Need-enter-requires
-enter-requires c κs = search needs
+add-met : tie.Need-add-met
+add-met c = search needs
+
+improve-requires : tie.Need-improve-requires
+improve-requires c κs = search needs
 
 same-length : tie.Need-same-length
 same-length c = search needs
@@ -24,13 +28,14 @@ same-length-3 c = search needs
 
 returns : tie.Need-returns
 returns c =
-    let at-enter = c .before .before .before .before .before .before in
-    let at-if1 = at-enter .before .before .before .before in
+    let at-improve = c .before .before .before .before .before .before in
+    let at-if1 = at-improve .before .before .before .before .before in
     let start = at-if1 .before .before .before .before .before in
-    offer-enters _ _ _ _ _ _ _ (start .pre) _ _ _ _ (at-if1 .if1 .taken) (at-enter .enter .ensures)
+    offer-enters _ _ _ (resultLists _ _ _) _ (start .pre) (at-if1 .if1 .taken) {l′ = resultLists _ _ _}
+    (at-improve .improve .ensures)
 
-lower-requires : tie.Need-lower-requires
-lower-requires c κs = search needs
+improve-requires-2 : tie.Need-improve-requires-2
+improve-requires-2 c κs = search needs
 
 same-length-4 : tie.Need-same-length-4
 same-length-4 c = search needs
@@ -43,28 +48,31 @@ same-length-6 c = search needs
 
 returns-2 : tie.Need-returns-2
 returns-2 c =
-    let at-lower = c .before .before .before .before .before .before in
-    let at-if2 = at-lower .before .before .before .before in
+    let at-improve = c .before .before .before .before .before .before in
+    let at-if2 = at-improve .before .before .before .before in
     let at-if1 = at-if2 .before in
     let start = at-if1 .before .before .before .before .before in
-    offer-lowers _ _ _ _ _ _ _ (start .pre) _ _ _ _ (at-if1 .if1 .left) (at-if2 .if2 .taken)
-    (at-lower .lower .ensures)
+    offer-lowers _ _ _ (resultLists _ _ _) _ (start .pre) (at-if1 .if1 .left) (at-if2 .if2 .taken)
+    {l′ = resultLists _ _ _} (at-improve .improve2 .ensures)
 
 returns-3 : tie.Need-returns-3
 returns-3 c =
-    offer-larger _ _ _ _ _ _ _ (c .before .before .before .before .before .before .before .pre)
-    (c .before .before .if1 .left) (c .before .if2 .left) (c .if3 .taken)
+    let at-if1 = c .before .before in
+    let start = at-if1 .before .before .before .before .before in
+    offer-larger _ _ _ (resultLists _ _ _) _ (start .pre) (at-if1 .if1 .left) (c .before .if2 .left) (c .if3 .taken)
 
-mul-if4 : tie.Need-mul-if4
-mul-if4 c = search needs
+mul-has-span : tie.Need-mul-has-span
+mul-has-span c = search needs
 
-slice-read-if4 : tie.Need-slice-read-if4
-slice-read-if4 c = search needs
+slice-read-has-span : tie.Need-slice-read-has-span
+slice-read-has-span c = search needs
 
 returns-4 : tie.Need-returns-4
 returns-4 c =
-    offer-late _ _ _ _ _ _ _ (c .before .before .before .before .before .before .before .before .before .pre)
-    (c .before .before .before .before .if1 .left) (c .before .before .before .if2 .left) (c .if4 .taken)
+    let at-if2 = c .before .before .before in
+    let start = at-if2 .before .before .before .before .before .before in
+    offer-late _ _ _ (resultLists _ _ _) _ (start .pre) (at-if2 .before .if1 .left) (at-if2 .if2 .left)
+    (c .if4 .taken)
 
 mul-last : tie.Need-mul-last
 mul-last c = search needs
@@ -77,29 +85,32 @@ same-length-7 c = search needs
 
 returns-5 : tie.Need-returns-5
 returns-5 c =
-    offer-ties _ _ _ _ _ _ _ (c .before .before .before .before .before .before .before .before .before .pre)
-    (c .before .before .before .before .if1 .left) (c .before .before .before .if2 .left)
-    (c .before .before .if3 .left) (c .if4 .left)
+    let at-if3 = c .before .before in
+    let at-if2 = at-if3 .before in
+    let start = at-if2 .before .before .before .before .before .before in
+    offer-ties _ _ _ (resultLists _ _ _) _ (start .pre) (at-if2 .before .if1 .left) (at-if2 .if2 .left)
+    (at-if3 .if3 .left) (c .if4 .left)
 
 pub offered-spec : {M : Type 1} → statement M
 offered-spec =
     tie.close
     (tie.spec
-    mul-known
-    slice-read-known
-    enter-requires
+    mul-has-loss
+    slice-read-has-loss
+    add-met
+    improve-requires
     same-length
     same-length-2
     same-length-3
     returns
-    lower-requires
+    improve-requires-2
     same-length-4
     same-length-5
     same-length-6
     returns-2
     returns-3
-    mul-if4
-    slice-read-if4
+    mul-has-span
+    slice-read-has-span
     returns-4
     mul-last
     slice-write-last

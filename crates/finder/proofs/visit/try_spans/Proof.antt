@@ -4,6 +4,7 @@ use mathlib.Core.Path.{_≡_, refl, _∙_}
 use native.Mathlib.Omega.{arith}
 use lib.ListN.{length, getD}
 use Rattle.paths.specs.Map.{Map}
+use Rattle.paths.specs.Feed.{resultLists}
 use Rattle.finder.specs.SearchState.{Taken}
 use Rattle.finder.proofs.AtPlace.{place-small}
 use Rattle.finder.proofs.Walking.{
@@ -28,8 +29,8 @@ use Rattle.finder.proofs.visit.try_spans.Tie as tie
 
 abbrev Inv-loop : tie.InvT-loop
 Inv-loop index to loss best₀ last₀ store₀ u d i end e₀ go₀ best last store e go =
-    ((m : Map) → Taken m index to loss u d best₀ last₀ store₀ go₀
-    → Walking m (go₀ .visited) u end e best last store go)
+    ((m : Map) → Taken m index to loss u d (resultLists best₀ last₀ store₀) go₀
+    → Walking m (go₀ .visited) u end e (resultLists best last store) go)
     × (length best ≡ length best₀) × (length last ≡ length last₀) × (length store ≡ length store₀)
 
 abbrev μ-loop : tie.MeasureT-loop
@@ -42,7 +43,7 @@ start c = c .before .before .before .before .before .before .before .before
 here : (c : tie.At-loop Inv-loop μ-loop) →
     let a = start c .args in
     Walking (start c .pre .0) (a .taken .visited) (a .u) (getD (a .index .now) (a .u + 1) 0) (c .loop .e)
-    (c .loop .best) (c .loop .last) (c .loop .store) (c .loop .go)
+    (resultLists (c .loop .best) (c .loop .last) (c .loop .store)) (c .loop .go)
 here c = c .loop .inv .0 _ (start c .pre .1)
 
 add-end : tie.Need-add-end Inv-loop μ-loop

@@ -1,8 +1,8 @@
--- `relax::enter` meets its contract.
-use Rattle.relax.proofs.Relaxing.{enter-advances}
+-- `relax::improve` meets its contract.
+use mathlib.Core.Path.{refl}
 use borrow.Author.Needs.{needs}
-use Rattle.relax.proofs.enter.Statement.{statement}
-use Rattle.relax.proofs.enter.Tie as tie
+use Rattle.relax.proofs.improve.Statement.{statement}
+use Rattle.relax.proofs.improve.Tie as tie
 
 perform-requires : tie.Need-perform-requires
 perform-requires c κs = search needs
@@ -19,9 +19,6 @@ mul-last c = search needs
 slice-write-last : tie.Need-slice-write-last
 slice-write-last c = search needs
 
-add-t18 : tie.Need-add-t18
-add-t18 c = search needs
-
 same-length : tie.Need-same-length
 same-length c = search needs
 
@@ -33,12 +30,16 @@ same-length-3 c = search needs
 
 returns : tie.Need-returns
 returns c =
-    enter-advances _ _ _ _ _ _ _
-    (c .before .before .before .before .before .before .before .before .before .before .pre) _ _
-    (c .before .before .before .before .perform .ensures)
+    record {
+      reply = c .before .before .before .perform .result;
+      performed = c .before .before .before .perform .ensures;
+      best-is = refl;
+      last-is = refl;
+      progress = refl;
+    }
 
-pub enter-spec : {M : Type 1} → statement M
-enter-spec =
+pub improve-spec : {M : Type 1} → statement M
+improve-spec =
     tie.close
     (tie.spec
     perform-requires
@@ -46,7 +47,6 @@ enter-spec =
     slice-write-best
     mul-last
     slice-write-last
-    add-t18
     same-length
     same-length-2
     same-length-3
