@@ -17,10 +17,10 @@ use Rattle.rules.proofs.ByKind.{also, apart-some, by-others}
 use Rattle.rules.proofs.Occurs.{byItem, eqb-self}
 use Rattle.rules.proofs.Parts.{rows, keys, heaps, kept-words}
 use Rattle.store.specs.declared.Owner.the-variants.{Children}
-use Rattle.store.specs.Says.{Values}
+use Rattle.store.specs.Says.{Values, Agree}
 use Rattle.store.specs.Siblings.{appended}
 use Rattle.store.proofs.ConcatWords.{linkKinds}
-use Rattle.consolidate.specs.Stored.{linked, Agree, Beside}
+use Rattle.consolidate.specs.Stored.{linked, Beside}
 use Rattle.consolidate.proofs.Beside.{beside-parent, beside-rank, beside-state}
 use Rattle.consolidate.proofs.LinkLists.{
   TwoRoots,

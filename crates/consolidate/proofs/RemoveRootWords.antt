@@ -48,13 +48,13 @@ use Rattle.rules.proofs.RemoveRootKeeps.{
 }
 use Rattle.store.specs.declared.Owner.the-variants.{Row}
 use Rattle.store.specs.Empty.{freeItem}
-use Rattle.store.specs.Says.{Values}
+use Rattle.store.specs.Says.{Values, Agree}
 use Rattle.store.specs.Siblings.{removed}
 use Rattle.store.proofs.ConcatWords.{concat-other}
 use Rattle.store.proofs.ListMembers.{other-row}
 use Rattle.consolidate.specs.Released.{released}
 use Rattle.consolidate.specs.Removed.{RootOf}
-use Rattle.consolidate.specs.Stored.{linked, Agree, Beside, Rowed}
+use Rattle.consolidate.specs.Stored.{linked, Beside, Rowed}
 use Rattle.consolidate.proofs.Beside.{beside-count, beside-key, beside-parent, beside-rank, beside-state}
 use Rattle.consolidate.proofs.MoveWords.{released-in}
 use Rattle.consolidate.proofs.RemoveRootLists.{free-links, other-families, other-rows}

@@ -28,12 +28,12 @@ use Rattle.rules.proofs.Occurs.{byItem, eqb-self, delta-self, occurs-append}
 use Rattle.rules.proofs.Parts.{children, parents, keys, marks, heaps, kept-words}
 use Rattle.rules.proofs.SiblingLists.{once-row}
 use Rattle.store.specs.declared.Owner.the-variants.{Row}
-use Rattle.store.specs.Says.{Values}
+use Rattle.store.specs.Says.{Values, Agree}
 use Rattle.store.specs.Siblings.{appended}
 use Rattle.store.proofs.ConcatWords.{linkKinds}
 use Rattle.store.proofs.ListMembers.{none-row, not-row, other-row, root-in, some-item}
 use Rattle.consolidate.specs.LinkedList.{LinkedList}
-use Rattle.consolidate.specs.Stored.{linked, Agree, Beside}
+use Rattle.consolidate.specs.Stored.{linked, Beside}
 use Rattle.consolidate.proofs.Beside.{beside-parent}
 use Rattle.consolidate.proofs.LinkedLists.{linked-append, linked-frame, last-apart}
 use Rattle.consolidate.proofs.MoveWords.{row-first, row-last, row-next, row-other, row-parent, row-prev}

@@ -8,17 +8,12 @@ use Rattle.rules.specs.declared.Field.the-variants.{FirstTree, LastTree, Minimu
 use Rattle.rules.specs.Forests.{Forests, rowOf, childrenOf, heapOf, tableSize}
 use Rattle.rules.specs.Kinds.{Apart}
 use Rattle.rules.specs.Order.{minimum}
-use Rattle.rules.specs.Words.{fieldSize, word}
-use Rattle.store.specs.Says.{Values, Says}
+use Rattle.store.specs.Says.{Values, Says, Agree}
 use Rattle.consolidate.specs.LinkedList.{LinkedList}
 
 -- the kinds of words that make lists, and the minima
 abbrev pub linked : List Field
 linked = FirstTree ∷ LastTree ∷ Minimum ∷ FirstChild ∷ LastChild ∷ Next ∷ Prev ∷ []
-
--- the words of kind f are those of the forests
-abbrev pub Agree : ℕ → Values → Forests → Field → Type 0
-Agree n v t f = (i : ℕ) → i < fieldSize n f → v f i ≡ word t f i
 
 -- v has the words of the forests t, but for the row and the minimum of heap h: of these nothing is said.
 pub record Beside (n h : ℕ) (v : Values) (t : Forests) : Type 0 where

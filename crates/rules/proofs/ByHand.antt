@@ -33,7 +33,7 @@ use Rattle.rules.specs.ByHand.{
   runTie,
   seen,
   sees,
-  table,
+  workedTable,
 }
 use Rattle.rules.specs.Calls.{
   decreaseKey,
@@ -58,7 +58,7 @@ use Rattle.rules.specs.Lists.{setAll, sumBy, without}
 use Rattle.rules.specs.Order.{comesBefore, leastIn, leastOf, minimum}
 
 pub workedRuns : WorkedRuns
-unfolding table runB runC runD runE runF1 runF2 runF runG runH runTie runRelease runJ runM runEmptied runMoved
+unfolding workedTable runB runC runD runE runF1 runF2 runF runG runH runTie runRelease runJ runM runEmptied runMoved
     runJoinAgain linesB linesE linesF1 linesF2 linesF linesG linesJ byRules seen sees reply markedFrom familiesFrom
     lastAnswer allowed moves allowance price ifDone R lastFrom after answers answer unlessRefused refused refusal
     isEmpty perform meld moveHeap delete deleteAs decreaseKey hasParent extract removeRoot setFree release insert

@@ -42,7 +42,7 @@ use Rattle.soundness.proofs.Encoded.{
   children-ranks,
 }
 use Rattle.soundness.proofs.HeapTests.{HeapRight}
-use Rattle.soundness.proofs.ItemTests.{Free, Child, Member}
+use Rattle.soundness.proofs.ItemTests.{PassedFree, PassedChild, PassedMember}
 use Rattle.soundness.proofs.States.{state-low}
 use Rattle.soundness.proofs.Tight.{both-sum, one-place, both-ways}
 
@@ -58,7 +58,7 @@ module _ (s : Forests) (W : WellFormed s) where
 
   -- ---- items
 
-  free : (i : ℕ) → i < n → heapAt n w i ≡ 0 → Free n w i
+  free : (i : ℕ) → i < n → heapAt n w i ≡ 0 → PassedFree n w i
   unfolding word unlessFree
   free i k e =
       let h : heapOf s i ≡ 0 = sym (heap-is s W i k) ∙ e in
@@ -73,20 +73,20 @@ module _ (s : Forests) (W : WellFormed s) where
         rank = says s W Rank i k ∙ ap length (free-children s D i k h);
       }
 
-  child : (i : ℕ) → i < n → heapOf s i ≢ 0 → look n w Parent i ≢ none → Child n w i (look n w Parent i)
+  child : (i : ℕ) → i < n → heapOf s i ≢ 0 → look n w Parent i ≢ none → PassedChild n w i (look n w Parent i)
   unfolding word HeapOrdered
   child i k m e =
       let v = says s W Parent i k in
       let p : parentOf s i ≢ none = λ z. e (v ∙ z) in
       let u = D .up i m p in
-      subst (Child n w i) (sym v)
+      subst (PassedChild n w i) (sym v)
       (record {
         inside = u .0;
         heap = heap-is s W (parentOf s i) (u .0) ∙ u .1 ∙ sym (heap-is s W i k);
         order = precedes-is s W (parentOf s i) i (u .0) k ∙ W .ordered i m p;
       })
 
-  member : (i : ℕ) → i < n → heapAt n w i ≢ 0 → Member n w i
+  member : (i : ℕ) → i < n → heapAt n w i ≢ 0 → PassedMember n w i
   unfolding word heapAt KeysFit
   member i k m =
       let h : heapOf s i ≢ 0 = λ e. m (heap-is s W i k ∙ e) in

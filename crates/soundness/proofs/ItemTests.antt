@@ -40,7 +40,7 @@ use Rattle.soundness.specs.Check.{
 
 module _ (n : ℕ) (w : List ℕ) where
   -- all words of a free item are 0
-  pub record Free (i : ℕ) : Type 0 where
+  pub record PassedFree (i : ℕ) : Type 0 where
     pub key : look n w Key i ≡ 0
     pub parent : look n w Parent i ≡ 0
     pub first : look n w FirstChild i ≡ 0
@@ -49,24 +49,24 @@ module _ (n : ℕ) (w : List ℕ) where
     pub prev : look n w Prev i ≡ 0
     pub rank : look n w Rank i ≡ 0
 
-  pub record Child (i p : ℕ) : Type 0 where
+  pub record PassedChild (i p : ℕ) : Type 0 where
     pub inside : p < n
     pub heap : heapAt n w p ≡ heapAt n w i
     pub order : comesBefore (itemKey (look n w)) p i ≡ true
 
   -- an item of a heap
-  pub record Member (i : ℕ) : Type 0 where
+  pub record PassedMember (i : ℕ) : Type 0 where
     pub state : look n w State i ≤ 16
     pub key : look n w Key i ≤ 4294967295
     pub root : look n w Parent i ≡ none → markAt n w i ≡ 0
-    pub child : look n w Parent i ≢ none → Child i (look n w Parent i)
+    pub child : look n w Parent i ≢ none → PassedChild i (look n w Parent i)
     pub children : listOk n w (childrenAt n w i) ≡ true
     pub rank : length (listAt n w (childrenAt n w i)) ≡ look n w Rank i
     pub ranks : childRanksOk n w 1 (listAt n w (childrenAt n w i)) ≡ true
 
   -- ---- what passes
 
-  pub is-free : (i : ℕ) → itemOk n w i ≡ true → look n w State i ≡ 0 → Free i
+  pub is-free : (i : ℕ) → itemOk n w i ≡ true → look n w State i ≡ 0 → PassedFree i
   unfolding itemOk freeZero
   is-free i e z =
       let a = and-split _ _ (rw (eq-eqb (look n w State i) 0 z) at e) in
@@ -85,7 +85,7 @@ module _ (n : ℕ) (w : List ℕ) where
         rank = eqb-true (look n w Rank i) 0 (a .1);
       }
 
-  is-child : (i : ℕ) → (parentInHeap n w i && inHeapOrder n w i) ≡ true → Child i (look n w Parent i)
+  is-child : (i : ℕ) → (parentInHeap n w i && inHeapOrder n w i) ≡ true → PassedChild i (look n w Parent i)
   unfolding parentInHeap inHeapOrder
   is-child i e =
       let p = look n w Parent i in
@@ -97,7 +97,7 @@ module _ (n : ℕ) (w : List ℕ) where
         order = a .1;
       }
 
-  pub is-member : (i : ℕ) → itemOk n w i ≡ true → look n w State i ≢ 0 → Member i
+  pub is-member : (i : ℕ) → itemOk n w i ≡ true → look n w State i ≢ 0 → PassedMember i
   unfolding itemOk memberOk parentOk rootUnmarked
   is-member i e z =
       let a = and-split _ _ (rw (ne-eqb (look n w State i) 0 z) at e) in
@@ -117,12 +117,12 @@ module _ (n : ℕ) (w : List ℕ) where
 
   -- ---- what must pass
 
-  pub free-passes : (i : ℕ) → look n w State i ≡ 0 → Free i → itemOk n w i ≡ true
+  pub free-passes : (i : ℕ) → look n w State i ≡ 0 → PassedFree i → itemOk n w i ≡ true
   unfolding itemOk freeZero
   free-passes i z r =
       rw (eq-eqb (look n w State i) 0 z, r .key, r .parent, r .first, r .last, r .next, r .prev, r .rank)
 
-  parent-passes : (i : ℕ) → Member i → parentOk n w i ≡ true
+  parent-passes : (i : ℕ) → PassedMember i → parentOk n w i ≡ true
   unfolding parentOk rootUnmarked parentInHeap inHeapOrder
   parent-passes i r = go (eqb (look n w Parent i) none) refl
     where
@@ -137,7 +137,7 @@ module _ (n : ℕ) (w : List ℕ) where
             a .order,
           )
 
-  pub member-passes : (i : ℕ) → look n w State i ≢ 0 → Member i → itemOk n w i ≡ true
+  pub member-passes : (i : ℕ) → look n w State i ≢ 0 → PassedMember i → itemOk n w i ≡ true
   unfolding itemOk memberOk
   member-passes i z r =
       rw (

@@ -12,13 +12,13 @@ use Rattle.rules.proofs.Occurs.{and-split}
 use Rattle.soundness.specs.Check.{heapAt, countAt, itemOk, heapOk, treesAt, ranksAt, allOk}
 use Rattle.soundness.proofs.Booleans.{allTo-at, allTo-all}
 use Rattle.soundness.proofs.HeapTests.{HeapRight, is-heap, heap-passes}
-use Rattle.soundness.proofs.ItemTests.{Free, Member, is-free, is-member, free-passes, member-passes}
+use Rattle.soundness.proofs.ItemTests.{PassedFree, PassedMember, is-free, is-member, free-passes, member-passes}
 use Rattle.soundness.proofs.States.{heap-zero, zero-heap}
 
 pub record Passed (n : ℕ) (w : List ℕ) : Type 0 where
   pub small : n ≤ 4096
-  pub free : (i : ℕ) → i < n → heapAt n w i ≡ 0 → Free n w i
-  pub member : (i : ℕ) → i < n → heapAt n w i ≢ 0 → Member n w i
+  pub free : (i : ℕ) → i < n → heapAt n w i ≡ 0 → PassedFree n w i
+  pub member : (i : ℕ) → i < n → heapAt n w i ≢ 0 → PassedMember n w i
   pub heap : (h : ℕ) → h < 8 → HeapRight n w h
   pub total : treesAt n w + ranksAt n w + countAt n w 0 ≡ n
 

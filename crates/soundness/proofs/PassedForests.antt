@@ -36,7 +36,7 @@ use Rattle.soundness.proofs.Decoded.{
   out-mark,
   precedes-at,
 }
-use Rattle.soundness.proofs.ItemTests.{Child}
+use Rattle.soundness.proofs.ItemTests.{PassedChild}
 use Rattle.soundness.proofs.Ranks.{ranks-rule}
 use Rattle.soundness.proofs.States.{heap-zero, zero-mark, mark-low}
 
@@ -47,7 +47,7 @@ module _ (n : ℕ) (w : List ℕ) (A : Passed n w) where
   inside : (x : ℕ) → heapOf s x ≢ 0 → x < n
   inside x m = byPlace n x (λ i. i) (λ o. absurd (m (out-heap n w x o)))
 
-  child : (x : ℕ) → heapOf s x ≢ 0 → parentOf s x ≢ none → Child n w x (look n w Parent x)
+  child : (x : ℕ) → heapOf s x ≢ 0 → parentOf s x ≢ none → PassedChild n w x (look n w Parent x)
   child x m p =
       let i = inside x m in
       A .member x i (λ e. m (heap-at n w x i ∙ e)) .child (λ e. p (parent-at n w x i ∙ e))

@@ -11,31 +11,28 @@ use Rattle.rules.specs.Forests.{Forests, none, heapOf, tableSize, count}
 use Rattle.rules.specs.Order.{minimum}
 use Rattle.rules.specs.Kinds.{Apart}
 use Rattle.rules.specs.WellFormed.{Disjoint}
-use Rattle.rules.specs.Words.{fieldSize, word, wordsOf, encode}
+use Rattle.rules.specs.Words.{word, wordsOf, encode}
 use Rattle.rules.proofs.ByKind.{apart-from, by-kinds, by-others}
 use Rattle.rules.proofs.Members.{heap-in, not-none, row-root, child-parent}
 use Rattle.rules.proofs.SiblingLists.{once-row, once-children}
 use Rattle.rules.proofs.Words.{length-wordsOf, look-wordsOf, words-equal}
 use Rattle.store.specs.declared.Owner.the-variants.{Row, Children}
+use Rattle.store.specs.Says.{Agree}
 use Rattle.store.specs.Families.{listOf, ownerOf, wordBut, Shape, Family, Holds}
 use Rattle.store.proofs.Holds.{says-holds, holds-says}
 
 -- the true counts are those of `word`, and so are the true minima
 module _ (n : ℕ) (counts minima : ℕ → ℕ) (t : Forests) (c : (h : ℕ) → h < 8 → counts h ≡ count t h) where
-  abbrev Agree : Field → Type 0
-  Agree f = (i : ℕ) → i < fieldSize n f → wordBut counts minima t f i ≡ word t f i
-
   -- where the counts are the true ones only the minima may differ
-  pub but-minima : (f : Field) → Apart (Minimum ∷ []) f → (i : ℕ) → i < fieldSize n f
-      → wordBut counts minima t f i ≡ word t f i
+  pub but-minima : (f : Field) → Apart (Minimum ∷ []) f → Agree n (wordBut counts minima t) t f
   unfolding wordBut word
   but-minima =
-      by-others (Minimum ∷ []) (Count ∷ []) Agree c
+      by-others (Minimum ∷ []) (Count ∷ []) (Agree n (wordBut counts minima t) t) c
       (λ f o i k. let e = apart-from (Count ∷ Minimum ∷ []) f o in rw (e Count refl, e Minimum refl))
 
-  but-word : ((h : ℕ) → h < 8 → minima h ≡ minimum t h) → (f : Field) → Agree f
+  but-word : ((h : ℕ) → h < 8 → minima h ≡ minimum t h) → (f : Field) → Agree n (wordBut counts minima t) t f
   unfolding wordBut word
-  but-word m = by-kinds (Minimum ∷ []) Agree m but-minima
+  but-word m = by-kinds (Minimum ∷ []) (Agree n (wordBut counts minima t) t) m but-minima
 
 -- the lengths of disjoint forests, and their lists
 pub disjoint-shape : (s : Forests) → Disjoint s → Shape (tableSize s) s

@@ -19,7 +19,8 @@ use Rattle.rules.specs.declared.Field.the-variants.{
 }
 use Rattle.rules.specs.Forests.{Forests, none, rowOf, count}
 use Rattle.rules.specs.Order.{minimum}
-use Rattle.rules.specs.Words.{fieldSize, look, headOr, lastOr, word}
+use Rattle.rules.specs.Words.{look, headOr, lastOr, word}
+use Rattle.store.specs.Says.{Agree}
 
 module _ (n : ℕ) (w : List ℕ) (s : Forests) where
   -- the words of heap h name the ends of its row, its minimum and how many items it has
@@ -29,13 +30,13 @@ module _ (n : ℕ) (w : List ℕ) (s : Forests) where
     pub least : look n w Minimum h ≡ minimum s h
     pub items : look n w Count h ≡ count s h
 
-  -- the words of a kind are those of the forests
-  abbrev pub Agree : Field → Type 0
-  Agree f = (i : ℕ) → i < fieldSize n f → look n w f i ≡ word s f i
+  -- of a kind, the words are those of the forests
+  abbrev Same : Field → Type 0
+  Same f = Agree n (look n w) s f
 
   -- Nothing else is said of a heap: these settle its words, and with the kinds of an item all words.
-  pub by-heaps : ((h : ℕ) → h < 8 → HeapWords h) → Agree Key → Agree Parent → Agree FirstChild → Agree LastChild
-      → Agree Next → Agree Prev → Agree Rank → Agree State → (f : Field) → Agree f
+  pub by-heaps : ((h : ℕ) → h < 8 → HeapWords h) → Same Key → Same Parent → Same FirstChild → Same LastChild
+      → Same Next → Same Prev → Same Rank → Same State → (f : Field) → Same f
   unfolding word
   by-heaps heap key parent first last next prev rank state FirstTree = λ h k. heap h k .first
   by-heaps heap key parent first last next prev rank state LastTree = λ h k. heap h k .last

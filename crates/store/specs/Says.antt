@@ -4,7 +4,8 @@ use mathlib.Core.Path.{_≡_}
 use mathlib.Core.List.{List}
 use lib.ListN.{length}
 use Rattle.rules.specs.declared.Field.{Field}
-use Rattle.rules.specs.Words.{storeSize, fieldSize, look}
+use Rattle.rules.specs.Forests.{Forests}
+use Rattle.rules.specs.Words.{storeSize, fieldSize, look, word}
 
 -- a store for n items
 pub record Sized (n : ℕ) (w : List ℕ) : Type 0 where
@@ -19,6 +20,10 @@ pub record Within (n : ℕ) (w : List ℕ) (f : Field) (i : ℕ) : Type 0 where
 -- a value for each word
 abbrev pub Values : Type 0
 Values = Field → ℕ → ℕ
+
+-- of kind f, v has the words of the forests t
+abbrev pub Agree : ℕ → Values → Forests → Field → Type 0
+Agree n v t f = (i : ℕ) → i < fieldSize n f → v f i ≡ word t f i
 
 pub record Says (n : ℕ) (w : List ℕ) (v : Values) : Type 0 where
   pub sized : Sized n w

@@ -19,7 +19,7 @@ fn key_of(s: &[u32], n: usize, i: u32) -> u32
 }
 
 // The place of an item in the order as one number, so that no branch depends on the keys.
-fn number_of(key: u32, i: u32) -> u64
+fn order_number(key: u32, i: u32) -> u64
     ensures { λ r. ⌜ r ≡ key * 4294967296 + i ⌝ }
 {
     (key as u64) * 4294967296 + (i as u64)
@@ -33,7 +33,7 @@ pub fn precedes(s: &[u32], n: usize, a: u32, b: u32) -> bool
 {
     let x = key_of(s, n, a);
     let y = key_of(s, n, b);
-    number_of(x, a) < number_of(y, b)
+    order_number(x, a) < order_number(y, b)
 }
 
 // The one of two items that comes first; NONE stands for no item.
@@ -48,8 +48,8 @@ pub fn lesser_of(s: &[u32], n: usize, a: u32, b: u32) -> u32
         return a;
     }
     // The item is read off the lesser number: a choice of the items would become a branch in a loop.
-    let x = number_of(key_of(s, n, a), a);
-    let y = number_of(key_of(s, n, b), b);
+    let x = order_number(key_of(s, n, a), a);
+    let y = order_number(key_of(s, n, b), b);
     let least = if y < x { y } else { x };
     (least % 4294967296) as u32
 }

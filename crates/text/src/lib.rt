@@ -18,12 +18,12 @@ pub enum Number {
 }
 
 // Where a run of digits ends, and its value, which stays where it first passes 4,294,967,295.
-struct Run {
+struct DigitRun {
     end: usize,
     value: u64,
 }
 
-fn digits_at(s: &[u8], at: usize) -> Run
+fn digits_at(s: &[u8], at: usize) -> DigitRun
     ensures { λ r. ⌜ DigitsRead (digitRun (drop at (now (s .entry)))) at (r .end) (r .value) ⌝ }
 {
     let mut i = at;
@@ -41,7 +41,7 @@ fn digits_at(s: &[u8], at: usize) -> Run
         }
         i += 1;
     }
-    Run { end: i, value: v }
+    DigitRun { end: i, value: v }
 }
 
 // The rule for a number's digits, which stand from `at` up to `end`.

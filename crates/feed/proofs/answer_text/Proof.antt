@@ -35,6 +35,20 @@ put-field-requires c κs =
 same-length : tie.Need-same-length
 same-length c = search needs
 
+-- The table is printed. This return stands first: what it shows is false for lists of any other length.
+returns-3 : tie.Need-returns-3
+unfolding ownSpans ownResults storeSize
+returns-3 c =
+    let at-feed = c .before .before .before .before .before in
+    let at-size = at-feed .before .before .before .before .before .before .before .before in
+    let at-if2 = at-size .before .before in
+    let at-if1 = at-if2 .before .before in
+    let at-read = at-if1 .before .before .before .before in
+    let start = at-read .before .before .before .before .before .before in
+    map-fed (readMap _ (spanLists _ _ _)) _ (spanLists _ _ _) (at-read .read .ensures) (resultLists _ _ _) _
+    (omega (arith, start .pre)) (at-if1 .if1 .left) (omega (arith, at-if2 .if2 .left)) (at-size .size-for .ensures)
+    _ _ (at-feed .answer-feed .ensures)
+
 returns : tie.Need-returns
 unfolding ownSpans ownResults storeSize
 returns c =
@@ -137,19 +151,6 @@ answer-feed-requires c κs = search needs
 
 same-length-3 : tie.Need-same-length-3
 same-length-3 c = search needs
-
-returns-3 : tie.Need-returns-3
-unfolding ownSpans ownResults storeSize
-returns-3 c =
-    let at-feed = c .before .before .before .before .before in
-    let at-size = at-feed .before .before .before .before .before .before .before .before in
-    let at-if2 = at-size .before .before in
-    let at-if1 = at-if2 .before .before in
-    let at-read = at-if1 .before .before .before .before in
-    let start = at-read .before .before .before .before .before .before in
-    map-fed (readMap _ (spanLists _ _ _)) _ (spanLists _ _ _) (at-read .read .ensures) (resultLists _ _ _) _
-    (omega (arith, start .pre)) (at-if1 .if1 .left) (omega (arith, at-if2 .if2 .left)) (at-size .size-for .ensures)
-    _ _ (at-feed .answer-feed .ensures)
 
 pub answer-text-spec : {M : Type 1} → statement M
 answer-text-spec =

@@ -39,7 +39,7 @@ returns-3 c =
     let c7 = c6 .before in
     let p = c7 .before .before .pre in
     lesser-number _ _ _ (omega (arith, p .one (c7 .if1 .left))) (omega (arith, p .two (c6 .if2 .left)))
-    (c5 .key-of .ensures) (c3 .key-of2 .ensures) (c4 .number-of .ensures) (c2 .number-of2 .ensures)
+    (c5 .key-of .ensures) (c3 .key-of2 .ensures) (c4 .order-number .ensures) (c2 .order-number2 .ensures)
     (⊎-elim (λ w. inl (w .0 .taken, w .1)) (λ w. inr (w .0 .left, w .1)) (c1 .if3 .came))
 
 pub lesser-of-spec : {M : Type 1} → statement M

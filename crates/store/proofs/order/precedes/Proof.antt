@@ -15,8 +15,8 @@ returns c =
       before-number (itemKey (look (a .n) (a .s .now))) (a .a) (a .b) (omega arith) (omega arith),
       ← (c2 .before .key-of .ensures),
       ← (c2 .key-of2 .ensures),
-      ← (c .before .number-of .ensures),
-      ← (c .number-of2 .ensures),
+      ← (c .before .order-number .ensures),
+      ← (c .order-number2 .ensures),
     )
 
 pub precedes-spec : {M : Type 1} → statement M
