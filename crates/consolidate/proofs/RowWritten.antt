@@ -87,7 +87,8 @@ module _ (h : ℕ) (ps : List ℕ) (r : ℕ) (t : Forests) (D : Disjoint t) (hh 
       }
 
   pub place-written : {n m x : ℕ} {w : List ℕ} → r < 17 → x ≡ getD ps r 0
-      → WritingRow n h w (occupied (take r ps) ++ occupied (x ∷ [])) m t → WritingRow n h w (occupied (take (r + 1) ps)) m t
+      → WritingRow n h w (occupied (take r ps) ++ occupied (x ∷ [])) m t
+      → WritingRow n h w (occupied (take (r + 1) ps)) m t
   place-written {x = x} k q W = rw (next-place x k q) W
 
   -- ---- all places

@@ -138,7 +138,8 @@ module _ {w : List ℕ} {n i k : ℕ} {tally : Tally} (P : MayMove w n (Decrease
             ∙ lesser-keys (itemKey (look n w₂)) (keyOf after) (minimum t h) i
             (λ _. key-held holds (minimum t h) old-inside) (λ _. key-held holds i (item-inside in-heap))
             ∙ lesser-two (keyOf after) (minimum t h) i
-            (item-not-none (holds .shape) (minimum t h) old-inside) (item-not-none (holds .shape) i (item-inside in-heap))
+            (item-not-none (holds .shape) (minimum t h) old-inside)
+            (item-not-none (holds .shape) i (item-inside in-heap))
 
         minima : (g : ℕ) → g < 8 → instead (minimum t) h l g ≡ minimum after g
         minima g _ = go (eqb h g) refl

@@ -83,7 +83,8 @@ module _ (n : ℕ) (t : Forests) (o : Owner) (x : ℕ) (S : Shape n t) (F : Fami
 
   -- who is not in the list is not its last
   last-apart : (j : ℕ) → j < n → occurs j (listOf t o) ≡ 0 → lastOr none (listOf t o) ≢ j
-  last-apart j h a = at-end (lastOr none (listOf t o)) j (listOf t o) (last-in none (listOf t o)) (item-not-none S j h) a
+  last-apart j h a =
+      at-end (lastOr none (listOf t o)) j (listOf t o) (last-in none (listOf t o)) (item-not-none S j h) a
 
   -- the next word of any item j; l is the last of the list before, and the links of x were open
   pub next-law : (l a j : ℕ) → l ≡ lastOr none (listOf t o) → j < n

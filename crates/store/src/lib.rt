@@ -284,8 +284,8 @@ fn join(s: &mut [u32], n: usize, o: Owner, l: u32, x: u32, y: u32)
     put_last(s, n, o, y);
 }
 
-// The same where x may be NONE, and nothing is joined then. Only links change: the parents and marks of the siblings and
-// the rank of the owner are the caller's.
+// The same where x may be NONE, and nothing is joined then. Only links change: the parents and marks of the siblings
+// and the rank of the owner are the caller's.
 pub fn concat(s: &mut [u32], n: usize, o: Owner, x: u32, y: u32)
     requires { ⌜ ConcatReady n (now s) o x ⌝ }
     ensures { λ r. ⌜ Changes n (now (s .entry)) (concatenated o x y) (now (s .exit)) ⌝ }

@@ -1,4 +1,5 @@
-//! The runs worked by hand in the scope paper, (a) to (h), with every number it gives; and one for J and M, which it lacks.
+//! The runs worked by hand in the scope paper, (a) to (h), with every number it gives; and one for J and M, which it
+//! lacks.
 
 use reference::ledger::{allowance, max_rank, potential, Ledger};
 use reference::{Answer, Call, Queues, Tree};

@@ -17,8 +17,8 @@ const LOWERINGS: [(&[u8], &[u8]); 2] = [(b"D,0,4\n", b"0,0,4,0,0\n"), (b"D,0,3\n
 pub const LONG_RUN: &[u8] = b"I,0,0,0\nI,0,1,10\nI,0,2,20\nI,0,3,30\nI,0,4,40\nI,0,5,50\nI,0,6,60\nI,0,7,70\n\
     I,0,8,80\nT,0\nD,8,5\nD,6,4\nD,7,3\nX,3\nT,0\n";
 
-/// Joining, worked by hand: the minimum comes from either side, and the emptied heap is used again. The words left, which
-/// are compared too, show the order of the joined row.
+/// Joining, worked by hand: the minimum comes from either side, and the emptied heap is used again. The words left,
+/// which are compared too, show the order of the joined row.
 const JOINING: &[u8] =
     b"I,0,0,6\nI,0,1,4\nI,1,2,1\nI,1,3,3\nI,1,4,5\nT,1\nJ,0,1\nM,0\nM,1\nD,4,2\nI,1,5,8\nJ,0,1\nM,0\n";
 const JOINING_ANSWERS: &[u8] =
