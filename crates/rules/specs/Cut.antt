@@ -45,18 +45,18 @@ cascadingCut zero st h p s = record { cuts = 0; forests = s }
 cascadingCut (suc d) root h p s = record { cuts = 0; forests = s }
 cascadingCut (suc d) unmarked h p s = record { cuts = 0; forests = setMark p 1 s }
 cascadingCut (suc d) marked h p s =
-    let t = cut h p s in
-    let q = parentOf s p in
-    let c = cascadingCut d (nodeKind t q) h q t in
-    record { cuts = suc (c .cuts); forests = c .forests }
+    let cutFree = cut h p s in
+    let above = parentOf s p in
+    let further = cascadingCut d (nodeKind cutFree above) h above cutFree in
+    record { cuts = suc (further .cuts); forests = further .forests }
 
 -- x is cut, and its parent is then treated as one that lost a child.
 unfoldable pub cutWithin : ℕ → ℕ → ℕ → Forests → Cuts
 cutWithin d h x s =
-    let t = cut h x s in
-    let p = parentOf s x in
-    let c = cascadingCut d (nodeKind t p) h p t in
-    record { cuts = suc (c .cuts); forests = c .forests }
+    let cutFree = cut h x s in
+    let above = parentOf s x in
+    let further = cascadingCut d (nodeKind cutFree above) h above cutFree in
+    record { cuts = suc (further .cuts); forests = further .forests }
 
 unfoldable pub cutOut : ℕ → ℕ → Forests → Cuts
 cutOut h x s = cutWithin (suc (tableSize s)) h x s

@@ -6,6 +6,7 @@ use lib.ListN.{take, drop}
 use lib.Dec.{eqb}
 use Rattle.rules.specs.declared.Call.{Call}
 use Rattle.rules.specs.declared.Call.the-variants.{Insert, FindMin, ExtractMin, DecreaseKey, Delete, Meld}
+use Rattle.rules.specs.declared.Answer.{Answer}
 use Rattle.rules.specs.declared.Line.{Line}
 use Rattle.rules.specs.declared.Line.the-variants.{Yields, NoCall}
 use Rattle.rules.specs.Lists.{sumBy}
@@ -32,9 +33,12 @@ price s (Meld a b) = 0
 unfoldable pub allowance : Forests → Line → ℕ
 allowance s l = ifDone (price s) s l
 
--- the links and cuts that a list of lines answered, and the sum of the allowances of its lines
+-- the links and cuts that answers show; those that a list of lines is answered, and the sum of its allowances
+abbrev pub movesIn : List Answer → ℕ
+movesIn told = sumBy (λ a. a .links + a .cuts) told
+
 unfoldable pub moves : Forests → List Line → ℕ
-moves s ls = sumBy (λ a. a .links + a .cuts) (answers s ls)
+moves s ls = movesIn (answers s ls)
 
 unfoldable pub allowed : Forests → List Line → ℕ
 allowed s [] = 0

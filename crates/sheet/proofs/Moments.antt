@@ -7,12 +7,12 @@ use lib.Seq.{take-add, take-nil, drop-nil}
 use Rattle.rules.specs.declared.Line.{Line}
 use Rattle.rules.specs.Answers.{after, answer, answers}
 use Rattle.rules.specs.Forests.{Forests, potential}
-use Rattle.rules.specs.Ledger.{allowed, moves}
+use Rattle.rules.specs.Ledger.{allowed, moves, movesIn}
 use Rattle.rules.specs.WellFormed.{WellFormed}
 use Rattle.rules.proofs.Answers.{after-append}
 use Rattle.rules.proofs.Ledger.{ledger}
 use Rattle.lines.specs.Print.{printed}
-use Rattle.sheet.specs.Histories.{forestsAt, movesIn}
+use Rattle.sheet.specs.Histories.{forestsAt}
 use Rattle.sheet.specs.Theorems.{Accounted}
 
 answers-length : (s : Forests) (ls : List Line) → length (answers s ls) ≡ length ls
@@ -46,7 +46,7 @@ module _ (s : Forests) (W : WellFormed s) (ls : List Line) where
     -- the ledger of the rules, read off the answers
     told-paid : movesIn (take n (drop i (answers s ls))) + potential (forestsAt s ls (i + n))
         ≤ potential (forestsAt s ls i) + allowed (forestsAt s ls i) (take n (drop i ls))
-    unfolding movesIn moves forestsAt
+    unfolding moves forestsAt
     told-paid = rw (between, later) (ledger s W ls i n)
 
   pub accounted : {written : List ℕ} → written ≡ printed (answers s ls) → Accounted s ls written

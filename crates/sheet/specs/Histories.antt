@@ -1,12 +1,10 @@
 -- Kept runs one after the other, each on the words that the last one left: the warm restarts.
-use Prim.Native.Nat.{ℕ, zero, suc, _+_}
+use Prim.Native.Nat.{ℕ, zero, suc}
 use mathlib.Core.List.{List, [], _∷_, _++_}
 use lib.ListN.{take}
-use Rattle.rules.specs.declared.Answer.{Answer}
 use Rattle.rules.specs.declared.Line.{Line}
 use Rattle.rules.specs.Answers.{after}
 use Rattle.rules.specs.Forests.{Forests}
-use Rattle.rules.specs.Lists.{sumBy}
 use Rattle.lines.specs.Parse.{linesOf}
 use Rattle.sheet.specs.Runs.{keptRun}
 
@@ -42,7 +40,3 @@ historyLines store (l ∷ ls) =
 -- A moment of a list of lines: after the first i of them. These are the forests then.
 unfoldable pub forestsAt : Forests → List Line → ℕ → Forests
 forestsAt start ls i = after start (take i ls)
-
--- the links and cuts that answers show
-unfoldable pub movesIn : List Answer → ℕ
-movesIn told = sumBy (λ a. a .links + a .cuts) told

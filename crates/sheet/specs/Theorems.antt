@@ -8,13 +8,13 @@ use Rattle.rules.specs.declared.Answer.{Answer}
 use Rattle.rules.specs.declared.Line.{Line}
 use Rattle.rules.specs.Forests.{Forests, empty, potential}
 use Rattle.rules.specs.Answers.{answers}
-use Rattle.rules.specs.Ledger.{allowed}
+use Rattle.rules.specs.Ledger.{allowed, movesIn}
 use Rattle.rules.specs.Words.{Sound, encode, itemsIn, forestsOf}
 use Rattle.text.specs.Lines.{closed}
 use Rattle.lines.specs.Parse.{linesOf}
 use Rattle.lines.specs.Print.{printed}
 use Rattle.sheet.specs.Runs.{Run, limitCode, freshRun, keptRun}
-use Rattle.sheet.specs.Histories.{Lent, storeAfter, writtenBy, historyLines, forestsAt, movesIn}
+use Rattle.sheet.specs.Histories.{Lent, storeAfter, writtenBy, historyLines, forestsAt}
 
 -- A run answers at most 2,000 lines and writes at most 32 bytes for each, so at most 64,000; a refused one none.
 pub record Bounded (run : Run) : Type 0 where
