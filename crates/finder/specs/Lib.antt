@@ -1,2 +1,3 @@
 pub mod SearchState
+pub mod Hidden
 pub mod Promise

@@ -3,6 +3,7 @@ ghost use mathlib.Core.Path.{_≡_};
 ghost use Prim.Native.Nat.{ℕ};
 ghost use lib.ListN.{length, replicate};
 ghost use Rattle.paths.specs.Map.{spanLists, mapOf};
+ghost use Rattle.paths.specs.Search.{never};
 ghost use Rattle.paths.specs.Feed.{resultLists};
 ghost use Rattle.finder.specs.SearchState.{BeginReady, Begun, Stands, Found};
 ghost use Rattle.finder.specs.Promise.{Feeds};
@@ -17,6 +18,7 @@ use store::NONE;
 use store::make_empty;
 use visit::visit_next;
 
+pub mod budget;
 mod visit;
 
 // What a feed call answers: its code, and three figures, zeros after a refusal.
@@ -83,12 +85,12 @@ fn search(
     store: &mut [u32],
     begun: Progress,
 ) -> Progress
-    requires { ⌜ ((start : ℕ) × Stands (mapOf places start (spanLists (now from) (now to) (now loss)))
+    requires { ⌜ ((start : ℕ) × Stands never (mapOf places start (spanLists (now from) (now to) (now loss)))
         (resultLists (now best) (now last) (now store)) begun) ⌝ }
     ensures { λ r. ⌜ ((start : ℕ)
-        → Stands (mapOf places start (spanLists (now (from .entry)) (now (to .entry)) (now (loss .entry))))
+        → Stands never (mapOf places start (spanLists (now (from .entry)) (now (to .entry)) (now (loss .entry))))
         (resultLists (now (best .entry)) (now (last .entry)) (now (store .entry))) begun
-        → Found (mapOf places start (spanLists (now (from .entry)) (now (to .entry)) (now (loss .entry))))
+        → Found never (mapOf places start (spanLists (now (from .entry)) (now (to .entry)) (now (loss .entry))))
         (resultLists (now (best .exit)) (now (last .exit)) (now (store .exit))) r) ⌝ }
 {
     let mut index: Index = [0; 4097];
@@ -100,7 +102,8 @@ fn search(
     go
 }
 
-// The feed table of a map, and the links, cuts and examined spans of the search for it.
+// The feed table of a map, and the links, cuts and examined spans of the search for it. No place list is lent, so none
+// is too short.
 pub fn feed(
     places: u32,
     start: u32,
@@ -124,6 +127,7 @@ pub fn feed(
         loss,
         best.len(),
         last.len(),
+        places as usize,
         store.len(),
     );
     if code != 0 {

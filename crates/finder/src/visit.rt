@@ -1,6 +1,7 @@
-// A place is taken from the queue, and its spans are tried. The map is no argument: the contracts hold for any whose
-// lists these are.
+// A place is taken from the queue, and its spans are tried. The stopping rule and the map are no arguments: the contracts
+// hold for any rule, and for any map whose lists these are.
 ghost use Rattle.paths.specs.Map.{Map};
+ghost use Rattle.paths.specs.Queue.{Stop};
 ghost use Rattle.paths.specs.Feed.{resultLists};
 ghost use Rattle.finder.specs.SearchState.{Taken, Goes, Visits};
 use heap::perform::perform;
@@ -21,11 +22,11 @@ fn try_spans(
     d: u32,
     taken: Progress,
 ) -> Progress
-    requires { ⌜ ((m : Map) × Taken m (now index) (now to) (now loss) u d
+    requires { ⌜ ((stop : Stop) × (m : Map) × Taken stop m (now index) (now to) (now loss) u d
         (resultLists (now best) (now last) (now store)) taken) ⌝ }
-    ensures { λ r. ⌜ ((m : Map) → Taken m (now (index .entry)) (now (to .entry)) (now (loss .entry)) u d
+    ensures { λ r. ⌜ ((stop : Stop) (m : Map) → Taken stop m (now (index .entry)) (now (to .entry)) (now (loss .entry)) u d
         (resultLists (now (best .entry)) (now (last .entry)) (now (store .entry))) taken
-        → Visits m taken (resultLists (now (best .exit)) (now (last .exit)) (now (store .exit))) r) ⌝ }
+        → Visits stop m taken (resultLists (now (best .exit)) (now (last .exit)) (now (store .exit))) r) ⌝ }
 {
     let i = u as usize;
     let end = index[i + 1] as usize;
@@ -50,11 +51,11 @@ pub fn visit_next(
     store: &mut [u32],
     go: Progress,
 ) -> Progress
-    requires { ⌜ ((m : Map) × Goes m (now index) (now to) (now loss)
+    requires { ⌜ ((stop : Stop) × (m : Map) × Goes stop m (now index) (now to) (now loss)
         (resultLists (now best) (now last) (now store)) go) ⌝ }
-    ensures { λ r. ⌜ ((m : Map) → Goes m (now (index .entry)) (now (to .entry)) (now (loss .entry))
+    ensures { λ r. ⌜ ((stop : Stop) (m : Map) → Goes stop m (now (index .entry)) (now (to .entry)) (now (loss .entry))
         (resultLists (now (best .entry)) (now (last .entry)) (now (store .entry))) go
-        → Visits m go (resultLists (now (best .exit)) (now (last .exit)) (now (store .exit))) r) ⌝ }
+        → Visits stop m go (resultLists (now (best .exit)) (now (last .exit)) (now (store .exit))) r) ⌝ }
 {
     let before = go.tally;
     let reply = perform(store, Call::ExtractMin { heap: 0 }, before);

@@ -1,5 +1,5 @@
 -- What the entries for hosts in C return and leave, on any input. A library's answer is a struct; C gets it as a
--- number, or as the code and two or three figures.
+-- number, or as the code and two to four figures.
 use Prim.Native.Nat.{ℕ}
 use mathlib.Core.Path.{_≡_}
 use mathlib.Core.List.{List, [], _∷_}
@@ -7,9 +7,10 @@ use mathlib.Core.Bool.{cond}
 use Rattle.soundness.specs.Check.{soundWords}
 use Rattle.sheet.specs.Runs.{Run}
 use Rattle.finder.specs.declared.Fed.{Fed}
+use Rattle.finder.specs.declared.budget.FedWithin.{FedWithin}
 use Rattle.paths.specs.Map.{SpanLists, Map}
 use Rattle.paths.specs.Feed.{ResultLists}
-use Rattle.finder.specs.Promise.{Feeds}
+use Rattle.finder.specs.Promise.{Feeds, FeedsWithin}
 use Rattle.mapfile.specs.Read.{Reading}
 
 -- the code, the figures (lines and bytes), the store and the output are those of the run
@@ -30,6 +31,15 @@ pub record FeedReturns (m : Map) (lent : ResultLists) (r : ℕ) (left : ResultLi
   pub sameCode : r ≡ fed .code
   pub sameFigures : figures ≡ fed .links ∷ fed .cuts ∷ fed .examined ∷ []
   pub feeds : Feeds m lent fed left
+
+-- the same of a feed call with a budget, which lists places too
+pub record BudgetReturns (budget : ℕ) (m : Map) (lent : ResultLists) (lentList : List ℕ) (r : ℕ) (left : ResultLists)
+    (listed figures : List ℕ) : Type 0 where
+  pub within : FedWithin
+  pub sameCode : r ≡ within .fed .code
+  pub sameFigures :
+      figures ≡ within .fed .links ∷ within .fed .cuts ∷ within .fed .examined ∷ within .listed ∷ []
+  pub feeds : FeedsWithin budget m lent lentList within left listed
 
 -- code, figures and lists are those of the reading
 pub record ReadReturns (w : Reading) (r : ℕ) (left : SpanLists) (figures : List ℕ) : Type 0 where

@@ -4,7 +4,7 @@ ghost use Rattle.sheet.specs.Runs.{freshRun, keptRun};
 ghost use Rattle.paths.specs.Map.{spanLists, mapOf};
 ghost use Rattle.paths.specs.Feed.{resultLists};
 ghost use Rattle.mapfile.specs.Read.{readMap};
-ghost use Rattle.host.specs.Entries.{RunReturns, soundNumber, FeedReturns, ReadReturns};
+ghost use Rattle.host.specs.Entries.{RunReturns, soundNumber, FeedReturns, BudgetReturns, ReadReturns};
 
 // A fresh run. Returns the code; the figures are lines and bytes written.
 #[no_mangle]
@@ -69,6 +69,36 @@ pub extern "C" fn feed_table(
 {
     let fed = finder::feed(places, start, from, to, loss, best, last, store);
     *figures = [fed.links, fed.cuts, fed.examined];
+    fed.code
+}
+
+// The feed table of a map within a budget, and the places in it by loss. Returns the code; the figures are links, cuts,
+// spans examined and places listed.
+#[no_mangle]
+pub extern "C" fn feed_budget(
+    places: u32,
+    start: u32,
+    from: &[u32],
+    to: &[u32],
+    loss: &[u32],
+    budget: u32,
+    best: &mut [u32],
+    last: &mut [u32],
+    listed: &mut [u32],
+    store: &mut [u32],
+    figures: &mut [u32; 4],
+) -> u32
+    ensures { λ r. ⌜ BudgetReturns budget
+        (mapOf places start (spanLists (now (from .entry)) (now (to .entry)) (now (loss .entry))))
+        (resultLists (now (best .entry)) (now (last .entry)) (now (store .entry))) (now (listed .entry))
+        r (resultLists (now (best .exit)) (now (last .exit)) (now (store .exit))) (now (listed .exit))
+        (now (figures .exit)) ⌝ }
+{
+    let within = finder::budget::feed_within(
+        places, start, from, to, loss, budget, best, last, listed, store,
+    );
+    let fed = within.fed;
+    *figures = [fed.links, fed.cuts, fed.examined, within.listed];
     fed.code
 }
 

@@ -8,9 +8,22 @@ use Rattle.rules.specs.Calls.{insert, release, setFree, removeRoot, extract, ha
 use Rattle.rules.specs.Words.{storeSize}
 use Rattle.rules.specs.Answers.{isEmpty, refusal, refused, unlessRefused, answer, answers}
 use Rattle.paths.specs.Queue.{waiting, nextOf, next}
-use Rattle.paths.specs.Search.{judge, update, offer, try, tried, visit, step, begin, steps, search}
+use Rattle.paths.specs.Search.{
+  judge,
+  update,
+  offer,
+  try,
+  tried,
+  visit,
+  step,
+  begin,
+  steps,
+  search,
+  hideWaiting,
+  takings,
+}
 use Rattle.paths.specs.Codes.{fault, previous, spanCode, codeBelow, feedCode}
-use Rattle.paths.specs.Feed.{linksOf, cutsOf, feedAs, feedResult}
+use Rattle.paths.specs.Feed.{linksOf, cutsOf, feedAs, feedResult, budgetAs, budgetResult}
 use Rattle.paths.specs.ByHand.{
   ninesThree,
   onThree,
@@ -19,13 +32,21 @@ use Rattle.paths.specs.ByHand.{
   paperMap,
   tieMap,
   refusedMaps,
+  onFour,
+  doneFour,
+  equalMap,
+  unreachedMap,
+  budgetRows,
+  onTwo,
+  refusedTwo,
   WorkedMaps,
 }
 
 pub workedMaps : WorkedMaps
-unfolding ninesThree onThree doneThree refusedThree paperMap tieMap refusedMaps feedResult feedAs linksOf cutsOf
-    feedCode storeSize codeBelow spanCode previous fault search steps begin step visit tried try offer update judge next
+unfolding ninesThree onThree doneThree refusedThree paperMap tieMap refusedMaps onFour doneFour equalMap unreachedMap
+    budgetRows onTwo refusedTwo budgetResult budgetAs feedResult feedAs hideWaiting takings linksOf cutsOf feedCode storeSize codeBelow spanCode previous fault search steps begin step visit tried try offer update judge next
     nextOf waiting answers answer unlessRefused refused refusal isEmpty perform decreaseKey hasParent extract
     removeRoot setFree release insert consolidate consolidateWithin occupied linkTrees climb isFree link cutIf
     cutOut cutWithin cascadingCut nodeKind cut minimum leastIn leastOf comesBefore setAll without sumBy
-workedMaps = record { calls = refl; paper = refl; tie = refl; refusals = refl }
+workedMaps =
+    record { calls = refl; paper = refl; tie = refl; refusals = refl; budgets = refl; placeList = refl }

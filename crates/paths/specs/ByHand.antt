@@ -1,16 +1,17 @@
--- Feed calls worked by hand: the map of the scope paper, one where an equal loss lowers the span shown, and the paper's
--- example of each code.
-use Prim.Native.Nat.{ℕ}
+-- Feed calls worked by hand: the map of the scope paper, one where an equal loss lowers the span shown, the paper's
+-- example of each code, and calls with a budget.
+use Prim.Native.Nat.{ℕ, _-_}
 use mathlib.Core.Path.{_≡_}
-use mathlib.Core.List.{List, [], _∷_, map}
-use lib.ListN.{replicate}
+use mathlib.Core.List.{List, [], _∷_, _++_, map}
+use lib.ListN.{length, replicate}
 use Rattle.rules.specs.declared.Call.the-variants.{Insert, ExtractMin, DecreaseKey}
 use Rattle.rules.specs.declared.Line.the-variants.{Yields}
 use Rattle.rules.specs.Forests.{none, empty}
 use Rattle.rules.specs.Words.{storeSize, encode}
 use Rattle.paths.specs.Map.{Map, spanLists, noSpans, mapOf}
+use Rattle.paths.specs.Table.{unlimited}
 use Rattle.paths.specs.Search.{find}
-use Rattle.paths.specs.Feed.{ResultLists, resultLists, Feed, feedResult}
+use Rattle.paths.specs.Feed.{ResultLists, resultLists, Feed, feedResult, BudgetFeed, budgetResult}
 
 -- result lists and a store for three places, all full of nines, and a feed call that is lent them
 unfoldable pub ninesThree : ResultLists
@@ -48,11 +49,71 @@ refusedMaps =
     ∷ mapOf 3 0 (spanLists (0 ∷ []) (1 ∷ []) (0 ∷ [])) ∷ mapOf 3 0 (spanLists (1 ∷ 0 ∷ []) (0 ∷ 1 ∷ []) (7 ∷ 7 ∷ []))
     ∷ []
 
+-- ---- with a budget
+
+-- A call that is lent four words for its places: the map and the budget; the places listed and the spans examined; the
+-- table's losses and its spans. None of these calls makes a link or a cut.
+pub record BudgetRow : Type 0 where
+  pub map : Map
+  pub budget : ℕ
+  pub places : List ℕ
+  pub examined : ℕ
+  pub best : List ℕ
+  pub last : List ℕ
+
+abbrev pub row : Map → ℕ → List ℕ → ℕ → List ℕ → List ℕ → BudgetRow
+row map budget places examined best last =
+    record { map = map; budget = budget; places = places; examined = examined; best = best; last = last }
+
+unfoldable pub onFour : BudgetRow → BudgetFeed
+onFour r = budgetResult (r .budget) (r .map) ninesThree (replicate 4 9)
+
+unfoldable pub doneFour : BudgetRow → BudgetFeed
+doneFour r =
+    record {
+      feed = doneThree 0 0 (r .examined) (r .best) (r .last);
+      number = length (r .places);
+      listed = r .places ++ replicate (4 - length (r .places)) 9;
+    }
+
+-- places 2 and 1, in this order, are met at the same loss
+unfoldable pub equalMap : Map
+equalMap = mapOf 3 0 (spanLists (0 ∷ 0 ∷ []) (2 ∷ 1 ∷ []) (5 ∷ 5 ∷ []))
+
+-- no span leads to place 2
+unfoldable pub unreachedMap : Map
+unreachedMap = mapOf 3 0 (spanLists (0 ∷ []) (1 ∷ []) (7 ∷ []))
+
+unfoldable pub budgetRows : List BudgetRow
+budgetRows =
+    row paperMap 0 (0 ∷ []) 2 (0 ∷ none ∷ none ∷ []) (none ∷ none ∷ none ∷ [])
+    ∷ row paperMap 6 (0 ∷ []) 2 (0 ∷ none ∷ none ∷ []) (none ∷ none ∷ none ∷ [])
+    ∷ row paperMap 7 (0 ∷ 1 ∷ []) 3 (0 ∷ 7 ∷ none ∷ []) (none ∷ 0 ∷ none ∷ [])
+    ∷ row paperMap 11 (0 ∷ 1 ∷ []) 3 (0 ∷ 7 ∷ none ∷ []) (none ∷ 0 ∷ none ∷ [])
+    ∷ row paperMap 12 (0 ∷ 1 ∷ 2 ∷ []) 3 (0 ∷ 7 ∷ 12 ∷ []) (none ∷ 0 ∷ 2 ∷ [])
+    ∷ row paperMap 4294967295 (0 ∷ 1 ∷ 2 ∷ []) 3 (0 ∷ 7 ∷ 12 ∷ []) (none ∷ 0 ∷ 2 ∷ [])
+    ∷ row tieMap 2 (2 ∷ 0 ∷ 1 ∷ []) 3 (1 ∷ 2 ∷ 0 ∷ []) (1 ∷ 0 ∷ none ∷ [])
+    ∷ row equalMap 4 (0 ∷ []) 2 (0 ∷ none ∷ none ∷ []) (none ∷ none ∷ none ∷ [])
+    ∷ row equalMap 5 (0 ∷ 1 ∷ 2 ∷ []) 2 (0 ∷ 5 ∷ 5 ∷ []) (none ∷ 1 ∷ 0 ∷ [])
+    ∷ row unreachedMap 4294967295 (0 ∷ 1 ∷ []) 1 (0 ∷ 7 ∷ none ∷ []) (none ∷ 0 ∷ none ∷ [])
+    ∷ []
+
+-- A place list of two words is refused before the spans are tested, with all that was lent unchanged.
+unfoldable pub onTwo : Map → BudgetFeed
+onTwo m = budgetResult 0 m ninesThree (replicate 2 9)
+
+unfoldable pub refusedTwo : ℕ → BudgetFeed
+refusedTwo code = record { feed = refusedThree code; number = 0; listed = replicate 2 9 }
+
+-- ---- the results
+
 pub record WorkedMaps : Type 0 where
   pub calls :
-      (find paperMap) .calls
+      (find unlimited paperMap) .calls
       ≡ Yields (Insert 0 0 0) ∷ Yields (ExtractMin 0) ∷ Yields (Insert 0 1 7) ∷ Yields (Insert 0 2 20)
       ∷ Yields (ExtractMin 0) ∷ Yields (DecreaseKey 2 12) ∷ Yields (ExtractMin 0) ∷ []
   pub paper : onThree paperMap ≡ doneThree 0 0 3 (0 ∷ 7 ∷ 12 ∷ []) (none ∷ 0 ∷ 2 ∷ [])
   pub tie : onThree tieMap ≡ doneThree 0 0 3 (1 ∷ 2 ∷ 0 ∷ []) (1 ∷ 0 ∷ none ∷ [])
   pub refusals : map onThree refusedMaps ≡ map refusedThree (14 ∷ 15 ∷ 16 ∷ 17 ∷ 18 ∷ 19 ∷ 20 ∷ [])
+  pub budgets : map onFour budgetRows ≡ map doneFour budgetRows
+  pub placeList : map onTwo refusedMaps ≡ map refusedTwo (14 ∷ 15 ∷ 16 ∷ 17 ∷ 22 ∷ 22 ∷ 22 ∷ [])

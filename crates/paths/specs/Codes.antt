@@ -1,4 +1,4 @@
--- The codes of a feed call (scope paper, Codes, 14 to 20), in the order in which they are tested.
+-- The codes of a feed call (scope paper, Codes, 14 to 20; request 1, 22), in the order in which they are tested.
 use Prim.Native.Nat.{ℕ, zero, suc}
 use mathlib.Core.List.{List}
 use mathlib.Core.Bool.{Bool, cond, not, _&&_, _||_}
@@ -41,11 +41,13 @@ abbrev pub resultListsFit : ℕ → ℕ → ℕ → ℕ → Bool
 resultListsFit places bestN lastN storeN =
     eqb bestN places && eqb lastN places && eqb storeN (storeSize places)
 
--- the first condition that a feed call meets, by its code; 0: it meets none
-unfoldable pub feedCode : Map → ℕ → ℕ → ℕ → ℕ
-feedCode m bestN lastN storeN =
+-- The first condition that a feed call meets, by its code; 0: it meets none. The place list, which only a call with a
+-- budget is lent, has listedN words.
+unfoldable pub feedCode : Map → ℕ → ℕ → ℕ → ℕ → ℕ
+feedCode m bestN lastN listedN storeN =
     cond (eqb (m .places) 0 || ltb 4096 (m .places)) 14
     (cond (leb (m .places) (m .start)) 15
     (cond (not (spanListsFit (m .lists))) 16
     (cond (not (resultListsFit (m .places) bestN lastN storeN)) 17
-    (spansCode (m .places) (m .lists)))))
+    (cond (ltb listedN (m .places)) 22
+    (spansCode (m .places) (m .lists))))))

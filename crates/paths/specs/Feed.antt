@@ -1,14 +1,15 @@
 -- The whole result of a feed call on any input: what it answers, and each word that it leaves.
 use Prim.Native.Nat.{ℕ, zero, suc}
-use mathlib.Core.List.{List}
-use lib.ListN.{length}
+use mathlib.Core.List.{List, _++_}
+use lib.ListN.{length, drop}
 use Rattle.rules.specs.declared.Line.{Line}
 use Rattle.rules.specs.Lists.{sumBy}
 use Rattle.rules.specs.Forests.{empty}
 use Rattle.rules.specs.Answers.{answers}
 use Rattle.rules.specs.Words.{encode}
 use Rattle.paths.specs.Map.{Map}
-use Rattle.paths.specs.Search.{find}
+use Rattle.paths.specs.Table.{Limit, unlimited, upTo}
+use Rattle.paths.specs.Search.{find, shownBest, shownLast, placesTaken}
 use Rattle.paths.specs.Codes.{feedCode}
 
 -- the links and cuts that a list of calls answers on empty queues for n items
@@ -36,18 +37,43 @@ pub record Feed : Type 0 where
   pub left : ResultLists
 
 -- A refusal gives its code and three zeros, and changes nothing. A call that is done leaves the store empty.
-unfoldable pub feedAs : ℕ → Map → ResultLists → Feed
-feedAs zero m lent =
-    let s = find m in
+unfoldable pub feedAs : ℕ → Limit → Map → ResultLists → Feed
+feedAs zero limit m lent =
+    let s = find limit m in
     record {
       code = 0;
       links = linksOf (m .places) (s .calls);
       cuts = cutsOf (m .places) (s .calls);
       examined = s .examined;
-      left = resultLists (s .best) (s .last) (encode (empty (m .places)));
+      left = resultLists (shownBest s) (shownLast s) (encode (empty (m .places)));
     }
-feedAs (suc code) m lent = record { code = suc code; links = 0; cuts = 0; examined = 0; left = lent }
+feedAs (suc code) limit m lent = record { code = suc code; links = 0; cuts = 0; examined = 0; left = lent }
 
+abbrev pub codeFor : Map → ResultLists → ℕ → ℕ
+codeFor m lent listedN = feedCode m (length (lent .best)) (length (lent .last)) listedN (length (lent .store))
+
+-- The full feed call is lent no place list, so 22 finds nothing: it is as if one were lent that is long enough.
 unfoldable pub feedResult : Map → ResultLists → Feed
-feedResult m lent =
-    feedAs (feedCode m (length (lent .best)) (length (lent .last)) (length (lent .store))) m lent
+feedResult m lent = feedAs (codeFor m lent (m .places)) unlimited m lent
+
+-- ---- with a budget
+
+-- a feed call's answer and lists, and beside them how many places are listed, and the place list as it is left
+pub record BudgetFeed : Type 0 where
+  pub feed : Feed
+  pub number : ℕ
+  pub listed : List ℕ
+
+-- words written over the first of a list
+abbrev pub overwrite : List ℕ → List ℕ → List ℕ
+overwrite listed words = words ++ drop (length words) listed
+
+unfoldable pub budgetAs : ℕ → ℕ → Map → ResultLists → List ℕ → BudgetFeed
+budgetAs zero budget m lent listed =
+    let places = placesTaken (upTo budget) m in
+    record { feed = feedAs zero (upTo budget) m lent; number = length places; listed = overwrite listed places }
+budgetAs (suc code) budget m lent listed =
+    record { feed = feedAs (suc code) (upTo budget) m lent; number = 0; listed = listed }
+
+unfoldable pub budgetResult : ℕ → Map → ResultLists → List ℕ → BudgetFeed
+budgetResult budget m lent listed = budgetAs (codeFor m lent (length listed)) budget m lent listed

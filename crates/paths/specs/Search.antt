@@ -9,6 +9,7 @@ use Rattle.rules.specs.declared.Line.{Line}
 use Rattle.rules.specs.declared.Line.the-variants.{Yields}
 use Rattle.rules.specs.Forests.{none}
 use Rattle.paths.specs.Map.{Map, spans, fromOf, toOf, lossOf}
+use Rattle.paths.specs.Table.{Limit, unlimited, upTo}
 use Rattle.paths.specs.Queue.{Queue, Stop, NextPlace, halts, takes, noneWait, enter, lower, leave, next}
 
 -- the queue, the table so far, the queue calls made, and the number of spans examined
@@ -132,9 +133,39 @@ steps stop m (suc k) = step m (next stop ((steps stop m k) .queue)) (steps stop 
 unfoldable pub search : Stop → Map → Search
 search stop m = steps stop m (m .places)
 
--- the full feed call goes on until no place waits
+-- A full feed call goes on until no place waits; one with a budget halts where the first place waiting is beyond it.
 abbrev pub never : Stop
 never key = false
 
-abbrev pub find : Map → Search
-find m = search never m
+abbrev pub beyond : Limit → Stop
+beyond unlimited = never
+beyond (upTo budget) = λ key. ltb budget key
+
+abbrev pub find : Limit → Map → Search
+find limit m = search (beyond limit) m
+
+-- ---- what is shown of a search
+
+-- the words of a list, one for each place, but none where the place still waits
+unfoldable pub hideWaiting : List ℕ → List ℕ → List ℕ
+hideWaiting [] words = words
+hideWaiting (w ∷ waits) [] = []
+hideWaiting (w ∷ waits) (x ∷ words) = cond (eqb w 0) x none ∷ hideWaiting waits words
+
+abbrev pub shownBest : Search → List ℕ
+shownBest s = hideWaiting (s .queue .waits) (s .best)
+
+abbrev pub shownLast : Search → List ℕ
+shownLast s = hideWaiting (s .queue .waits) (s .last)
+
+-- the places taken in k steps, in the order of the takings
+abbrev pub takenBy : NextPlace → List ℕ
+takenBy halts = []
+takenBy (takes u) = u ∷ []
+
+unfoldable pub takings : Stop → Map → ℕ → List ℕ
+takings stop m zero = []
+takings stop m (suc k) = takings stop m k ++ takenBy (next stop ((steps stop m k) .queue))
+
+abbrev pub placesTaken : Limit → Map → List ℕ
+placesTaken limit m = takings (beyond limit) m (m .places)

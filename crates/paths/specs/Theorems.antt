@@ -3,41 +3,79 @@
 use Prim.Native.Nat.{ℕ, _+_, _*_, _-_, _≤_, _<_}
 use mathlib.Core.Path.{_≡_}
 use mathlib.Core.List.{List, [], _∷_}
-use mathlib.Core.Bool.{not}
-use lib.ListN.{getD}
-use lib.Dec.{eqb}
+use mathlib.Core.Bool.{cond}
+use lib.ListN.{length, getD, take, drop}
+use lib.Dec.{leb}
 use Rattle.rules.specs.declared.Call.the-variants.{ExtractMin}
 use Rattle.rules.specs.declared.Line.the-variants.{Yields}
 use Rattle.rules.specs.declared.Answer.{Answer}
-use Rattle.rules.specs.Lists.{indicator, sumBy, sumTo}
+use Rattle.rules.specs.Lists.{occurs, sumBy, sumTo}
 use Rattle.rules.specs.Forests.{Forests, none, empty}
 use Rattle.rules.specs.Answers.{answer, answers, after}
 use Rattle.rules.specs.Fibonacci.{R}
 use Rattle.rules.specs.Words.{storeSize, encode}
 use Rattle.paths.specs.Map.{Map, spans, fromOf, Accepted}
-use Rattle.paths.specs.Chains.{Chain}
-use Rattle.paths.specs.Table.{Table}
+use Rattle.paths.specs.Chains.{Chain, chainLoss}
+use Rattle.paths.specs.Table.{Limit, unlimited, upTo, Within, Table, isReached, Listing}
 use Rattle.paths.specs.Queue.{Stop, halts, takes, next}
-use Rattle.paths.specs.Search.{Search, tried, extracted, steps, search, bestAt, find}
+use Rattle.paths.specs.Search.{
+  Search,
+  tried,
+  extracted,
+  steps,
+  search,
+  bestAt,
+  find,
+  shownBest,
+  shownLast,
+  placesTaken,
+}
 use Rattle.paths.specs.Codes.{feedCode}
-use Rattle.paths.specs.Feed.{linksOf, cutsOf, ResultLists, Feed, feedResult}
+use Rattle.paths.specs.Feed.{linksOf, cutsOf, ResultLists, Feed, feedResult, BudgetFeed, budgetResult}
 
 -- ---- the table
 
--- The search finds the feed table of every accepted map; a map has no other; and none is shown as a loss only where no
--- chain leads.
+-- The search finds the table of every accepted map under every limit; there is no other; and none is shown as a loss
+-- only where no chain within the limit leads.
 abbrev pub FinderTable : Type 0
-FinderTable = (m : Map) → Accepted m → Table m ((find m) .best) ((find m) .last)
+FinderTable =
+    (limit : Limit) (m : Map) → Accepted m
+    → Table limit m (shownBest (find limit m)) (shownLast (find limit m))
 
 abbrev pub TableUnique : Type 0
 TableUnique =
-    (m : Map) (best last best′ last′ : List ℕ) → Table m best last → Table m best′ last′
+    (limit : Limit) (m : Map) (best last best′ last′ : List ℕ) → Table limit m best last → Table limit m best′ last′
     → (best ≡ best′) × (last ≡ last′)
 
 abbrev pub NoneUnreached : Type 0
 NoneUnreached =
-    (m : Map) → Accepted m → (best last : List ℕ) → Table m best last → (p : ℕ) (c : List ℕ) → Chain m c p
-    → getD best p none < none
+    (limit : Limit) (m : Map) → Accepted m → (best last : List ℕ) → Table limit m best last → (p : ℕ) (c : List ℕ)
+    → Chain m c p → Within limit (chainLoss m c) → getD best p none < none
+
+-- The table under a budget is the full table where the loss is at most the budget, and none elsewhere.
+abbrev pub BudgetTable : Type 0
+BudgetTable =
+    (budget : ℕ) (m : Map) (best last best′ last′ : List ℕ)
+    → Table unlimited m best last → Table (upTo budget) m best′ last′ → (p : ℕ) → p < m .places
+    → (getD best′ p none ≡ cond (leb (getD best p none) budget) (getD best p none) none)
+    × (getD last′ p none ≡ cond (leb (getD best p none) budget) (getD last p none) none)
+
+-- ---- the place list
+
+-- The places that the search takes are the place list of its table, and a table has no other.
+abbrev pub FinderListing : Type 0
+FinderListing =
+    (limit : Limit) (m : Map) → Accepted m → Listing (shownBest (find limit m)) (placesTaken limit m)
+
+abbrev pub ListingUnique : Type 0
+ListingUnique = (best listed listed′ : List ℕ) → Listing best listed → Listing best listed′ → listed ≡ listed′
+
+-- A place is listed exactly if a chain within the limit leads to it.
+pub record ListedExactly : Type 0 where
+  pub listed : (limit : Limit) (m : Map) → Accepted m → (best last places : List ℕ) → Table limit m best last
+      → Listing best places → (p : ℕ) (c : List ℕ) → Chain m c p → Within limit (chainLoss m c) → occurs p places ≡ 1
+  pub only : (limit : Limit) (m : Map) (best last places : List ℕ) → Table limit m best last → Listing best places
+      → (p : ℕ) → 1 ≤ occurs p places → (c : List ℕ) × Chain m c p × Within limit (chainLoss m c)
 
 -- ---- the queue
 
@@ -81,21 +119,18 @@ CallsDone =
     → AllDone (answers (empty (m .places)) (s .calls))
 
 abbrev pub EndsEmpty : Type 0
-EndsEmpty = (m : Map) → Accepted m → forestsAfter m (find m) ≡ empty (m .places)
+EndsEmpty = (m : Map) → Accepted m → forestsAfter m (find unlimited m) ≡ empty (m .places)
 
 -- ---- the counts
-
--- 1 for the loss of a reached place
-unfoldable pub isReached : ℕ → ℕ
-isReached l = indicator (not (eqb l none))
 
 -- the spans whose from is a reached place
 unfoldable pub leavingReached : Map → List ℕ → ℕ
 leavingReached m best = sumTo (spans m) (λ e. isReached (getD best (fromOf m e) none))
 
--- A full feed call examines each of these once, and so no more than the spans listed; nor does any other.
+-- A search examines each of these once, and so no more than the spans listed: at no moment does any.
 abbrev pub ExaminedExact : Type 0
-ExaminedExact = (m : Map) → Accepted m → (find m) .examined ≡ leavingReached m ((find m) .best)
+ExaminedExact =
+    (limit : Limit) (m : Map) → Accepted m → (find limit m) .examined ≡ leavingReached m (shownBest (find limit m))
 
 abbrev pub ExaminedAtMost : Type 0
 ExaminedAtMost = (stop : Stop) (m : Map) → Accepted m → (s : Search) → Moment stop m s → s .examined ≤ spans m
@@ -110,26 +145,29 @@ CountsFit =
 abbrev pub Ceiling : Type 0
 Ceiling =
     (m : Map) → Accepted m →
-    let s : Search = find m in
+    let s : Search = find unlimited m in
     let p : ℕ = sumBy isReached (s .best) in
     linksOf (m .places) (s .calls) + cutsOf (m .places) (s .calls) ≤ p + 4 * (s .examined + 1 - p) + p * R p
 
 -- ---- the call
 
--- Code 0 is given exactly to an accepted map with result lists and a store of the right sizes.
-pub record Fits (m : Map) (bestN lastN storeN : ℕ) : Type 0 where
+-- Code 0 is given exactly to an accepted map with result lists, a place list and a store of the right sizes.
+pub record Fits (m : Map) (bestN lastN listedN storeN : ℕ) : Type 0 where
   pub accepted : Accepted m
   pub best : bestN ≡ m .places
   pub last : lastN ≡ m .places
+  pub listed : m .places ≤ listedN
   pub store : storeN ≡ storeSize (m .places)
 
 pub record CodeZero : Type 0 where
-  pub accepts : (m : Map) (bestN lastN storeN : ℕ) → Fits m bestN lastN storeN → feedCode m bestN lastN storeN ≡ 0
-  pub only : (m : Map) (bestN lastN storeN : ℕ) → feedCode m bestN lastN storeN ≡ 0 → Fits m bestN lastN storeN
+  pub accepts : (m : Map) (bestN lastN listedN storeN : ℕ) → Fits m bestN lastN listedN storeN
+      → feedCode m bestN lastN listedN storeN ≡ 0
+  pub only : (m : Map) (bestN lastN listedN storeN : ℕ) → feedCode m bestN lastN listedN storeN ≡ 0
+      → Fits m bestN lastN listedN storeN
 
--- What a feed call that is done leaves: the feed table, an empty store, and the count of spans examined.
-pub record Right (m : Map) (r : Feed) : Type 0 where
-  pub table : Table m (r .left .best) (r .left .last)
+-- What a feed call that is done leaves: the table, an empty store, and the count of spans examined.
+pub record Right (limit : Limit) (m : Map) (r : Feed) : Type 0 where
+  pub table : Table limit m (r .left .best) (r .left .last)
   pub store : r .left .store ≡ encode (empty (m .places))
   pub examined : r .examined ≡ leavingReached m (r .left .best)
   pub atMost : r .examined ≤ spans m
@@ -138,4 +176,26 @@ abbrev pub FeedDone : Type 0
 FeedDone =
     (m : Map) (lent : ResultLists) →
     let r : Feed = feedResult m lent in
-    r .code ≡ 0 → Right m r
+    r .code ≡ 0 → Right unlimited m r
+
+-- What one with a budget leaves beside: the first words of the place list, as many as it answers, are the places of its
+-- table, and the others are those that it was lent.
+pub record RightList (lent : List ℕ) (r : BudgetFeed) : Type 0 where
+  pub within : r .number ≤ length (r .listed)
+  pub listing : Listing (r .feed .left .best) (take (r .number) (r .listed))
+  pub untouched : drop (r .number) (r .listed) ≡ drop (r .number) lent
+
+abbrev pub BudgetDone : Type 0
+BudgetDone =
+    (budget : ℕ) (m : Map) (lent : ResultLists) (listed : List ℕ) →
+    let r : BudgetFeed = budgetResult budget m lent listed in
+    r .feed .code ≡ 0 → Right (upTo budget) m (r .feed) × RightList listed r
+
+-- The largest budget gives all that the full call gives, and lists every place that the full table reaches.
+abbrev pub LargestBudget : Type 0
+LargestBudget =
+    (m : Map) (lent : ResultLists) (listed : List ℕ) →
+    let r : BudgetFeed = budgetResult 4294967295 m lent listed in
+    r .feed .code ≡ 0 →
+    (r .feed ≡ feedResult m lent)
+    × Listing ((feedResult m lent) .left .best) (take (r .number) (r .listed))

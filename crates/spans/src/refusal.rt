@@ -62,7 +62,8 @@ fn spans_code(places: u32, from: &[u32], to: &[u32], loss: &[u32]) -> u32
     0
 }
 
-// The first condition that a feed call meets, by its code, or 0; best, last and store are the lengths of what is lent.
+// The first condition that a feed call meets, by its code, or 0; best, last, listed and store are the lengths of what is
+// lent.
 pub fn feed_code(
     places: u32,
     start: u32,
@@ -71,11 +72,12 @@ pub fn feed_code(
     loss: &[u32],
     best: usize,
     last: usize,
+    listed: usize,
     store: usize,
 ) -> u32
     ensures { λ r. ⌜ r ≡ feedCode
         (mapOf places start (spanLists (now (from .entry)) (now (to .entry)) (now (loss .entry))))
-        best last store ⌝ }
+        best last listed store ⌝ }
 {
     if places == 0 {
         return 14;
@@ -104,6 +106,9 @@ pub fn feed_code(
     }
     if store != size_for(n) {
         return 17;
+    }
+    if listed < n {
+        return 22;
     }
     spans_code(places, from, to, loss)
 }
