@@ -70,14 +70,15 @@ module _ (m : Map) where
       level zero h = omega arith
       level (suc e) h = A .rising e h
 
-  module _ (bestN lastN storeN : ℕ) where
-    fits : feedCode m bestN lastN storeN ≡ 0 → Fits m bestN lastN storeN
+  module _ (bestN lastN listedN storeN : ℕ) where
+    fits : feedCode m bestN lastN listedN storeN ≡ 0 → Fits m bestN lastN listedN storeN
     unfolding feedCode previous
     fits z =
         let c₁ = no-cond (eqb (m .places) 0 || ltb 4096 (m .places)) 14 _ (λ q. omega arith) z in
         let c₂ = no-cond (leb (m .places) (m .start)) 15 _ (λ q. omega arith) (c₁ .1) in
         let c₃ = no-cond (not (spanListsFit (m .lists))) 16 _ (λ q. omega arith) (c₂ .1) in
         let c₄ = no-cond (not (resultListsFit (m .places) bestN lastN storeN)) 17 _ (λ q. omega arith) (c₃ .1) in
+        let c₅ = no-cond (ltb listedN (m .places)) 22 _ (λ q. omega arith) (c₄ .1) in
         let f = no-or (eqb (m .places) 0) (ltb 4096 (m .places)) (c₁ .0) in
         let g = and-split _ (leb (spans m) 16384) (not-false _ (c₃ .0)) in
         let g′ = and-split (eqb (length (m .lists .to)) (spans m)) (eqb (length (m .lists .loss)) (spans m)) (g .0) in
@@ -85,7 +86,7 @@ module _ (m : Map) where
         let h′ = and-split (eqb bestN (m .places)) (eqb lastN (m .places)) (h .0) in
         let n : m .places ≢ 0 = eqb-false (m .places) 0 (f .0) in
         let s : (e : ℕ) → e < spans m → Faultless e =
-        λ e k. faultless e (each-none (m .places) (m .lists) (spans m) (c₄ .1) e k) in
+        λ e k. faultless e (each-none (m .places) (m .lists) (spans m) (c₅ .1) e k) in
         record {
           accepted =
               record {
@@ -103,10 +104,11 @@ module _ (m : Map) where
               };
           best = eqb-true bestN (m .places) (h′ .0);
           last = eqb-true lastN (m .places) (h′ .1);
+          listed = ltb-false listedN (m .places) (c₅ .0);
           store = eqb-true storeN (storeSize (m .places)) (h .1);
         }
 
-    accepts : Fits m bestN lastN storeN → feedCode m bestN lastN storeN ≡ 0
+    accepts : Fits m bestN lastN listedN storeN → feedCode m bestN lastN listedN storeN ≡ 0
     unfolding feedCode
     accepts F =
         let A = F .accepted in
@@ -120,6 +122,7 @@ module _ (m : Map) where
           eq-eqb bestN (m .places) (F .best),
           eq-eqb lastN (m .places) (F .last),
           eq-eqb storeN (storeSize (m .places)) (F .store),
+          le-ltb listedN (m .places) (F .listed),
         )
         (all-none (m .places) (m .lists) (spans m) (no-fault A))
 

@@ -3,7 +3,7 @@ use Prim.Native.Nat.{ℕ, zero, suc, _+_, _≤_, _<_}
 use mathlib.Core.Path.{_≡_, refl, sym}
 use mathlib.Core.Logic.{_≢_}
 use mathlib.Core.List.{List, [], _∷_}
-use mathlib.Core.Bool.{Bool, true, false}
+use mathlib.Core.Bool.{Bool, true, false, cond}
 use native.Mathlib.Nat.{le-refl}
 use native.Mathlib.Omega.{arith}
 use lib.ListN.{getD}
@@ -13,8 +13,34 @@ use Rattle.rules.specs.Lists.{sumBy}
 use Rattle.rules.specs.Forests.{none}
 use Rattle.paths.specs.Map.{Map, spans, fromOf, toOf, lossOf, Accepted}
 use Rattle.paths.specs.Chains.{Chain, chainLoss, AsGood}
-use Rattle.paths.specs.Table.{Reached, Entry, atStart, reached, unreached}
+use Rattle.paths.specs.Table.{
+  Limit,
+  unlimited,
+  upTo,
+  Within,
+  Reached,
+  Entry,
+  atStart,
+  reached,
+  unreached,
+}
+use Rattle.paths.specs.Search.{hideWaiting}
+use Rattle.paths.proofs.Hiding.{hide-at}
 use Rattle.paths.proofs.Invariant.{Waits, Met, Settled, Invariant}
+
+-- A search has halted by a limit: what waits is beyond it, and what is settled is within.
+pub record Halted (limit : Limit) (waits best : List ℕ) : Type 0 where
+  pub out : (q : ℕ) → Waits waits q → Within limit (getD best q none) → ⊥
+  pub inside : (q : ℕ) → Settled waits best q → Within limit (getD best q none)
+
+-- a loss within a limit is smaller than one beyond it
+apart : (limit : Limit) (x y : ℕ) → Within limit x → (Within limit y → ⊥) → x < y
+apart unlimited x y i o = absurd (o tt)
+apart (upTo b) x y i o = go (leb y b) refl
+  where
+    go : (t : Bool) → leb y b ≡ t → x < y
+    go true e = absurd (o (leb-true y b e))
+    go false e = omega (arith, leb-false y b e)
 
 -- p is settled, with a loss of at most t
 record Covered (waits best : List ℕ) (p t : ℕ) : Type 0 where
@@ -122,30 +148,38 @@ module _
               (omega (arith, cheapest (f ∷ c) (L .leads), L .least (e ∷ t .chain) leads, has));
         }
 
-    final : Met best p → Entry m p (getD best p none) (getD last p none)
-    final a = go (eqb p (m .start)) refl
+    final : (limit : Limit) → Within limit (getD best p none) → Met best p
+        → Entry limit m p (getD best p none) (getD last p none)
+    final limit i a = go (eqb p (m .start)) refl
       where
-        go : (t : Bool) → eqb p (m .start) ≡ t → Entry m p (getD best p none) (getD last p none)
+        go : (t : Bool) → eqb p (m .start) ≡ t → Entry limit m p (getD best p none) (getD last p none)
         go true q =
             let e : p ≡ m .start = eqb-true p (m .start) q in
             atStart e (rw e (I .begun .0)) (rw e (I .begun .1))
-        go false q = let n : p ≢ m .start = eqb-false p (m .start) q in reached n (is-reached a n)
+        go false q = let n : p ≢ m .start = eqb-false p (m .start) q in reached n (is-reached a n) i
 
-  -- No place waits: a chain leads only to places that are met, and all that is shown is final.
-  module _ (z : (q : ℕ) → getD waits q 0 ≡ 0) (p : ℕ) where
-    above : (b q : ℕ) → Waits waits q → b < getD best q none
-    above b q w = absurd (w (z q))
+  -- The search has halted by a limit: a chain within it leads to a settled place, and what is shown there is final.
+  module _ (limit : Limit) (H : Halted limit waits best) (p : ℕ) where
+    above : (b : ℕ) → Within limit b → (q : ℕ) → Waits waits q → b < getD best q none
+    above b i q w = apart limit b (getD best q none) i (H .out q w)
 
-    pub leads-met : (c : List ℕ) → Chain m c p → Met best p
-    leads-met c h = covers (chainLoss m c) (above (chainLoss m c)) c p h (le-refl _) .is .1
+    pub leads-settled : (c : List ℕ) → Chain m c p → Within limit (chainLoss m c) → Settled waits best p
+    leads-settled c h i = covers (chainLoss m c) (above (chainLoss m c) i) c p h (le-refl _) .is
 
-    pub entryShown : Entry m p (getD best p none) (getD last p none)
-    entryShown = go (eqb (getD best p none) none) refl
+    pub entryShown : Entry limit m p (getD (hideWaiting waits best) p none) (getD (hideWaiting waits last) p none)
+    entryShown = rw (hide-at waits best p, hide-at waits last p) (go (eqb (getD waits p 0) 0) refl)
       where
-        go : (t : Bool) → eqb (getD best p none) none ≡ t → Entry m p (getD best p none) (getD last p none)
-        go true q =
-            let e : getD best p none ≡ none = eqb-true (getD best p none) none q in
-            unreached (λ c h. leads-met c h e) e (I .unmet p e)
+        go : (t : Bool) → eqb (getD waits p 0) 0 ≡ t
+            → Entry limit m p (cond t (getD best p none) none) (cond t (getD last p none) none)
         go false q =
-            let a : Met best p = eqb-false (getD best p none) none q in
-            final none (above none) p (omega (arith, met-small p a)) a
+            unreached (λ c h i. eqb-false (getD waits p 0) 0 q (leads-settled c h i .0)) refl refl
+        go true q = shown (eqb (getD best p none) none) refl
+          where
+            shown : (t : Bool) → eqb (getD best p none) none ≡ t → Entry limit m p (getD best p none) (getD last p none)
+            shown true r =
+                let e : getD best p none ≡ none = eqb-true (getD best p none) none r in
+                unreached (λ c h i. leads-settled c h i .1 e) e (I .unmet p e)
+            shown false r =
+                let a : Met best p = eqb-false (getD best p none) none r in
+                let i = H .inside p (eqb-true (getD waits p 0) 0 q, a) in
+                final (getD best p none) (above (getD best p none) i) p (le-refl _) limit i a

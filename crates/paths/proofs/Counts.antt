@@ -21,10 +21,11 @@ use Rattle.rules.proofs.Fibonacci.{R-is, R-zero, F-above}
 use Rattle.rules.proofs.EmptyForests.{emptyWellFormed}
 use Rattle.rules.proofs.Ledger.{all-paid}
 use Rattle.paths.specs.Map.{Map, Accepted}
+use Rattle.paths.specs.Table.{unlimited, isReached}
 use Rattle.paths.specs.Queue.{Stop}
 use Rattle.paths.specs.Search.{Search, never, search, find}
 use Rattle.paths.specs.Feed.{linksOf, cutsOf}
-use Rattle.paths.specs.Theorems.{isReached, Moment, CountsFit, Ceiling}
+use Rattle.paths.specs.Theorems.{Moment, CountsFit, Ceiling}
 use Rattle.paths.proofs.Waiting.{sum-none}
 use Rattle.paths.proofs.Invariant.{isNone, unsettled}
 use Rattle.paths.proofs.Begin.{sum-zeros}
@@ -97,7 +98,7 @@ countsFit stop m A s M = omega (arith, counts-low stop m A s M)
 pub ceiling : Ceiling
 unfolding search unsettled
 ceiling m A =
-    let s : Search = find m in
+    let s : Search = find unlimited m in
     let C = steps-keep never m A (Costs m) (costs never m A) (m .places) in
     let B = search-between never m A in
     let p : ℕ = sumBy isReached (s .best) in

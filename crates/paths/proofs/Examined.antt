@@ -32,8 +32,9 @@ use Rattle.paths.specs.Search.{
   step,
   begin,
   steps,
-  never,
+  beyond,
   search,
+  find,
   bestAt,
   lastAt,
 }
@@ -42,14 +43,13 @@ use Rattle.paths.proofs.Waiting.{next-takes, waits-below}
 use Rattle.paths.proofs.Begin.{none-settled}
 use Rattle.paths.proofs.Tried.{tried-keeps}
 use Rattle.paths.proofs.Steps.{Between, extracted-trying, steps-between}
-use Rattle.paths.proofs.Table.{none-waits}
 use Rattle.paths.proofs.Settling.{
-  isSettled,
   settledAt,
   waits-not,
   not-settled,
   is-settled,
   settled-le,
+  shown-settled,
   update-settles,
 }
 
@@ -172,10 +172,10 @@ module _ (stop : Stop) (m : Map) (A : Accepted m) where
       (rw ones (le-refl _)))
 
 pub examinedExact : ExaminedExact
-unfolding leavingReached isSettled search
-examinedExact m A =
-    steps-exact never m A (m .places)
-    ∙ sumTo-cong (spans m) _ _ (λ e _. rw (none-waits m A (fromOf m e)))
+unfolding leavingReached search
+examinedExact limit m A =
+    steps-exact (beyond limit) m A (m .places)
+    ∙ sumTo-cong (spans m) _ _ (λ e _. sym (shown-settled (find limit m) (fromOf m e)))
 
 pub examinedAtMost : ExaminedAtMost
 examinedAtMost stop m A s (between k) = most stop m A (steps stop m k) (steps-exact stop m A k)

@@ -1,28 +1,37 @@
--- What a feed call that is done leaves.
+-- What a feed call that is done leaves, by its code.
 use Prim.Native.Nat.{ℕ, zero, suc}
 use mathlib.Core.Path.{_≡_, refl}
 use native.Mathlib.Omega.{arith}
 use lib.ListN.{length}
-use Rattle.paths.specs.Search.{never, search, find}
-use Rattle.paths.specs.Codes.{feedCode}
-use Rattle.paths.specs.Feed.{feedAs, feedResult}
+use Rattle.paths.specs.Map.{Map, Accepted}
+use Rattle.paths.specs.Table.{Limit, unlimited}
+use Rattle.paths.specs.Search.{beyond, search, find}
+use Rattle.paths.specs.Feed.{ResultLists, codeFor, feedAs, feedResult}
 use Rattle.paths.specs.Theorems.{between, Right, FeedDone}
 use Rattle.paths.proofs.Table.{finderTable}
 use Rattle.paths.proofs.Examined.{examinedExact, examinedAtMost}
 use Rattle.paths.proofs.Accepts.{codeZero}
 
+-- a map that gets code 0 is accepted
+pub done-accepted : (m : Map) (lent : ResultLists) (listedN : ℕ) → codeFor m lent listedN ≡ 0 → Accepted m
+done-accepted m lent listedN e =
+    codeZero .only m (length (lent .best)) (length (lent .last)) listedN (length (lent .store)) e .accepted
+
+pub done-right : (limit : Limit) (m : Map) (lent : ResultLists) → Accepted m → Right limit m (feedAs 0 limit m lent)
+unfolding feedAs search
+done-right limit m lent A =
+    record {
+      table = finderTable limit m A;
+      store = refl;
+      examined = examinedExact limit m A;
+      atMost = examinedAtMost (beyond limit) m A (find limit m) (between (m .places));
+    }
+
 pub feedDone : FeedDone
-unfolding feedResult feedAs search
-feedDone m lent = go (feedCode m (length (lent .best)) (length (lent .last)) (length (lent .store))) refl
+unfolding feedResult feedAs
+feedDone m lent = go (codeFor m lent (m .places)) refl
   where
-    go : (c : ℕ) → feedCode m (length (lent .best)) (length (lent .last)) (length (lent .store)) ≡ c
-        → (feedAs c m lent) .code ≡ 0 → Right m (feedAs c m lent)
-    go zero e _ =
-        let A = codeZero .only m (length (lent .best)) (length (lent .last)) (length (lent .store)) e .accepted in
-        record {
-          table = finderTable m A;
-          store = refl;
-          examined = examinedExact m A;
-          atMost = examinedAtMost never m A (find m) (between (m .places));
-        }
+    go : (c : ℕ) → codeFor m lent (m .places) ≡ c → (feedAs c unlimited m lent) .code ≡ 0
+        → Right unlimited m (feedAs c unlimited m lent)
+    go zero e _ = done-right unlimited m lent (done-accepted m lent (m .places) e)
     go (suc c) e z = absurd (omega (arith, z))

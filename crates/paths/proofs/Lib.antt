@@ -10,13 +10,15 @@ pub mod Offers
 pub mod Tried
 pub mod Begin
 pub mod Steps
+pub mod Hiding
 pub mod Chains
+pub mod Settling
+pub mod Halting
 pub mod Table
 pub mod Calls
 pub mod AllFree
 pub mod Log
 pub mod Served
-pub mod Settling
 pub mod Examined
 pub mod Costs
 pub mod Counts

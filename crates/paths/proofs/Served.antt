@@ -16,6 +16,7 @@ use Rattle.rules.specs.Theorems.{InRange}
 use Rattle.rules.proofs.EmptyForests.{getD-all, emptyWellFormed}
 use Rattle.rules.proofs.KeepsWellFormed.{keepsWellFormed}
 use Rattle.paths.specs.Map.{Map, fromOf, toOf, lossOf, IsSpan, Accepted}
+use Rattle.paths.specs.Table.{unlimited}
 use Rattle.paths.specs.Queue.{Queue, Stop, takes, next, noneWait}
 use Rattle.paths.specs.Search.{
   Search,
@@ -154,7 +155,7 @@ takesMinimum stop m A k u e =
 pub endsEmpty : EndsEmpty
 unfolding search
 endsEmpty m A =
-    let s : Search = find m in
+    let s : Search = find unlimited m in
     let S = steps-keep never m A (ServedOf m) (served never m A) (m .places) in
     let B = search-between never m A in
     all-free (forestsAfter m s) (m .places) (S .formed .disjoint) (ap length (S .waits) ∙ B .invariant .waitsN)

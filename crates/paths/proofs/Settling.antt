@@ -13,8 +13,10 @@ use Rattle.rules.specs.Lists.{indicator}
 use Rattle.rules.specs.Forests.{none}
 use Rattle.rules.proofs.Occurs.{byItem}
 use Rattle.paths.specs.Map.{Map, fromOf, toOf, lossOf, IsSpan, Accepted}
-use Rattle.paths.specs.Search.{Search, Verdict, unmet, smaller, tie, worse, update, examine, bestAt}
-use Rattle.paths.specs.Theorems.{isReached}
+use Rattle.paths.specs.Search.{Search, Verdict, unmet, smaller, tie, worse, update, examine, bestAt, shownBest}
+use Rattle.paths.specs.Table.{isReached}
+use Rattle.paths.proofs.Hiding.{hide-at}
+use Rattle.paths.proofs.Invariant.{Settled}
 use Rattle.paths.proofs.Offers.{TryingOf, Case, at-unmet, at-smaller}
 use Rattle.paths.proofs.Tried.{KeptByOffers}
 
@@ -50,6 +52,52 @@ settled-le w l = go (eqb w 0) (eqb l none)
 
 abbrev pub settledAt : Search → ℕ → ℕ
 settledAt s q = isSettled (getD (s .queue .waits) q 0) (bestAt s q)
+
+-- in the table, as it is shown, the reached places are the settled ones
+pub shown-settled : (s : Search) (q : ℕ) → isReached (getD (shownBest s) q none) ≡ settledAt s q
+unfolding isSettled isReached
+shown-settled s q = rw (hide-at (s .queue .waits) (s .best) q) (go (eqb (getD (s .queue .waits) q 0) 0))
+  where
+    go : (t : Bool) → isReached (cond t (bestAt s q) none) ≡ cond t (isReached (bestAt s q)) 0
+    go true = refl
+    go false = refl
+
+-- A place that is settled after an offer was so before, with the same loss: the place that gains by one waits.
+module _
+    (m : Map) (A : Accepted m) (u d k r : ℕ) (s : Search) (T : TryingOf m u d k r s) (is : IsSpan m k)
+    (fu : fromOf m k ≡ u) where
+  abbrev p : ℕ
+  p = toOf m k
+
+  abbrev l : ℕ
+  l = d + lossOf m k
+
+  pub record StaysSettled (s′ : Search) (q : ℕ) : Type 0 where
+    pub settled : Settled (s .queue .waits) (s .best) q
+    pub loss : bestAt s′ q ≡ bestAt s q
+
+  pub stays-settled : (v : Verdict) → Case s p l k v → (q : ℕ) →
+      let s′ : Search = update v p l k (examine s) in
+      Settled (s′ .queue .waits) (s′ .best) q → StaysSettled s′ q
+  unfolding update
+  stays-settled unmet (at-unmet z o) =
+      byItem p
+      (λ t. absurd (omega (
+        arith,
+        getD-set-same (s .queue .waits) p 1 0 (omega (arith, T .invariant .waitsN, A .toIn k (is .0))),
+        t .0,
+      )))
+      (λ q n t.
+      let b = getD-set-other (s .best) p q l none n in
+      record {
+        settled = (sym (getD-set-other (s .queue .waits) p q 1 0 n) ∙ t .0, rw b at (t .1));
+        loss = b;
+      })
+  stays-settled smaller (at-smaller _ o w _) =
+      byItem p (λ t. absurd (omega (arith, w, t .0)))
+      (λ q n t. let b = getD-set-other (s .best) p q l none n in record { settled = (t .0, rw b at (t .1)); loss = b })
+  stays-settled tie c = λ q t. record { settled = t; loss = refl }
+  stays-settled worse c = λ q t. record { settled = t; loss = refl }
 
 -- offers settle no place
 pub update-settles : (m : Map) → Accepted m → (f : ℕ → ℕ) → KeptByOffers m (λ s. (q : ℕ) → settledAt s q ≡ f q)

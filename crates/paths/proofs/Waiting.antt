@@ -122,7 +122,7 @@ next-takes stop q u = go (waiting 0 (q .waits)) refl
             })
 
 -- The finder halts: if any place waits, then so does one, with no larger key, at which the rule stops.
-next-halts : (stop : Stop) (q : Queue) → next stop q ≡ halts → (z : ℕ) → getD (q .waits) z 0 ≢ 0
+pub next-halts : (stop : Stop) (q : Queue) → next stop q ≡ halts → (z : ℕ) → getD (q .waits) z 0 ≢ 0
     → (u : ℕ) × (stop (getD (q .key) u 0) ≡ true) × (getD (q .key) u 0 ≤ getD (q .key) z 0)
 unfolding next nextOf occurs sumBy
 next-halts stop q n z w = go (waiting 0 (q .waits)) refl n
