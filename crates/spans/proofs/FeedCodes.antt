@@ -4,22 +4,25 @@ use mathlib.Core.Path.{_≡_}
 use mathlib.Core.Logic.{_≢_}
 use mathlib.Core.Bool.{cond, not}
 use lib.ListN.{length}
-use lib.Dec.{leb}
+use lib.Dec.{ltb, leb}
 use borrow.Author.Tests.{eq-eqb, ne-eqb, lt-ltb, le-ltb, le-leb, lt-leb}
 use Rattle.rules.specs.Words.{storeSize}
 use Rattle.paths.specs.Map.{Map, spans}
 use Rattle.paths.specs.Codes.{spansCode, spanListsFit, resultListsFit, feedCode}
 
-module _ (m : Map) (bestN lastN storeN : ℕ) where
+module _ (m : Map) (bestN lastN listedN storeN : ℕ) where
   abbrev n : ℕ
   n = m .places
 
   abbrev code : ℕ
-  code = feedCode m bestN lastN storeN
+  code = feedCode m bestN lastN listedN storeN
 
-  -- what is left of the tests from 15, 16 and 17 on
+  -- what is left of the tests from 15, 16, 17 and 22 on
+  abbrev from-22 : ℕ
+  from-22 = cond (ltb listedN n) 22 (spansCode n (m .lists))
+
   abbrev from-17 : ℕ
-  from-17 = cond (not (resultListsFit n bestN lastN storeN)) 17 (spansCode n (m .lists))
+  from-17 = cond (not (resultListsFit n bestN lastN storeN)) 17 from-22
 
   abbrev from-16 : ℕ
   from-16 = cond (not (spanListsFit (m .lists))) 16 from-17
@@ -91,7 +94,13 @@ module _ (m : Map) (bestN lastN storeN : ℕ) where
                 code-store h =
                     rw (past-16, eq-eqb bestN n best, eq-eqb lastN n last, ne-eqb storeN (storeSize n) h)
 
-                pub code-spans : storeN ≡ storeSize n → (c : ℕ) → c ≡ spansCode n (m .lists)
-                    → c ≡ code
-                code-spans h c q =
-                    rw (past-16, eq-eqb bestN n best, eq-eqb lastN n last, eq-eqb storeN (storeSize n) h) q
+                module _ (store : storeN ≡ storeSize n) where
+                  past-17 : code ≡ from-22
+                  past-17 =
+                      rw (past-16, eq-eqb bestN n best, eq-eqb lastN n last, eq-eqb storeN (storeSize n) store)
+
+                  pub code-listed : listedN < n → 22 ≡ code
+                  code-listed h = rw (past-17, lt-ltb listedN n h)
+
+                  pub code-spans : n ≤ listedN → (c : ℕ) → c ≡ spansCode n (m .lists) → c ≡ code
+                  code-spans h c q = rw (past-17, le-ltb listedN n h) q

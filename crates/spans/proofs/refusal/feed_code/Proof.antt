@@ -11,6 +11,7 @@ use Rattle.spans.proofs.FeedCodes.{
   code-best,
   code-last,
   code-store,
+  code-listed,
   code-spans,
 }
 use borrow.Author.Needs.{needs}
@@ -19,41 +20,41 @@ use Rattle.spans.proofs.refusal.feed_code.Tie as tie
 
 returns : tie.Need-returns
 returns c =
-    code-no-place (mapOf _ _ (spanLists _ _ _)) _ _ _ (c .if1 .taken)
+    code-no-place (mapOf _ _ (spanLists _ _ _)) _ _ _ _ (c .if1 .taken)
 
 returns-2 : tie.Need-returns-2
 returns-2 c =
-    code-many (mapOf _ _ (spanLists _ _ _)) _ _ _ (c .before .if1 .left) (c .if2 .taken)
+    code-many (mapOf _ _ (spanLists _ _ _)) _ _ _ _ (c .before .if1 .left) (c .if2 .taken)
 
 returns-3 : tie.Need-returns-3
 returns-3 c =
-    code-start (mapOf _ _ (spanLists _ _ _)) _ _ _ (c .before .before .if1 .left) (c .before .if2 .left) (c .if3 .taken)
+    code-start (mapOf _ _ (spanLists _ _ _)) _ _ _ _ (c .before .before .if1 .left) (c .before .if2 .left) (c .if3 .taken)
 
 returns-4 : tie.Need-returns-4
 returns-4 c =
-    code-to (mapOf _ _ (spanLists _ _ _)) _ _ _ (c .before .before .before .if1 .left) (c .before .before .if2 .left)
+    code-to (mapOf _ _ (spanLists _ _ _)) _ _ _ _ (c .before .before .before .if1 .left) (c .before .before .if2 .left)
     (c .before .if3 .left) (c .if4 .taken)
 
 returns-5 : tie.Need-returns-5
 returns-5 c =
-    code-loss (mapOf _ _ (spanLists _ _ _)) _ _ _ (c .before .before .before .before .if1 .left)
+    code-loss (mapOf _ _ (spanLists _ _ _)) _ _ _ _ (c .before .before .before .before .if1 .left)
     (c .before .before .before .if2 .left) (c .before .before .if3 .left) (c .before .if4 .left) (c .if5 .taken)
 
 returns-6 : tie.Need-returns-6
 returns-6 c =
-    code-long (mapOf _ _ (spanLists _ _ _)) _ _ _ (c .before .before .before .before .before .if1 .left)
+    code-long (mapOf _ _ (spanLists _ _ _)) _ _ _ _ (c .before .before .before .before .before .if1 .left)
     (c .before .before .before .before .if2 .left) (c .before .before .before .if3 .left)
     (c .before .before .if4 .left) (c .before .if5 .left) (c .if6 .taken)
 
 returns-7 : tie.Need-returns-7
 returns-7 c =
-    code-best (mapOf _ _ (spanLists _ _ _)) _ _ _ (c .before .before .before .before .before .before .if1 .left)
+    code-best (mapOf _ _ (spanLists _ _ _)) _ _ _ _ (c .before .before .before .before .before .before .if1 .left)
     (c .before .before .before .before .before .if2 .left) (c .before .before .before .before .if3 .left)
     (c .before .before .before .if4 .left) (c .before .before .if5 .left) (c .before .if6 .left) (c .if7 .taken)
 
 returns-8 : tie.Need-returns-8
 returns-8 c =
-    code-last (mapOf _ _ (spanLists _ _ _)) _ _ _ (c .before .before .before .before .before .before .before .if1 .left)
+    code-last (mapOf _ _ (spanLists _ _ _)) _ _ _ _ (c .before .before .before .before .before .before .before .if1 .left)
     (c .before .before .before .before .before .before .if2 .left)
     (c .before .before .before .before .before .if3 .left) (c .before .before .before .before .if4 .left)
     (c .before .before .before .if5 .left) (c .before .before .if6 .left) (c .before .if7 .left) (c .if8 .taken)
@@ -66,13 +67,10 @@ returns-9 c =
     let sized = c .before in
     let c8 = sized .before in
     let c4 = c8 .before .before .before .before in
-    code-store (mapOf _ _ (spanLists _ _ _)) _ _ _ (c4 .before .before .before .if1 .left)
+    code-store (mapOf _ _ (spanLists _ _ _)) _ _ _ _ (c4 .before .before .before .if1 .left)
     (c4 .before .before .if2 .left) (c4 .before .if3 .left) (c4 .if4 .left)
     (c8 .before .before .before .if5 .left) (c8 .before .before .if6 .left)
     (c8 .before .if7 .left) (c8 .if8 .left) (λ e. c .if9 .taken (e ∙ sym (sized .size-for .ensures)))
-
-spans-code-requires : tie.Need-spans-code-requires
-spans-code-requires c κs = search needs
 
 returns-10 : tie.Need-returns-10
 returns-10 c =
@@ -80,10 +78,26 @@ returns-10 c =
     let sized = c9 .before in
     let c8 = sized .before in
     let c4 = c8 .before .before .before .before in
-    code-spans (mapOf _ _ (spanLists _ _ _)) _ _ _ (c4 .before .before .before .if1 .left)
+    code-listed (mapOf _ _ (spanLists _ _ _)) _ _ _ _ (c4 .before .before .before .if1 .left)
     (c4 .before .before .if2 .left) (c4 .before .if3 .left) (c4 .if4 .left)
     (c8 .before .before .before .if5 .left) (c8 .before .before .if6 .left)
-    (c8 .before .if7 .left) (c8 .if8 .left) (c9 .if9 .left ∙ sized .size-for .ensures) _ (c .spans-code .ensures)
+    (c8 .before .if7 .left) (c8 .if8 .left) (c9 .if9 .left ∙ sized .size-for .ensures) (c .if10 .taken)
+
+spans-code-requires : tie.Need-spans-code-requires
+spans-code-requires c κs = search needs
+
+returns-11 : tie.Need-returns-11
+returns-11 c =
+    let c10 = c .before in
+    let c9 = c10 .before in
+    let sized = c9 .before in
+    let c8 = sized .before in
+    let c4 = c8 .before .before .before .before in
+    code-spans (mapOf _ _ (spanLists _ _ _)) _ _ _ _ (c4 .before .before .before .if1 .left)
+    (c4 .before .before .if2 .left) (c4 .before .if3 .left) (c4 .if4 .left)
+    (c8 .before .before .before .if5 .left) (c8 .before .before .if6 .left)
+    (c8 .before .if7 .left) (c8 .if8 .left) (c9 .if9 .left ∙ sized .size-for .ensures) (c10 .if10 .left) _
+    (c .spans-code .ensures)
 
 pub feed-code-spec : {M : Type 1} → statement M
 feed-code-spec =
@@ -99,5 +113,6 @@ feed-code-spec =
     returns-8
     size-for-requires
     returns-9
+    returns-10
     spans-code-requires
-    returns-10)
+    returns-11)
