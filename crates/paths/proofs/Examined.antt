@@ -103,7 +103,7 @@ Exact m s = s .examined ≡ sumTo (spans m) (λ e. settledAt s (fromOf m e))
 module _ (stop : Stop) (m : Map) (A : Accepted m) where
   -- the place u is taken after k steps
   module _ (k : ℕ) (s : Search) (B : Between stop m k s) (u : ℕ) (n : next stop (s .queue) ≡ takes u) where
-    one-more : (q : ℕ) → settledAt (extracted u s) q ≡ settledAt s q + delta u q
+    pub one-more : (q : ℕ) → settledAt (extracted u s) q ≡ settledAt s q + delta u q
     one-more =
         let w = next-takes stop (s .queue) u n .inside in
         byItem u

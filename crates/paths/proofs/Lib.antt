@@ -15,11 +15,14 @@ pub mod Chains
 pub mod Settling
 pub mod Halting
 pub mod Table
+pub mod Ascending
 pub mod Calls
 pub mod AllFree
 pub mod Log
 pub mod Served
 pub mod Examined
+pub mod TakenFirst
+pub mod Listing
 pub mod Costs
 pub mod Counts
 pub mod Codes

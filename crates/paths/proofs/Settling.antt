@@ -41,6 +41,15 @@ pub is-settled : (l : ℕ) → l ≢ none → isSettled 0 l ≡ 1
 unfolding isSettled isReached
 is-settled l n = rw (ne-eqb l none n)
 
+pub settled-is : (w l : ℕ) → 1 ≤ isSettled w l → (w ≡ 0) × (l ≢ none)
+unfolding isSettled isReached
+settled-is w l = go (eqb w 0) (eqb l none) refl refl
+  where
+    go : (a b : Bool) → eqb w 0 ≡ a → eqb l none ≡ b → 1 ≤ cond a (indicator (not b)) 0 → (w ≡ 0) × (l ≢ none)
+    go true true p q h = absurd (omega arith)
+    go true false p q h = (eqb-true w 0 p, eqb-false l none q)
+    go false b p q h = absurd (omega arith)
+
 pub settled-le : (w l : ℕ) → isSettled w l ≤ 1
 unfolding isSettled isReached
 settled-le w l = go (eqb w 0) (eqb l none)
