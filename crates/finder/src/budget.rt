@@ -130,7 +130,16 @@ pub fn feed_within(
     }
     let begun = begin_search(places, start, best, last, store);
     let found = search_within(
-        places, from, to, loss, budget, best, last, listed, store, begun,
+        places,
+        from,
+        to,
+        loss,
+        budget,
+        best,
+        last,
+        listed,
+        store,
+        begun,
     );
     hide_beyond(budget, best, last);
     make_empty(store, places as usize);

@@ -95,7 +95,16 @@ pub extern "C" fn feed_budget(
         (now (figures .exit)) ⌝ }
 {
     let within = finder::budget::feed_within(
-        places, start, from, to, loss, budget, best, last, listed, store,
+        places,
+        start,
+        from,
+        to,
+        loss,
+        budget,
+        best,
+        last,
+        listed,
+        store,
     );
     let fed = within.fed;
     *figures = [fed.links, fed.cuts, fed.examined, within.listed];

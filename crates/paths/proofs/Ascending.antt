@@ -9,11 +9,11 @@ use native.Mathlib.Omega.{arith}
 use lib.ListN.{getD}
 use lib.Dec.{eqb}
 use borrow.Author.Tests.{eqb-true, eqb-false}
-use Rattle.rules.specs.Lists.{sumBy, delta, occurs}
+use Rattle.rules.specs.Lists.{sumBy, occurs}
 use Rattle.rules.specs.Order.{keyIn, precedes}
 use Rattle.rules.proofs.Occurs.{byItem, delta-self, delta-other}
 use Rattle.rules.proofs.Order.{is-precedes, precedes-is, before-keys}
-use Rattle.paths.specs.Table.{Ascending, Listing}
+use Rattle.paths.specs.Table.{Ascending}
 use Rattle.paths.specs.Theorems.{ListingUnique}
 
 -- the order looks at the losses of the members alone

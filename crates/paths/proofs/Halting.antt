@@ -3,10 +3,8 @@ use Prim.Native.Nat.{ℕ, _≤_}
 use mathlib.Core.Path.{_≡_, sym, ap, _∙_}
 use mathlib.Core.Bool.{true, false, true≢false}
 use native.Mathlib.Omega.{arith}
-use lib.ListN.{getD}
 use lib.Seq.{getD-set-other}
 use borrow.Author.Tests.{ltb-true, ltb-false}
-use Rattle.rules.specs.Forests.{none}
 use Rattle.rules.proofs.Occurs.{byItem}
 use Rattle.paths.specs.Map.{Map, Accepted}
 use Rattle.paths.specs.Table.{Limit, unlimited, upTo, Within}

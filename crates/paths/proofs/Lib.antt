@@ -15,6 +15,7 @@ pub mod Chains
 pub mod Settling
 pub mod Halting
 pub mod Table
+pub mod Within
 pub mod Ascending
 pub mod Calls
 pub mod AllFree
@@ -28,3 +29,4 @@ pub mod Counts
 pub mod Codes
 pub mod Accepts
 pub mod FeedDone
+pub mod BudgetDone

@@ -8,33 +8,15 @@ use lib.ListN.{getD}
 use Rattle.rules.specs.Lists.{delta, occurs}
 use Rattle.rules.specs.Forests.{none}
 use Rattle.rules.proofs.Occurs.{occurs-append, occurs-nil, occurs-one, delta-other, byItem}
-use Rattle.paths.specs.Map.{Map, fromOf, toOf, lossOf, IsSpan, Accepted}
+use Rattle.paths.specs.Map.{Map, toOf, lossOf, Accepted}
 use Rattle.paths.specs.Table.{Ascending}
 use Rattle.paths.specs.Queue.{Stop, NextPlace, halts, takes, next}
-use Rattle.paths.specs.Search.{
-  Search,
-  Verdict,
-  update,
-  examine,
-  extracted,
-  visit,
-  step,
-  begin,
-  steps,
-  beyond,
-  search,
-  find,
-  bestAt,
-  shownBest,
-  takenBy,
-  takings,
-}
+use Rattle.paths.specs.Search.{Search, update, examine, extracted, visit, step, begin, steps, beyond, search, find, bestAt, shownBest, takenBy, takings}
 use Rattle.paths.specs.Theorems.{FinderListing}
 use Rattle.paths.proofs.Waiting.{next-takes}
 use Rattle.paths.proofs.Hiding.{hide-at}
 use Rattle.paths.proofs.Invariant.{Settled}
 use Rattle.paths.proofs.Begin.{none-settled}
-use Rattle.paths.proofs.Offers.{TryingOf, Case}
 use Rattle.paths.proofs.Tried.{KeptByOffers, tried-keeps}
 use Rattle.paths.proofs.Steps.{Between, extracted-trying, steps-between, steps-keep}
 use Rattle.paths.proofs.Settling.{

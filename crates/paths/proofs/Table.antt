@@ -47,14 +47,14 @@ finderTable limit m A =
     }
 
 -- the start has the chain of no span, which is within any limit
-start-within : (limit : Limit) (m : Map) → Within limit (chainLoss m [])
+pub start-within : (limit : Limit) (m : Map) → Within limit (chainLoss m [])
 unfolding chainLoss sumBy
 start-within unlimited m = tt
 start-within (upTo b) m = omega arith
 
 -- the loss and the span shown at a place are settled
-module _ (limit : Limit) (m : Map) (p l e l′ e′ : ℕ) where
-  reached-one : Reached m p l e → Reached m p l′ e′ → (l ≡ l′) × (e ≡ e′)
+module _ (m : Map) (p l e l′ e′ : ℕ) where
+  pub reached-one : Reached m p l e → Reached m p l′ e′ → (l ≡ l′) × (e ≡ e′)
   unfolding AsGood
   reached-one R S = (
     omega (
@@ -68,22 +68,22 @@ module _ (limit : Limit) (m : Map) (p l e l′ e′ : ℕ) where
   )
 
   -- a chain that is shown is within the limit: so no entry is both reached and not
-  entry-one : Entry limit m p l e → Entry limit m p l′ e′ → (l ≡ l′) × (e ≡ e′)
-  entry-one (atStart a b c) (atStart a′ b′ c′) = (b ∙ sym b′, c ∙ sym c′)
-  entry-one (atStart a b c) (reached n R i) = absurd (n a)
-  entry-one (atStart a b c) (unreached f x y) = absurd (f [] a (start-within limit m))
-  entry-one (reached n R i) (atStart a b c) = absurd (n a)
-  entry-one (reached n R i) (reached n′ S j) = reached-one R S
-  entry-one (reached n R i) (unreached f x y) = absurd (f (e ∷ R .before) (R .least .leads) (rw (R .loss) i))
-  entry-one (unreached f x y) (atStart a b c) = absurd (f [] a (start-within limit m))
-  entry-one (unreached f x y) (reached n S i) = absurd (f (e′ ∷ S .before) (S .least .leads) (rw (S .loss) i))
-  entry-one (unreached f x y) (unreached f′ x′ y′) = (x ∙ sym x′, y ∙ sym y′)
+  entry-one : (limit : Limit) → Entry limit m p l e → Entry limit m p l′ e′ → (l ≡ l′) × (e ≡ e′)
+  entry-one limit (atStart a b c) (atStart a′ b′ c′) = (b ∙ sym b′, c ∙ sym c′)
+  entry-one limit (atStart a b c) (reached n R i) = absurd (n a)
+  entry-one limit (atStart a b c) (unreached f x y) = absurd (f [] a (start-within limit m))
+  entry-one limit (reached n R i) (atStart a b c) = absurd (n a)
+  entry-one limit (reached n R i) (reached n′ S j) = reached-one R S
+  entry-one limit (reached n R i) (unreached f x y) = absurd (f (e ∷ R .before) (R .least .leads) (rw (R .loss) i))
+  entry-one limit (unreached f x y) (atStart a b c) = absurd (f [] a (start-within limit m))
+  entry-one limit (unreached f x y) (reached n S i) = absurd (f (e′ ∷ S .before) (S .least .leads) (rw (S .loss) i))
+  entry-one limit (unreached f x y) (unreached f′ x′ y′) = (x ∙ sym x′, y ∙ sym y′)
 
 pub tableUnique : TableUnique
 tableUnique limit m best last best′ last′ T S =
     let one : (p : ℕ) → p < m .places
     → (getD best p none ≡ getD best′ p none) × (getD last p none ≡ getD last′ p none) =
-    λ p k. entry-one limit m p _ _ _ _ (T .entries p k) (S .entries p k) in (
+    λ p k. entry-one m p _ _ _ _ limit (T .entries p k) (S .entries p k) in (
       ext-getD none best best′ (T .bestN ∙ sym (S .bestN)) (λ p k. one p (omega (arith, k, T .bestN)) .0),
       ext-getD none last last′ (T .lastN ∙ sym (S .lastN)) (λ p k. one p (omega (arith, k, T .lastN)) .1),
     )

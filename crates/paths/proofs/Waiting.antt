@@ -121,6 +121,17 @@ next-takes stop q u = go (waiting 0 (q .waits)) refl
               goes = s;
             })
 
+-- a rule that stops at no key that waits takes what is taken without one
+pub next-same : (stop : Stop) (q : Queue) → ((z : ℕ) → getD (q .waits) z 0 ≢ 0 → stop (getD (q .key) z 0) ≡ false)
+    → next stop q ≡ next never q
+unfolding next nextOf
+next-same stop q f = go (waiting 0 (q .waits)) refl
+  where
+    go : (ws : List ℕ) → waiting 0 (q .waits) ≡ ws → nextOf stop (q .key) ws ≡ nextOf never (q .key) ws
+    go [] e = refl
+    go (x ∷ xs) e =
+        rw (f (leastOf (q .key) x xs) (in-waits (q .waits) (leastOf (q .key) x xs) (rw e (leastOf-in (q .key) x xs))))
+
 -- The finder halts: if any place waits, then so does one, with no larger key, at which the rule stops.
 pub next-halts : (stop : Stop) (q : Queue) → next stop q ≡ halts → (z : ℕ) → getD (q .waits) z 0 ≢ 0
     → (u : ℕ) × (stop (getD (q .key) u 0) ≡ true) × (getD (q .key) u 0 ≤ getD (q .key) z 0)

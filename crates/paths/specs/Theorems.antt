@@ -181,7 +181,7 @@ FeedDone =
 -- What one with a budget leaves beside: the first words of the place list, as many as it answers, are the places of its
 -- table, and the others are those that it was lent.
 pub record RightList (lent : List ℕ) (r : BudgetFeed) : Type 0 where
-  pub within : r .number ≤ length (r .listed)
+  pub within : r .number ≤ length lent
   pub listing : Listing (r .feed .left .best) (take (r .number) (r .listed))
   pub untouched : drop (r .number) (r .listed) ≡ drop (r .number) lent
 

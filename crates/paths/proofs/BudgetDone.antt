@@ -1,0 +1,108 @@
+-- What a feed call with a budget leaves, by its code; the largest budget gives what the full call gives.
+use Prim.Native.Nat.{ℕ, zero, suc, _+_, _≤_}
+use mathlib.Core.Path.{_≡_, refl, ap, _∙_}
+use mathlib.Core.List.{List, [], _∷_, _++_}
+use native.Mathlib.Nat.{le-refl}
+use native.Mathlib.Omega.{arith}
+use lib.ListN.{length, getD, take, drop, length-append}
+use lib.Seq.{take-append-seam, drop-append-seam}
+use borrow.Author.Tests.{le-ltb}
+use Rattle.rules.specs.Forests.{none}
+use Rattle.paths.specs.Map.{Map, Accepted}
+use Rattle.paths.specs.Table.{unlimited, upTo, Listing}
+use Rattle.paths.specs.Queue.{Stop, NextPlace, halts, takes, next}
+use Rattle.paths.specs.Search.{Search, step, steps, never, beyond, search, find, takenBy, takings, placesTaken}
+use Rattle.paths.specs.Feed.{ResultLists, codeFor, feedAs, feedResult, budgetAs, budgetResult}
+use Rattle.paths.specs.Theorems.{Right, RightList, BudgetDone, LargestBudget}
+use Rattle.paths.proofs.Waiting.{next-same}
+use Rattle.paths.proofs.Chains.{met-small}
+use Rattle.paths.proofs.Steps.{Between, steps-between}
+use Rattle.paths.proofs.Listing.{finderListing}
+use Rattle.paths.proofs.Accepts.{codeZero}
+use Rattle.paths.proofs.FeedDone.{done-accepted, done-right}
+
+-- each step takes one place at most
+takings-few : (stop : Stop) (m : Map) (k : ℕ) → length (takings stop m k) ≤ k
+unfolding takings
+takings-few stop m zero = le-refl _
+takings-few stop m (suc k) = go (next stop ((steps stop m k) .queue)) (takings-few stop m k)
+  where
+    go : (x : NextPlace) → length (takings stop m k) ≤ k → length (takings stop m k ++ takenBy x) ≤ suc k
+    go halts h = rw (length-append (takings stop m k) []) (omega (arith, h))
+    go (takes u) h = rw (length-append (takings stop m k) (u ∷ [])) (omega (arith, h))
+
+module _ (b : ℕ) (m : Map) (lent : ResultLists) (listed : List ℕ) where
+  list-right : codeFor m lent (length listed) ≡ 0 → RightList listed (budgetAs 0 b m lent listed)
+  unfolding budgetAs feedAs search
+  list-right e =
+      let places : List ℕ = placesTaken (upTo b) m in
+      let F =
+      codeZero .only m (length (lent .best)) (length (lent .last)) (length listed) (length (lent .store)) e in
+      record {
+        within = omega (arith, takings-few (beyond (upTo b)) m (m .places), F .listed);
+        listing =
+            rw (take-append-seam places (drop (length places) listed)) (finderListing (upTo b) m (F .accepted));
+        untouched = drop-append-seam places (drop (length places) listed);
+      }
+
+pub budgetDone : BudgetDone
+unfolding budgetResult budgetAs feedAs
+budgetDone b m lent listed = go (codeFor m lent (length listed)) refl
+  where
+    go : (c : ℕ) → codeFor m lent (length listed) ≡ c → (budgetAs c b m lent listed) .feed .code ≡ 0
+        → Right (upTo b) m ((budgetAs c b m lent listed) .feed) × RightList listed (budgetAs c b m lent listed)
+    go zero e _ = (
+      done-right (upTo b) m lent (done-accepted m lent (length listed) e),
+      list-right b m lent listed e,
+    )
+    go (suc c) e z = absurd (omega (arith, z))
+
+-- ---- the largest budget
+
+-- No loss is beyond it, so it stops no search.
+steps-same : (m : Map) → Accepted m → (k : ℕ) → steps (beyond (upTo none)) m k ≡ steps never m k
+unfolding steps step
+steps-same m A zero = refl
+steps-same m A (suc k) =
+    let s : Search = steps never m k in
+    let B : Between never m k s = steps-between never m A k in
+    let I = B .invariant in
+    let same : next (beyond (upTo none)) (s .queue) ≡ next never (s .queue) =
+    next-same (beyond (upTo none)) (s .queue)
+    (λ z w.
+    le-ltb none (getD (s .queue .key) z 0)
+    (omega (
+      arith,
+      I .keyed z w,
+      met-small m A (B .lastTaken) (B .reach) (s .queue .waits) (s .queue .key) (s .best) (s .last) I z (I .met z w),
+    ))) in
+    ap (λ t. step m (next (beyond (upTo none)) (t .queue)) t) (steps-same m A k) ∙ ap (λ x. step m x s) same
+
+find-same : (m : Map) → Accepted m → find (upTo none) m ≡ find unlimited m
+unfolding search
+find-same m A = steps-same m A (m .places)
+
+pub largestBudget : LargestBudget
+unfolding budgetResult feedResult budgetAs feedAs
+largestBudget m lent listed = go (codeFor m lent (length listed)) refl
+  where
+    go : (c : ℕ) → codeFor m lent (length listed) ≡ c → (budgetAs c none m lent listed) .feed .code ≡ 0
+        → ((budgetAs c none m lent listed) .feed ≡ feedAs (codeFor m lent (m .places)) unlimited m lent)
+        × Listing ((feedAs (codeFor m lent (m .places)) unlimited m lent) .left .best)
+        (take ((budgetAs c none m lent listed) .number) ((budgetAs c none m lent listed) .listed))
+    go zero e _ =
+        let F =
+        codeZero .only m (length (lent .best)) (length (lent .last)) (length listed) (length (lent .store)) e in
+        let full : codeFor m lent (m .places) ≡ 0 =
+        codeZero .accepts m (length (lent .best)) (length (lent .last)) (m .places) (length (lent .store))
+        (record {
+          accepted = F .accepted;
+          best = F .best;
+          last = F .last;
+          listed = le-refl _;
+          store = F .store;
+        }) in
+        let s = find-same m (F .accepted) in
+        let l = list-right none m lent listed e .listing in
+        rw full (rw s, rw s at l)
+    go (suc c) e z = absurd (omega (arith, z))
