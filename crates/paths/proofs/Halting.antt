@@ -41,14 +41,14 @@ passed stop m A =
           };
     }
 
-passed-within : (limit : Limit) (l : ℕ) → beyond limit l ≡ false → Within limit l
-passed-within unlimited l e = tt
-passed-within (upTo b) l e = ltb-false b l e
-
 -- where the rule stops, no larger loss is within
 stopped-out : (limit : Limit) (x y : ℕ) → beyond limit x ≡ true → x ≤ y → Within limit y → ⊥
 stopped-out unlimited x y e h i = true≢false (sym e)
 stopped-out (upTo b) x y e h i = omega (arith, ltb-true b x e)
+
+passed-within : (limit : Limit) (l : ℕ) → beyond limit l ≡ false → Within limit l
+passed-within unlimited l e = tt
+passed-within (upTo b) l e = ltb-false b l e
 
 pub search-halted : (limit : Limit) (m : Map) → Accepted m
     → Halted limit ((find limit m) .queue .waits) ((find limit m) .best)

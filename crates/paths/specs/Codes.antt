@@ -23,11 +23,14 @@ unfoldable pub spanCode : ℕ → SpanLists → ℕ → ℕ
 spanCode places l e =
     fault places (getD (l .from) e 0) (getD (l .to) e 0) (getD (l .loss) e 0) (previous (l .from) e)
 
+-- the first of two codes that is not 0
+abbrev pub firstCode : ℕ → ℕ → ℕ
+firstCode code next = cond (eqb code 0) next code
+
 -- the code of the lowest-numbered faulty span below number k; 0 if none is faulty
 unfoldable pub codeBelow : ℕ → SpanLists → ℕ → ℕ
 codeBelow places l zero = 0
-codeBelow places l (suc e) =
-    cond (eqb (codeBelow places l e) 0) (spanCode places l e) (codeBelow places l e)
+codeBelow places l (suc e) = firstCode (codeBelow places l e) (spanCode places l e)
 
 abbrev pub spansCode : ℕ → SpanLists → ℕ
 spansCode places l = codeBelow places l (length (l .from))

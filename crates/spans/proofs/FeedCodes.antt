@@ -1,14 +1,14 @@
 -- The code of a feed call: one law for each way out, in the order of the tests.
 use Prim.Native.Nat.{ℕ, _≤_, _<_}
-use mathlib.Core.Path.{_≡_}
+use mathlib.Core.Path.{_≡_, refl}
 use mathlib.Core.Logic.{_≢_}
-use mathlib.Core.Bool.{cond, not}
+use mathlib.Core.Bool.{Bool, true, false, cond, not}
 use lib.ListN.{length}
 use lib.Dec.{ltb, leb}
 use borrow.Author.Tests.{eq-eqb, ne-eqb, lt-ltb, le-ltb, le-leb, lt-leb}
 use Rattle.rules.specs.Words.{storeSize}
 use Rattle.paths.specs.Map.{Map, spans}
-use Rattle.paths.specs.Codes.{spansCode, spanListsFit, resultListsFit, feedCode}
+use Rattle.paths.specs.Codes.{firstCode, spansCode, spanListsFit, resultListsFit, feedCode}
 
 module _ (m : Map) (bestN lastN listedN storeN : ℕ) where
   abbrev n : ℕ
@@ -99,8 +99,12 @@ module _ (m : Map) (bestN lastN listedN storeN : ℕ) where
                   past-17 =
                       rw (past-16, eq-eqb bestN n best, eq-eqb lastN n last, eq-eqb storeN (storeSize n) store)
 
-                  pub code-listed : listedN < n → 22 ≡ code
-                  code-listed h = rw (past-17, lt-ltb listedN n h)
-
-                  pub code-spans : n ≤ listedN → (c : ℕ) → c ≡ spansCode n (m .lists) → c ≡ code
-                  code-spans h c q = rw (past-17, le-ltb listedN n h) q
+                  -- 22 or the code of the spans, whichever comes first
+                  pub code-rest : (a b c : ℕ) → a ≡ cond (ltb listedN n) 22 0 → b ≡ spansCode n (m .lists)
+                      → c ≡ firstCode a b → c ≡ code
+                  code-rest a b c p q r = rw (past-17, r, p, q) (go (ltb listedN n))
+                    where
+                      go : (t : Bool) → firstCode (cond t 22 0) (spansCode n (m .lists))
+                          ≡ cond t 22 (spansCode n (m .lists))
+                      go true = refl
+                      go false = refl

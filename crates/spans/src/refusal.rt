@@ -1,8 +1,10 @@
 // The codes of a feed call, in the order in which they are tested.
 ghost use mathlib.Core.Path.{_≡_};
+ghost use mathlib.Core.Bool.{cond};
 ghost use lib.ListN.{getD};
+ghost use lib.Dec.{ltb};
 ghost use Rattle.paths.specs.Map.{spanLists, mapOf};
-ghost use Rattle.paths.specs.Codes.{fault, spansCode, feedCode};
+ghost use Rattle.paths.specs.Codes.{fault, firstCode, spansCode, feedCode};
 use store::size_for;
 
 // The word of a list at place i, 0 beyond its end.
@@ -62,6 +64,26 @@ fn spans_code(places: u32, from: &[u32], to: &[u32], loss: &[u32]) -> u32
     0
 }
 
+// 22 if the place list has not a word for each place, or 0.
+fn place_list_code(listed: usize, places: usize) -> u32
+    ensures { λ r. ⌜ r ≡ cond (ltb listed places) 22 0 ⌝ }
+{
+    if listed < places {
+        return 22;
+    }
+    0
+}
+
+// The first of two codes that is not 0.
+fn first_code(code: u32, next: u32) -> u32
+    ensures { λ r. ⌜ r ≡ firstCode code next ⌝ }
+{
+    if code == 0 {
+        return next;
+    }
+    code
+}
+
 // The first condition that a feed call meets, by its code, or 0; best, last, listed and store are the lengths of what is
 // lent.
 pub fn feed_code(
@@ -107,8 +129,7 @@ pub fn feed_code(
     if store != size_for(n) {
         return 17;
     }
-    if listed < n {
-        return 22;
-    }
-    spans_code(places, from, to, loss)
+    let list = place_list_code(listed, n);
+    let spans = spans_code(places, from, to, loss);
+    first_code(list, spans)
 }

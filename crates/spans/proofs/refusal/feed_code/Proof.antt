@@ -11,8 +11,7 @@ use Rattle.spans.proofs.FeedCodes.{
   code-best,
   code-last,
   code-store,
-  code-listed,
-  code-spans,
+  code-rest,
 }
 use borrow.Author.Needs.{needs}
 use Rattle.spans.proofs.refusal.feed_code.Statement.{statement}
@@ -72,32 +71,28 @@ returns-9 c =
     (c8 .before .before .before .if5 .left) (c8 .before .before .if6 .left)
     (c8 .before .if7 .left) (c8 .if8 .left) (λ e. c .if9 .taken (e ∙ sym (sized .size-for .ensures)))
 
-returns-10 : tie.Need-returns-10
-returns-10 c =
-    let c9 = c .before in
-    let sized = c9 .before in
-    let c8 = sized .before in
-    let c4 = c8 .before .before .before .before in
-    code-listed (mapOf _ _ (spanLists _ _ _)) _ _ _ _ (c4 .before .before .before .if1 .left)
-    (c4 .before .before .if2 .left) (c4 .before .if3 .left) (c4 .if4 .left)
-    (c8 .before .before .before .if5 .left) (c8 .before .before .if6 .left)
-    (c8 .before .if7 .left) (c8 .if8 .left) (c9 .if9 .left ∙ sized .size-for .ensures) (c .if10 .taken)
+place-list-code-requires : tie.Need-place-list-code-requires
+place-list-code-requires c κs = search needs
 
 spans-code-requires : tie.Need-spans-code-requires
 spans-code-requires c κs = search needs
 
-returns-11 : tie.Need-returns-11
-returns-11 c =
-    let c10 = c .before in
-    let c9 = c10 .before in
+first-code-requires : tie.Need-first-code-requires
+first-code-requires c κs = search needs
+
+returns-10 : tie.Need-returns-10
+returns-10 c =
+    let s = c .before in
+    let l = s .before in
+    let c9 = l .before in
     let sized = c9 .before in
     let c8 = sized .before in
     let c4 = c8 .before .before .before .before in
-    code-spans (mapOf _ _ (spanLists _ _ _)) _ _ _ _ (c4 .before .before .before .if1 .left)
+    code-rest (mapOf _ _ (spanLists _ _ _)) _ _ _ _ (c4 .before .before .before .if1 .left)
     (c4 .before .before .if2 .left) (c4 .before .if3 .left) (c4 .if4 .left)
     (c8 .before .before .before .if5 .left) (c8 .before .before .if6 .left)
-    (c8 .before .if7 .left) (c8 .if8 .left) (c9 .if9 .left ∙ sized .size-for .ensures) (c10 .if10 .left) _
-    (c .spans-code .ensures)
+    (c8 .before .if7 .left) (c8 .if8 .left) (c9 .if9 .left ∙ sized .size-for .ensures) _ _ _
+    (l .place-list-code .ensures) (s .spans-code .ensures) (c .first-code .ensures)
 
 pub feed-code-spec : {M : Type 1} → statement M
 feed-code-spec =
@@ -113,6 +108,7 @@ feed-code-spec =
     returns-8
     size-for-requires
     returns-9
-    returns-10
+    place-list-code-requires
     spans-code-requires
-    returns-11)
+    first-code-requires
+    returns-10)
