@@ -83,3 +83,56 @@ macro_rules! feed_call {
         }
     }};
 }
+
+/// A feed call with a budget: `feed_budget`.
+#[macro_export]
+macro_rules! budget_call {
+    ($name:ident, $places:expr, $start:expr, $spans:expr, $budget:expr, $lists:expr, $figures:expr) => {{
+        extern "C" {
+            fn $name(
+                places: u32,
+                start: u32,
+                from: *const u32,
+                from_len: usize,
+                to: *const u32,
+                to_len: usize,
+                loss: *const u32,
+                loss_len: usize,
+                budget: u32,
+                best: *mut u32,
+                best_len: usize,
+                last: *mut u32,
+                last_len: usize,
+                listed: *mut u32,
+                listed_len: usize,
+                store: *mut u32,
+                store_len: usize,
+                figures: *mut [u32; 4],
+            ) -> u32;
+        }
+        let (Spans { from, to, loss }, BudgetLists { best, last, listed, store }) = ($spans, $lists);
+        // SAFETY: as in own_run.
+        unsafe {
+            $name(
+                $places,
+                $start,
+                from.as_ptr(),
+                from.len(),
+                to.as_ptr(),
+                to.len(),
+                loss.as_ptr(),
+                loss.len(),
+                $budget,
+                best.as_mut_ptr(),
+                best.len(),
+                last.as_mut_ptr(),
+                last.len(),
+                listed.as_mut_ptr(),
+                listed.len(),
+                store.as_mut_ptr(),
+                store.len(),
+                $figures,
+            )
+        }
+    }};
+}
