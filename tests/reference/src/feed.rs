@@ -147,7 +147,7 @@ fn last_spans(best: &[u32], start: u32, spans: Spans) -> Vec<u32> {
     last
 }
 
-/// Links and cuts of the queue calls, by making these calls until no place waits, or the first one is beyond the budget.
+/// Links and cuts of the queue calls, by making them until no place waits, or the first that does is beyond the budget.
 fn moves(places: u32, start: u32, spans: Spans, budget: Option<u32>) -> (u32, u32) {
     let mut queues = Queues::new(places);
     let mut met = vec![NONE; places as usize];

@@ -29,11 +29,14 @@ fn done(links: u32, cuts: u32, examined: u32, listed: u32) -> Within {
     Within { figures: Figures { code: 0, links, cuts, examined }, listed }
 }
 
+/// Budget, places listed, losses, spans, spans examined.
+type Row = (u32, &'static [u32], [u32; 3], [u32; 3], u32);
+
 const WORKED: [[u32; 3]; 3] = [[0, 1, 7], [0, 2, 20], [1, 2, 5]];
 
 #[test]
 fn the_papers_map() {
-    let shown: [(u32, &[u32], [u32; 3], [u32; 3], u32); 6] = [
+    let shown: [Row; 6] = [
         (0, &[0], [0, NONE, NONE], [NONE, NONE, NONE], 2),
         (6, &[0], [0, NONE, NONE], [NONE, NONE, NONE], 2),
         (7, &[0, 1], [0, 7, NONE], [NONE, 0, NONE], 3),
@@ -66,8 +69,8 @@ fn a_tie_at_the_budget() {
     assert_eq!(call(5, 0, &spans, 3, 5).listed, [0, 1, FOUND, FOUND, FOUND]);
 }
 
-/// Seven places wait when the finder stops: row 8, 6, 2 with 7 under 6, and 3, 4, 5 under 2. Only the lowering of a place
-/// under another cuts.
+/// Seven places wait when the finder stops: row 8, 6, 2, with 7 below 6, and 3, 4 and 5 below 2. Lowering 8 cuts nothing,
+/// lowering 7 does.
 #[test]
 fn moves_until_it_stops() {
     let mut spans: Vec<[u32; 3]> = (1..9).map(|to| [0, to, 10 * to]).collect();
@@ -105,21 +108,13 @@ fn the_largest_budget_is_a_full_call() {
 }
 
 #[test]
-fn a_short_place_list() {
-    let refused = |places, start, spans: &[[u32; 3]], room| {
-        let left = call(places, start, spans, 9, room);
+fn a_refused_call_leaves_everything() {
+    for (start, room, code) in [(3, 3, 15), (0, 2, 22), (0, 0, 22)] {
+        let left = call(3, start, &WORKED, 9, room);
+        assert_eq!(left.within, Within { figures: Figures { code, ..Figures::default() }, listed: 0 });
+        assert_eq!(left.within.numbers(), [0; 4]);
         for list in [&left.best, &left.last, &left.listed, &left.words] {
             assert!(list.iter().all(|&word| word == FOUND));
         }
-        let code = left.within.figures.code;
-        assert_eq!(left.within, Within { figures: Figures { code, ..Figures::default() }, listed: 0 });
-        code
-    };
-    assert_eq!(refused(3, 0, &WORKED, 2), 22);
-    assert_eq!(refused(3, 0, &WORKED, 0), 22);
-    // Before the spans' codes, after the start's.
-    assert_eq!(refused(3, 0, &[[0, 3, 0]], 2), 22);
-    assert_eq!(refused(3, 0, &[[0, 3, 0]], 3), 18);
-    assert_eq!(refused(3, 3, &WORKED, 2), 15);
-    assert_eq!(refused(0, 0, &WORKED, 0), 14);
+    }
 }

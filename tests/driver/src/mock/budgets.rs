@@ -95,11 +95,7 @@ impl Mock {
     /// Faults in the table and in the store: what still waits is left there.
     fn spoil_entries(&self, asked: Asked, best: &mut [u32], last: &mut [u32], store: &mut [u32]) {
         match self.variant {
-            Some(WaitingEntriesShown) => {
-                let found = asked.search(NONE);
-                best.copy_from_slice(&found.best);
-                last.copy_from_slice(&found.last);
-            }
+            Some(WaitingLossesShown) => best.copy_from_slice(&asked.search(NONE).best),
             Some(WaitingSpansShown) => last.copy_from_slice(&asked.search(NONE).last),
             Some(WaitingPlacesLeftInStore) => store.copy_from_slice(&store::encode(&asked.search(NONE).queues)),
             _ => {}

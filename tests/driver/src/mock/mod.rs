@@ -52,7 +52,7 @@ variants! {
         ListByDescendingPlaceOnTies ListedOneTooMany;
     // Feed calls with a budget: what they leave.
     [Budget]
-        FirstWaitingPlaceInTheList ListFilledWithNone LongerListFilled WaitingEntriesShown WaitingSpansShown
+        FirstWaitingPlaceInTheList ListFilledWithNone LongerListFilled WaitingLossesShown WaitingSpansShown
         WaitingPlacesLeftInStore BudgetTouchesListOnRefusal BudgetFiguresLeftOnRefusal;
     // Feed calls with a budget: what they count.
     [Budget] SearchNotStopped StoppingTakingCounted EmptyingCounted OffersBeyondPruned;
