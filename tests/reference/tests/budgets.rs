@@ -69,8 +69,8 @@ fn a_tie_at_the_budget() {
     assert_eq!(call(5, 0, &spans, 3, 5).listed, [0, 1, FOUND, FOUND, FOUND]);
 }
 
-/// Seven places wait when the finder stops: row 8, 6, 2, with 7 below 6, and 3, 4 and 5 below 2. Lowering 8 cuts nothing,
-/// lowering 7 does.
+/// Seven places wait when the finder stops: row 8, 6, 2, with 7 below 6, and 3, 4 and 5 below 2. Lowering 8, a root,
+/// cuts nothing; lowering 7 does.
 #[test]
 fn moves_until_it_stops() {
     let mut spans: Vec<[u32; 3]> = (1..9).map(|to| [0, to, 10 * to]).collect();
