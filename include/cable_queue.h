@@ -16,8 +16,9 @@
  *    5  the kept store is not sound
  *   14  no places, or over 4,096
  *   15  the start is not a place
- *   16  the three span lists differ in length, or are over 16,384 long (feed_table) or too short (read_map)
- *   17  a result list is not one word a place, or the store is not 32 + 8 words a place
+ *   16  the three span lists differ in length, or are over 16,384 long (feed calls) or too short (read_map)
+ *   17  best or last is not one word a place, or the store is not 32 + 8 words a place
+ *   22  the place list is shorter than the number of places (feed_budget)
  *   18  a span names no place
  *   19  a span's loss is not from 1 to 1,000,000
  *   20  a span comes from a smaller place than the span before it
@@ -70,6 +71,18 @@ uint32_t store_sound(const uint32_t *store, size_t store_len);
 uint32_t feed_table(uint32_t places, uint32_t start, const uint32_t *from, size_t from_len, const uint32_t *to,
                     size_t to_len, const uint32_t *loss, size_t loss_len, uint32_t *best, size_t best_len,
                     uint32_t *last, size_t last_len, uint32_t *store, size_t store_len, uint32_t figures[3]);
+
+/* The feed table of a map within a budget of loss, and the places in it. Returns 0, a code from 14 to 20, or 22.
+ *
+ * When it is done, best[p] and last[p] are those of feed_table where that loss is at most the budget, and both
+ * CABLE_QUEUE_NONE elsewhere. The places that have a loss in best are listed by ascending loss, those of equal loss by
+ * ascending number; list words beyond them stay as they were. A list longer than the number of places is fine. The
+ * store is made empty, used and left empty. The figures are links, cuts, spans examined and places listed, four zeros
+ * after a refusal. Links and cuts are those made until the first place waiting is beyond the budget. */
+uint32_t feed_budget(uint32_t places, uint32_t start, const uint32_t *from, size_t from_len, const uint32_t *to,
+                     size_t to_len, const uint32_t *loss, size_t loss_len, uint32_t budget, uint32_t *best,
+                     size_t best_len, uint32_t *last, size_t last_len, uint32_t *listed, size_t listed_len,
+                     uint32_t *store, size_t store_len, uint32_t figures[4]);
 
 /* Reads a map text into three span lists. Returns 0, 16 or 21; 21 comes before 16. The figures are places, start and
  * number of spans, three zeros after a refusal; the numbers read are not tested. List words beyond the spans stay as they

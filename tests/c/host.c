@@ -235,6 +235,79 @@ static void try_feeds(void) {
     CHANGED("from 1 then 0: 20", from[0], 1, 20);
 }
 
+/* The feed table within a budget. */
+
+typedef struct {
+    uint32_t budget, places, best[3], last[3], listed[3], examined;
+} budget_result;
+
+#define NONE CABLE_QUEUE_NONE
+static const budget_result worked_budgets[] = {
+    { 0, 1, { 0, NONE, NONE }, { NONE, NONE, NONE }, { 0, FILL, FILL }, 2 },
+    { 6, 1, { 0, NONE, NONE }, { NONE, NONE, NONE }, { 0, FILL, FILL }, 2 },
+    { 7, 2, { 0, 7, NONE }, { NONE, 0, NONE }, { 0, 1, FILL }, 3 },
+    { 11, 2, { 0, 7, NONE }, { NONE, 0, NONE }, { 0, 1, FILL }, 3 },
+    { 12, 3, { 0, 7, 12 }, { NONE, 0, 2 }, { 0, 1, 2 }, 3 },
+    { UINT32_MAX, 3, { 0, 7, 12 }, { NONE, 0, 2 }, { 0, 1, 2 }, 3 },
+};
+
+static int begins(words w, const uint32_t *three) {
+    return memcmp(w.at, three, 3 * sizeof *three) == 0;
+}
+
+/* The call with a place list so long returns the code. Done, it leaves the result worked by hand, the rest of the place
+ * list and an empty store; refused, zeros and nothing else. */
+static int feeds_within(feed_call call, const budget_result *result, size_t listed_len, uint32_t code) {
+    words from = copy_words(call.from, call.from_len), to = copy_words(call.to, call.to_len);
+    words loss = copy_words(call.loss, call.loss_len);
+    words best = filled(call.best_len), last = filled(call.last_len), store = filled(call.store_len);
+    words listed = filled(listed_len), figures = filled(4);
+    int same = code == feed_budget(call.places, call.start, from.at, from.len, to.at, to.len, loss.at, loss.len,
+                                   result->budget, best.at, best.len, last.at, last.len, listed.at, listed.len,
+                                   store.at, store.len, figures.at);
+    if (code == 0) {
+        words empty = filled(STORE(3));
+        same &= answers(fresh_run, empty, "", "") && same_words(store, empty);
+        same &= begins(best, result->best) && begins(last, result->last) && begins(listed, result->listed);
+        same &= untouched(listed, 3);
+        same &= are(figures.at, 0, 0, result->examined) && figures.at[3] == result->places;
+        free(empty.at);
+    } else {
+        same &= untouched(best, 0) && untouched(last, 0) && untouched(listed, 0) && untouched(store, 0);
+        same &= are(figures.at, 0, 0, 0) && figures.at[3] == 0;
+    }
+    words lent[] = { from, to, loss, best, last, listed, store, figures };
+    for (size_t i = 0; i < sizeof lent / sizeof *lent; i++) free(lent[i].at);
+    return same;
+}
+
+/* The worked map with one of its numbers changed: the code with a place list of 3 words, and the one with 2. */
+#define CHANGED_WITHIN(what, field, value, code, short_code)                                                           \
+    do {                                                                                                               \
+        feed_call call = worked_map;                                                                                   \
+        call.field = value;                                                                                            \
+        expect(what, feeds_within(call, worked_budgets, 3, code));                                                     \
+        expect(what ", a short place list", feeds_within(call, worked_budgets, 2, short_code));                        \
+    } while (0)
+
+static void try_budgets(void) {
+    for (size_t i = 0; i < sizeof worked_budgets / sizeof *worked_budgets; i++) {
+        expect("the worked map within a budget", feeds_within(worked_map, &worked_budgets[i], 3, 0));
+        expect("a longer place list", feeds_within(worked_map, &worked_budgets[i], 9, 0));
+        expect("2 words of places, 3 places: 22", feeds_within(worked_map, &worked_budgets[i], 2, 22));
+        expect("no words of places, 3 places: 22", feeds_within(worked_map, &worked_budgets[i], 0, 22));
+    }
+    CHANGED_WITHIN("no places: 14", places, 0, 14, 14);
+    CHANGED_WITHIN("start 3 of 3: 15", start, 3, 15, 15);
+    CHANGED_WITHIN("loss list of 2: 16", loss_len, 2, 16, 16);
+    CHANGED_WITHIN("2 words of losses, 3 places: 17", best_len, 2, 17, 17);
+    CHANGED_WITHIN("2 words of spans, 3 places: 17", last_len, 2, 17, 17);
+    CHANGED_WITHIN("a store for 2, 3 places: 17", store_len, STORE(2), 17, 17);
+    CHANGED_WITHIN("to 3 of 3: 18", to[2], 3, 18, 22);
+    CHANGED_WITHIN("loss 0: 19", loss[1], 0, 19, 22);
+    CHANGED_WITHIN("from 1 then 0: 20", from[0], 1, 20, 22);
+}
+
 /* The map reader. */
 
 static const char worked_text[] = "3,0\n0,1,7\n0,2,20\n1,2,5\n";
@@ -274,6 +347,7 @@ int main(void) {
     try_worked_runs();
     try_refused_runs();
     try_feeds();
+    try_budgets();
     try_readings();
     return finish("host");
 }

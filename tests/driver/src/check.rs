@@ -1,8 +1,11 @@
 //! One entry at a time: the engine and the reference get the same input in separate buffers, and
 //! everything that comes back is compared, untouched words and guard words included.
 
-use crate::engine::{Engine, FeedLists, Part};
-use reference::feed::{self, Lent, Spans};
+mod feeds;
+
+pub use feeds::{BudgetCall, Fed, FeedCall};
+
+use crate::engine::{Engine, Part};
 use reference::ledger::{allowance, potential, Ledger};
 use reference::run::MODEM_ITEMS;
 use reference::{map, program, run, store, text, Answer, Call, Queues};
@@ -84,19 +87,6 @@ impl Ran {
     }
 }
 
-/// The input of a feed call; result lists and store are lent with these lengths.
-#[derive(Clone, Debug)]
-pub struct FeedCall {
-    pub places: u32,
-    pub start: u32,
-    pub from: Vec<u32>,
-    pub to: Vec<u32>,
-    pub loss: Vec<u32>,
-    pub best: usize,
-    pub last: usize,
-    pub words: usize,
-}
-
 pub struct Checker<'a> {
     pub engine: &'a dyn Engine,
     pub cases: u64,
@@ -167,37 +157,6 @@ impl<'a> Checker<'a> {
         same("store_sound", &self.engine.store_sound(words), &u32::from(sound))
             .map_err(|fault| format!("{fault} on {:?}", &words[..words.len().min(120)]))?;
         Ok(sound)
-    }
-
-    /// Compares a feed call; returns the code.
-    pub fn feed(&mut self, call: &FeedCall) -> Verdict<u32> {
-        self.cases += 1;
-        let words_of = |length: usize, salt: u32| -> Vec<u32> { (0..length as u32).map(|at| at ^ salt).collect() };
-        let (best, last, words) =
-            (words_of(call.best, 0xB000_0000), words_of(call.last, 0xA000_0000), words_of(call.words, 0x9000_0000));
-        let spans = Spans { from: &call.from, to: &call.to, loss: &call.loss };
-
-        let mut lent = [&best, &last, &words].map(|list| Guarded::new(list, 0xA5A5_A5A5));
-        let [lent_best, lent_last, lent_words] = &mut lent;
-        let lists = FeedLists { best: lent_best.lent(), last: lent_last.lent(), store: lent_words.lent() };
-        let mut figures = [77; 3];
-        let code = self.engine.feed_table(call.places, call.start, spans, lists, &mut figures);
-
-        let mut expected = [best, last, words];
-        let [e_best, e_last, e_words] = &mut expected;
-        let result = feed::table(call.places, call.start, spans, Lent { best: e_best, last: e_last, words: e_words });
-        let compared = || {
-            same("feed_table", &code, &result.code)?;
-            // The paper promises "at most the spans listed"; the engine defines the count exactly.
-            same("feed_table figures", &figures, &[result.links, result.cuts, result.examined])?;
-            for (number, list) in lent.into_iter().enumerate() {
-                let name = ["feed_table losses", "feed_table spans", "feed_table store"][number];
-                same_list(name, &list.intact(name)?, &expected[number])?;
-            }
-            Ok(())
-        };
-        compared().map_err(|fault: String| format!("{fault}; {:?}", call).chars().take(600).collect::<String>())?;
-        Ok(code)
     }
 
     /// Compares the map reader with span lists of the given lengths; returns the code.

@@ -9,6 +9,8 @@ pub enum Part {
     Modem,
     Runs,
     Feed,
+    /// The feed call with a budget; an engine that has it has the full one too.
+    Budget,
     Map,
     QueueProgram,
     FeedProgram,
@@ -18,6 +20,14 @@ pub enum Part {
 pub struct FeedLists<'a> {
     pub best: &'a mut [u32],
     pub last: &'a mut [u32],
+    pub store: &'a mut [u32],
+}
+
+/// The lists that a feed call with a budget is lent for writing.
+pub struct BudgetLists<'a> {
+    pub best: &'a mut [u32],
+    pub last: &'a mut [u32],
+    pub listed: &'a mut [u32],
     pub store: &'a mut [u32],
 }
 
@@ -45,6 +55,18 @@ pub trait Engine {
 
     fn feed_table(&self, places: u32, start: u32, spans: Spans, lists: FeedLists, figures: &mut [u32; 3]) -> u32 {
         unreachable!("no feed call")
+    }
+
+    fn feed_budget(
+        &self,
+        places: u32,
+        start: u32,
+        spans: Spans,
+        budget: u32,
+        lists: BudgetLists,
+        figures: &mut [u32; 4],
+    ) -> u32 {
+        unreachable!("no feed call with a budget")
     }
 
     fn read_map(&self, text: &[u8], lists: [&mut [u32]; 3], figures: &mut [u32; 3]) -> u32 {
@@ -93,6 +115,21 @@ impl Engine for Faithful {
         let result = feed::table(places, start, spans, lent);
         *figures = [result.links, result.cuts, result.examined];
         result.code
+    }
+
+    fn feed_budget(
+        &self,
+        places: u32,
+        start: u32,
+        spans: Spans,
+        budget: u32,
+        lists: BudgetLists,
+        figures: &mut [u32; 4],
+    ) -> u32 {
+        let lent = Lent { best: lists.best, last: lists.last, words: lists.store };
+        let result = feed::within(places, start, spans, budget, lent, lists.listed);
+        *figures = result.numbers();
+        result.figures.code
     }
 
     fn read_map(&self, text: &[u8], lists: [&mut [u32]; 3], figures: &mut [u32; 3]) -> u32 {

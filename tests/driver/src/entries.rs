@@ -30,9 +30,10 @@ macro_rules! lent_run {
             ) -> u32;
         }
         let (store, sheet, out): (&mut [u32], &[u8], &mut [u8]) = ($store, $sheet, $out);
+        let figures: &mut [u32; 2] = $figures;
         // SAFETY: as in own_run.
         unsafe {
-            $name(store.as_mut_ptr(), store.len(), sheet.as_ptr(), sheet.len(), out.as_mut_ptr(), out.len(), $figures)
+            $name(store.as_mut_ptr(), store.len(), sheet.as_ptr(), sheet.len(), out.as_mut_ptr(), out.len(), figures)
         }
     }};
 }
@@ -60,12 +61,13 @@ macro_rules! feed_call {
                 figures: *mut [u32; 3],
             ) -> u32;
         }
+        let (places, start, figures): (u32, u32, &mut [u32; 3]) = ($places, $start, $figures);
         let (Spans { from, to, loss }, FeedLists { best, last, store }) = ($spans, $lists);
         // SAFETY: as in own_run.
         unsafe {
             $name(
-                $places,
-                $start,
+                places,
+                start,
                 from.as_ptr(),
                 from.len(),
                 to.as_ptr(),
@@ -78,7 +80,61 @@ macro_rules! feed_call {
                 last.len(),
                 store.as_mut_ptr(),
                 store.len(),
-                $figures,
+                figures,
+            )
+        }
+    }};
+}
+
+/// A feed call with a budget: `feed_budget`.
+#[macro_export]
+macro_rules! budget_call {
+    ($name:ident, $places:expr, $start:expr, $spans:expr, $budget:expr, $lists:expr, $figures:expr) => {{
+        extern "C" {
+            fn $name(
+                places: u32,
+                start: u32,
+                from: *const u32,
+                from_len: usize,
+                to: *const u32,
+                to_len: usize,
+                loss: *const u32,
+                loss_len: usize,
+                budget: u32,
+                best: *mut u32,
+                best_len: usize,
+                last: *mut u32,
+                last_len: usize,
+                listed: *mut u32,
+                listed_len: usize,
+                store: *mut u32,
+                store_len: usize,
+                figures: *mut [u32; 4],
+            ) -> u32;
+        }
+        let (places, start, budget, figures): (u32, u32, u32, &mut [u32; 4]) = ($places, $start, $budget, $figures);
+        let (Spans { from, to, loss }, BudgetLists { best, last, listed, store }) = ($spans, $lists);
+        // SAFETY: as in own_run.
+        unsafe {
+            $name(
+                places,
+                start,
+                from.as_ptr(),
+                from.len(),
+                to.as_ptr(),
+                to.len(),
+                loss.as_ptr(),
+                loss.len(),
+                budget,
+                best.as_mut_ptr(),
+                best.len(),
+                last.as_mut_ptr(),
+                last.len(),
+                listed.as_mut_ptr(),
+                listed.len(),
+                store.as_mut_ptr(),
+                store.len(),
+                figures,
             )
         }
     }};

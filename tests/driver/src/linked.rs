@@ -3,12 +3,12 @@
 //! Features choose the libraries; the folder of the programs is taken from the environment.
 
 #[cfg(feature = "engine-host")]
-use crate::engine::FeedLists;
+use crate::engine::{BudgetLists, FeedLists};
 use crate::engine::{Engine, Part};
 #[cfg(feature = "engine-modem")]
 use crate::own_run;
 #[cfg(feature = "engine-host")]
-use crate::{feed_call, lent_run};
+use crate::{budget_call, feed_call, lent_run};
 #[cfg(feature = "engine-host")]
 use reference::feed::Spans;
 use std::io::Write;
@@ -74,7 +74,7 @@ impl Engine for Linked {
     fn has(&self, part: Part) -> bool {
         match part {
             Part::Modem => cfg!(feature = "engine-modem"),
-            Part::Runs | Part::Feed | Part::Map => cfg!(feature = "engine-host"),
+            Part::Runs | Part::Feed | Part::Budget | Part::Map => cfg!(feature = "engine-host"),
             Part::QueueProgram => self.program("queue").is_some(),
             Part::FeedProgram => self.program("feed").is_some(),
         }
@@ -104,6 +104,19 @@ impl Engine for Linked {
     #[cfg(feature = "engine-host")]
     fn feed_table(&self, places: u32, start: u32, spans: Spans, lists: FeedLists, figures: &mut [u32; 3]) -> u32 {
         feed_call!(feed_table, places, start, spans, lists, figures)
+    }
+
+    #[cfg(feature = "engine-host")]
+    fn feed_budget(
+        &self,
+        places: u32,
+        start: u32,
+        spans: Spans,
+        budget: u32,
+        lists: BudgetLists,
+        figures: &mut [u32; 4],
+    ) -> u32 {
+        budget_call!(feed_budget, places, start, spans, budget, lists, figures)
     }
 
     #[cfg(feature = "engine-host")]

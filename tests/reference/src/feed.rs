@@ -1,4 +1,4 @@
-//! The feed table: least losses by plain relaxation, queue moves by playing the calls.
+//! The feed table, in full and within a budget: least losses by plain relaxation, queue moves by playing the calls.
 
 use crate::call::Call;
 use crate::queue::Queues;
@@ -31,21 +31,59 @@ pub struct Lent<'a> {
     pub words: &'a mut [u32],
 }
 
-pub fn table(places: u32, start: u32, spans: Spans, lent: Lent) -> Figures {
-    let code = refusal(places, start, spans, &lent);
-    if code != 0 {
-        return Figures { code, ..Figures::default() };
+/// The figures of a call with a budget, and how many places it lists.
+#[derive(Clone, Copy, Debug, Default, PartialEq, Eq)]
+pub struct Within {
+    pub figures: Figures,
+    pub listed: u32,
+}
+
+impl Within {
+    /// The four figures beside the code.
+    pub fn numbers(&self) -> [u32; 4] {
+        let Figures { links, cuts, examined, .. } = self.figures;
+        [links, cuts, examined, self.listed]
     }
+}
+
+/// The full feed call.
+pub fn table(places: u32, start: u32, spans: Spans, lent: Lent) -> Figures {
+    match refusal(places, start, spans, &lent, None) {
+        0 => fill(places, start, spans, None, lent),
+        code => Figures { code, ..Figures::default() },
+    }
+}
+
+/// The feed call with a budget. Words of `listed` beyond the places listed stay.
+pub fn within(places: u32, start: u32, spans: Spans, budget: u32, lent: Lent, listed: &mut [u32]) -> Within {
+    let code = refusal(places, start, spans, &lent, Some(listed.len()));
+    if code != 0 {
+        return Within { figures: Figures { code, ..Figures::default() }, listed: 0 };
+    }
+    let Lent { best, last, words } = lent;
+    let figures = fill(places, start, spans, Some(budget), Lent { best: &mut *best, last, words });
+    let mut order: Vec<u32> = (0..places).filter(|&place| best[place as usize] != NONE).collect();
+    order.sort_by_key(|&place| (best[place as usize], place));
+    listed[..order.len()].copy_from_slice(&order);
+    Within { figures, listed: order.len() as u32 }
+}
+
+/// Fills the lists of a call that isn't refused: the full table, with none and none at the places beyond the budget.
+fn fill(places: u32, start: u32, spans: Spans, budget: Option<u32>, lent: Lent) -> Figures {
     let best = least_losses(places, start, spans);
-    lent.last.copy_from_slice(&last_spans(&best, start, spans));
-    lent.best.copy_from_slice(&best);
+    let last = last_spans(&best, start, spans);
+    let shown = |place: usize| best[place] != NONE && budget.is_none_or(|budget| best[place] <= budget);
+    for place in 0..places as usize {
+        (lent.best[place], lent.last[place]) = if shown(place) { (best[place], last[place]) } else { (NONE, NONE) };
+    }
     lent.words.copy_from_slice(&store::empty(places as usize));
-    let (links, cuts) = moves(places, start, spans);
-    let examined = spans.from.iter().filter(|&&from| best[from as usize] != NONE).count() as u32;
+    let (links, cuts) = moves(places, start, spans, budget);
+    let examined = spans.from.iter().filter(|&&from| shown(from as usize)).count() as u32;
     Figures { code: 0, links, cuts, examined }
 }
 
-fn refusal(places: u32, start: u32, spans: Spans, lent: &Lent) -> u32 {
+/// The code that refuses a call; `listed` is the length of the place list, where one is lent.
+pub fn refusal(places: u32, start: u32, spans: Spans, lent: &Lent, listed: Option<usize>) -> u32 {
     let count = spans.from.len();
     let per_place = places as usize;
     if places == 0 || places > MAX_PLACES {
@@ -59,6 +97,8 @@ fn refusal(places: u32, start: u32, spans: Spans, lent: &Lent) -> u32 {
         || lent.words.len() != store::length(per_place)
     {
         17
+    } else if listed.is_some_and(|listed| listed < per_place) {
+        22
     } else {
         (0..count).map(|span| span_fault(places, spans, span)).find(|&code| code != 0).unwrap_or(0)
     }
@@ -107,8 +147,8 @@ fn last_spans(best: &[u32], start: u32, spans: Spans) -> Vec<u32> {
     last
 }
 
-/// Links and cuts of the queue calls, by making these calls.
-fn moves(places: u32, start: u32, spans: Spans) -> (u32, u32) {
+/// Links and cuts of the queue calls, by making them until no place waits, or the first that does is beyond the budget.
+fn moves(places: u32, start: u32, spans: Spans, budget: Option<u32>) -> (u32, u32) {
     let mut queues = Queues::new(places);
     let mut met = vec![NONE; places as usize];
     let (mut links, mut cuts) = (0, 0);
@@ -121,7 +161,7 @@ fn moves(places: u32, start: u32, spans: Spans) -> (u32, u32) {
     };
     met[start as usize] = 0;
     make(&mut queues, Call::Insert { heap: 0, item: start, key: 0 });
-    while !queues.rows[0].is_empty() {
+    while first_key(&queues).is_some_and(|key| budget.is_none_or(|budget| key <= budget)) {
         let taken = make(&mut queues, Call::ExtractMin { heap: 0 });
         for span in (0..spans.from.len()).filter(|&span| spans.from[span] == taken.item) {
             let (item, key) = (spans.to[span], taken.key + spans.loss[span]);
@@ -137,4 +177,9 @@ fn moves(places: u32, start: u32, spans: Spans) -> (u32, u32) {
         }
     }
     (links, cuts)
+}
+
+/// The key of the first item of heap 0.
+fn first_key(queues: &Queues) -> Option<u32> {
+    queues.minimum(0).map(|root| queues.rows[0][root].key)
 }

@@ -1,4 +1,4 @@
-//! The example of each code in the scope paper's table, and its exact limit.
+//! The example of each code in the scope paper's table, and its exact limit; code 22 of the call with a budget.
 
 use reference::feed::{self, Lent, Spans};
 use reference::{map, run, store, Call, Queues};
@@ -78,6 +78,35 @@ fn feed_calls() {
     assert_eq!(feed_code(3, 0, [&[0], &[1], &[1_000_000]], 3, 3), 0);
     assert_eq!(feed_code(3, 0, [&[1, 0], &[1, 1], &[1, 1]], 3, 3), 20);
     assert_eq!(feed_code(3, 0, [&[0, 1, 0], &[1, 1, 3], &[1, 0, 1]], 3, 3), 19);
+}
+
+/// A feed call with a budget, with result lists of `results` words and a place list of `listed` words.
+fn budget_code(places: u32, start: u32, spans: [&[u32]; 3], results: usize, listed: usize) -> u32 {
+    let (mut best, mut last) = (vec![0; results], vec![0; results]);
+    let mut words = vec![0; store::length(3)];
+    let lent = Lent { best: &mut best, last: &mut last, words: &mut words };
+    let spans = Spans { from: spans[0], to: spans[1], loss: spans[2] };
+    feed::within(places, start, spans, 9, lent, &mut vec![0; listed]).figures.code
+}
+
+#[test]
+fn feed_calls_with_a_budget() {
+    let one: [&[u32]; 3] = [&[0], &[1], &[1]];
+    assert_eq!(budget_code(3, 0, one, 3, 2), 22);
+    assert_eq!(budget_code(3, 0, one, 3, 0), 22);
+    assert_eq!(budget_code(3, 0, one, 3, 3), 0);
+    assert_eq!(budget_code(3, 0, one, 3, 9), 0);
+    // After 14 to 17, before the spans.
+    assert_eq!(budget_code(4097, 0, one, 3, 2), 14);
+    assert_eq!(budget_code(3, 3, one, 3, 2), 15);
+    assert_eq!(budget_code(3, 0, [&[0], &[1], &[]], 3, 2), 16);
+    assert_eq!(budget_code(3, 0, one, 2, 2), 17);
+    for (span, code) in [([0, 3, 1], 18), ([0, 1, 0], 19)] {
+        let spans = [&span[0..1], &span[1..2], &span[2..3]];
+        assert_eq!([2, 3].map(|listed| budget_code(3, 0, spans, 3, listed)), [22, code]);
+    }
+    let falling: [&[u32]; 3] = [&[1, 0], &[1, 1], &[1, 1]];
+    assert_eq!([2, 3].map(|listed| budget_code(3, 0, falling, 3, listed)), [22, 20]);
 }
 
 fn map_code(text: &[u8], room: usize) -> u32 {

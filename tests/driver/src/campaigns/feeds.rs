@@ -40,8 +40,28 @@ fn changed(call: &FeedCall, change: impl Fn(&mut FeedCall)) -> FeedCall {
     call
 }
 
+/// A call, the code that it must get, and what is tried.
+pub struct Case {
+    pub call: FeedCall,
+    pub code: u32,
+    pub what: &'static str,
+}
+
+fn case(code: u32, what: &'static str, call: FeedCall) -> Case {
+    Case { call, code, what }
+}
+
 pub fn limits(checker: &mut Checker) -> Verdict {
+    for Case { call, code, what } in limit_cases() {
+        expect(checker.feed(&call)?, code, what)?;
+    }
+    Ok(())
+}
+
+/// Codes 14 to 20 at their limits, alone and together.
+pub fn limit_cases() -> Vec<Case> {
     let good = maps::call(3, 0, &WORKED);
+    let mut cases = Vec::new();
     for (places, code) in [(0, 14), (4097, 14), (NONE, 14), (1, 18), (2, 17)] {
         let call = changed(&good, |call| {
             call.places = places;
@@ -49,21 +69,21 @@ pub fn limits(checker: &mut Checker) -> Verdict {
                 (call.best, call.last, call.words) = (1, 1, store::length(1));
             }
         });
-        expect(checker.feed(&call)?, code, "places")?;
+        cases.push(case(code, "places", call));
     }
-    let (places, spans) = (4096, maps::chain(4096, 1_000_000));
-    expect(checker.feed(&maps::call(places, 0, &spans))?, 0, "4,096 places")?;
-    let call = changed(&maps::call(4097, 0, &[]), |call| call.words = store::length(4097));
-    expect(checker.feed(&call)?, 14, "4,097 places")?;
+    cases.push(case(0, "4,096 places", maps::call(4096, 0, &maps::chain(4096, 1_000_000))));
+    cases.push(case(14, "4,097 places", maps::call(4097, 0, &[])));
     for (start, code) in [(2, 0), (3, 15), (NONE, 15)] {
-        expect(checker.feed(&changed(&good, |call| call.start = start))?, code, "start")?;
+        cases.push(case(code, "start", changed(&good, |call| call.start = start)));
     }
-    span_lists(checker, &good)?;
-    result_lists(checker, &good)?;
-    loss_limits(checker, &good)
+    cases.extend(span_lists(&good));
+    cases.extend(result_lists(&good));
+    cases.extend(losses_and_places(&good));
+    cases.extend(orders(&good));
+    cases
 }
 
-fn span_lists(checker: &mut Checker, good: &FeedCall) -> Verdict {
+fn span_lists(good: &FeedCall) -> Vec<Case> {
     let shorter: [fn(&mut FeedCall); 4] = [
         |call| call.from.truncate(2),
         |call| call.to.truncate(2),
@@ -73,53 +93,61 @@ fn span_lists(checker: &mut Checker, good: &FeedCall) -> Verdict {
             call.to.truncate(2);
         },
     ];
+    let mut cases = Vec::new();
     for shorten in shorter {
-        expect(checker.feed(&changed(good, shorten))?, 16, "unequal span lists")?;
+        cases.push(case(16, "unequal span lists", changed(good, shorten)));
         // 16 comes before 17 and 18.
         let call = changed(good, |call| {
             shorten(call);
             call.best = 2;
             call.to[0] = 9;
         });
-        expect(checker.feed(&call)?, 16, "unequal span lists with later faults")?;
+        cases.push(case(16, "unequal span lists with later faults", call));
     }
     let mut random = Random::new(10);
     for (count, code) in [(16_384, 0), (16_385, 16)] {
         let spans = maps::scattered(&mut random, 300, count, 50);
-        expect(checker.feed(&maps::call(300, 7, &spans))?, code, "16,384 spans")?;
+        cases.push(case(code, "16,384 spans", maps::call(300, 7, &spans)));
     }
-    Ok(())
+    cases
 }
 
-fn result_lists(checker: &mut Checker, good: &FeedCall) -> Verdict {
+fn result_lists(good: &FeedCall) -> Vec<Case> {
+    let mut cases = Vec::new();
     for length in [0, 2, 4] {
-        expect(checker.feed(&changed(good, |call| call.best = length))?, 17, "losses")?;
-        expect(checker.feed(&changed(good, |call| call.last = length))?, 17, "spans")?;
+        cases.push(case(17, "losses", changed(good, |call| call.best = length)));
+        cases.push(case(17, "spans", changed(good, |call| call.last = length)));
         let both = changed(good, |call| {
             call.best = length;
             call.last = length;
             call.loss[0] = 0;
         });
-        expect(checker.feed(&both)?, 17, "both lists and a faulty span")?;
+        cases.push(case(17, "both lists and a faulty span", both));
     }
     for words in [0, 32, 48, 55, 57, 64] {
-        expect(checker.feed(&changed(good, |call| call.words = words))?, 17, "store")?;
+        cases.push(case(17, "store", changed(good, |call| call.words = words)));
     }
-    Ok(())
+    cases
 }
 
-fn loss_limits(checker: &mut Checker, good: &FeedCall) -> Verdict {
+fn losses_and_places(good: &FeedCall) -> Vec<Case> {
+    let mut cases = Vec::new();
     for span in 0..3 {
         for (loss, code) in [(0, 19), (1, 0), (1_000_000, 0), (1_000_001, 19), (NONE, 19)] {
-            expect(checker.feed(&changed(good, |call| call.loss[span] = loss))?, code, "loss")?;
+            cases.push(case(code, "loss", changed(good, |call| call.loss[span] = loss)));
         }
         for place in [3, 4, NONE] {
-            expect(checker.feed(&changed(good, |call| call.from[span] = place))?, 18, "from")?;
-            expect(checker.feed(&changed(good, |call| call.to[span] = place))?, 18, "to")?;
+            cases.push(case(18, "from", changed(good, |call| call.from[span] = place)));
+            cases.push(case(18, "to", changed(good, |call| call.to[span] = place)));
         }
     }
+    cases
+}
+
+fn orders(good: &FeedCall) -> Vec<Case> {
+    let mut cases = Vec::new();
     for (from, code) in [([0, 0, 0], 0), ([1, 1, 1], 0), ([1, 0, 2], 20), ([0, 2, 1], 20), ([2, 2, 2], 0)] {
-        expect(checker.feed(&changed(good, |call| call.from = from.to_vec()))?, code, "order")?;
+        cases.push(case(code, "order", changed(good, |call| call.from = from.to_vec())));
     }
     // The lowest-numbered faulty span decides; on one span the lower code.
     let pairs: [([u32; 3], [u32; 3], u32); 5] = [
@@ -134,9 +162,9 @@ fn loss_limits(checker: &mut Checker, good: &FeedCall) -> Verdict {
             call.from = from.to_vec();
             call.loss = loss.to_vec();
         });
-        expect(checker.feed(&call)?, code, "two faults")?;
+        cases.push(case(code, "two faults", call));
     }
-    Ok(())
+    cases
 }
 
 pub fn random_maps(checker: &mut Checker) -> Verdict {
@@ -155,22 +183,27 @@ pub fn random_maps(checker: &mut Checker) -> Verdict {
 pub fn faulty_spans(checker: &mut Checker) -> Verdict {
     let mut random = Random::new(12);
     for _ in 0..6_000 {
-        let mut call = maps::small(&mut random);
-        for _ in 0..1 + random.size(2) {
-            if call.from.is_empty() {
-                break;
-            }
-            let span = random.size(call.from.len());
-            match random.below(4) {
-                0 => call.from[span] = *random.pick(&[0, call.places - 1, call.places, NONE]),
-                1 => call.to[span] = *random.pick(&[0, call.places - 1, call.places, NONE]),
-                2 => call.loss[span] = *random.pick(&[0, 1, 1_000_000, 1_000_001, NONE]),
-                _ => call.from.swap(0, span),
-            }
-        }
-        checker.feed(&call)?;
+        checker.feed(&faulty(&mut random))?;
     }
     Ok(())
+}
+
+/// A small map with one or two numbers of its spans changed.
+pub fn faulty(random: &mut Random) -> FeedCall {
+    let mut call = maps::small(random);
+    for _ in 0..1 + random.size(2) {
+        if call.from.is_empty() {
+            break;
+        }
+        let span = random.size(call.from.len());
+        match random.below(4) {
+            0 => call.from[span] = *random.pick(&[0, call.places - 1, call.places, NONE]),
+            1 => call.to[span] = *random.pick(&[0, call.places - 1, call.places, NONE]),
+            2 => call.loss[span] = *random.pick(&[0, 1, 1_000_000, 1_000_001, NONE]),
+            _ => call.from.swap(0, span),
+        }
+    }
+    call
 }
 
 pub fn large_maps(checker: &mut Checker) -> Verdict {

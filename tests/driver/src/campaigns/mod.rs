@@ -1,5 +1,6 @@
 //! The campaigns: each drives one part of an engine and stops at the first difference.
 
+pub mod budgets;
 pub mod codes;
 pub mod feeds;
 pub mod large_stores;
@@ -22,7 +23,7 @@ const fn campaign(part: Part, name: &'static str, run: fn(&mut Checker) -> Verdi
 }
 
 /// Quick ones first, so that a wrong engine is caught soon.
-pub const ALL: [Campaign; 26] = [
+pub const ALL: [Campaign; 33] = [
     campaign(Part::Modem, "modem: worked runs and limits", codes::modem),
     campaign(Part::Modem, "modem: random sheets", runs::modem_sheets),
     campaign(Part::Runs, "runs: worked runs", codes::worked_runs),
@@ -44,6 +45,13 @@ pub const ALL: [Campaign; 26] = [
     campaign(Part::Feed, "feed: random maps", feeds::random_maps),
     campaign(Part::Feed, "feed: faulty spans", feeds::faulty_spans),
     campaign(Part::Feed, "feed: large maps", feeds::large_maps),
+    campaign(Part::Budget, "budget: worked runs", budgets::worked),
+    campaign(Part::Budget, "budget: codes 14 to 22 at their limits", budgets::limits),
+    campaign(Part::Budget, "budget: every choice of faults at once", budgets::several_faults),
+    campaign(Part::Budget, "budget: faulty spans, short lists", budgets::faulty_spans),
+    campaign(Part::Budget, "budget: random maps, around every loss", budgets::random_maps),
+    campaign(Part::Budget, "budget: calls one after another", budgets::one_after_another),
+    campaign(Part::Budget, "budget: large maps", budgets::large_maps),
     campaign(Part::Map, "map: limits and malformed texts", map_texts::limits),
     campaign(Part::Map, "map: random and damaged texts", map_texts::texts),
     campaign(Part::Map, "map: lengths of the lent lists", map_texts::lists),

@@ -1,10 +1,11 @@
 //! Wrong engines: the reference with one deliberate fault each. The campaigns must catch them all.
 
+mod budgets;
 mod feeds;
 mod lines;
 mod runs;
 
-use crate::engine::{Engine, FeedLists, Part};
+use crate::engine::{BudgetLists, Engine, FeedLists, Part};
 use reference::feed::Spans;
 use reference::run::{LINE_ROOM, MAX_BYTES, MAX_LINES, MODEM_ITEMS};
 use reference::{program, store};
@@ -45,6 +46,19 @@ variants! {
     [Feed]
         TableOfAllNone FixedTable ZeroLossAccepted FirstSpanFound FeedStoreLeftFull FeedStoreLeftAsFound
         FeedCountsZero FeedListsTouchedOnRefusal StartShowsASpan OrderTestedBeforeLoss;
+    // Feed calls with a budget: which places, and in which order.
+    [Budget]
+        PlaceAtTheBudgetLeftOut PlaceBeyondTheBudgetListed UnreachedPlacesListed ListByPlace
+        ListByDescendingPlaceOnTies ListedOneTooMany;
+    // Feed calls with a budget: what they leave.
+    [Budget]
+        FirstWaitingPlaceInTheList ListFilledWithNone LongerListFilled WaitingLossesShown WaitingSpansShown
+        WaitingPlacesLeftInStore BudgetTouchesListOnRefusal BudgetFiguresLeftOnRefusal;
+    // Feed calls with a budget: what they count.
+    [Budget] SearchNotStopped StoppingTakingCounted EmptyingCounted OffersBeyondPruned;
+    // Feed calls with a budget: code 22.
+    [Budget]
+        PlaceListTestedAfterSpans PlaceListTestedBeforeLists LongerPlaceListRefused PlaceListNotTested;
     // Map texts.
     [Map] MapListsTouchedOnRefusal MapRoomTestedFirst MapEmptyLineSkipped MapFiguresLeftOnRefusal;
     // Programs.
@@ -53,6 +67,7 @@ variants! {
     [FeedProgram] ProgramShowsNoneAsNumber ProgramHoldsOnePlaceMore ProgramHoldsOneSpanMore;
 }
 
+use budgets::Asked;
 use Variant::*;
 
 /// The wrong engine. `None` runs the same code without a fault.
@@ -98,6 +113,18 @@ impl Engine for Mock {
 
     fn feed_table(&self, places: u32, start: u32, spans: Spans, lists: FeedLists, figures: &mut [u32; 3]) -> u32 {
         self.faulty_table(places, start, spans, lists, figures)
+    }
+
+    fn feed_budget(
+        &self,
+        places: u32,
+        start: u32,
+        spans: Spans,
+        budget: u32,
+        lists: BudgetLists,
+        figures: &mut [u32; 4],
+    ) -> u32 {
+        self.faulty_budget(Asked { places, start, spans, budget }, lists, figures)
     }
 
     fn read_map(&self, text: &[u8], lists: [&mut [u32]; 3], figures: &mut [u32; 3]) -> u32 {
