@@ -4,7 +4,8 @@ use mathlib.Core.Path.{_≡_}
 use mathlib.Core.List.{List}
 use native.Mathlib.Omega.{arith}
 use Rattle.paths.specs.Map.{Map, spans}
-use Rattle.paths.specs.Search.{Search, tried, extracted, steps, never, bestAt}
+use Rattle.paths.specs.Queue.{Stop}
+use Rattle.paths.specs.Search.{Search, tried, extracted, steps, bestAt}
 use Rattle.paths.specs.Feed.{ResultLists}
 use Rattle.paths.proofs.Waiting.{next-takes, waits-below}
 use Rattle.paths.proofs.Offers.{TryingOf}
@@ -23,24 +24,24 @@ use Rattle.relax.specs.declared.Progress.{Progress}
 use Rattle.finder.specs.SearchState.{Taken}
 
 -- after the spans below e of place u, which was taken after k steps
-abbrev pub at : Map → ℕ → ℕ → ℕ → Search
-at m k u e = tried m u (bestAt (steps never m k) u) e (extracted u (steps never m k))
+abbrev pub at : Stop → Map → ℕ → ℕ → ℕ → Search
+at stop m k u e = tried m u (bestAt (steps stop m k) u) e (extracted u (steps stop m k))
 
 module _
-    {m : Map} {index to loss : List ℕ} {u d : ℕ} {l₀ : ResultLists} {taken : Progress}
-    (K : Taken m index to loss u d l₀ taken) where
+    {stop : Stop} {m : Map} {index to loss : List ℕ} {u d : ℕ} {l₀ : ResultLists} {taken : Progress}
+    (K : Taken stop m index to loss u d l₀ taken) where
   abbrev k : ℕ
   k = taken .visited
 
   abbrev before : Search
-  before = steps never m k
+  before = steps stop m k
 
-  pub betweenTurns : Between never m k before
-  betweenTurns = steps-between never m (K .accepted) k
+  pub betweenTurns : Between stop m k before
+  betweenTurns = steps-between stop m (K .accepted) k
 
   -- the places that are not settled
   abbrev pub left : ℕ
-  left = rest never m (K .accepted) k before betweenTurns u (K .next-is)
+  left = rest stop m (K .accepted) k before betweenTurns u (K .next-is)
 
   -- each step has settled a place
   pub left-is : left + 1 + k ≡ m .places
@@ -48,26 +49,26 @@ module _
       omega (
         arith,
         betweenTurns .goes u (K .next-is),
-        extracted-rest never m (K .accepted) k before betweenTurns u (K .next-is),
+        extracted-rest stop m (K .accepted) k before betweenTurns u (K .next-is),
       )
 
   -- the invariant, and the calls made, before span e
-  pub tryingAt : (e : ℕ) → e ≤ spans m → TryingOf m u (bestAt before u) e left (at m k u e)
+  pub tryingAt : (e : ℕ) → e ≤ spans m → TryingOf m u (bestAt before u) e left (at stop m k u e)
   tryingAt e h =
       tried-trying m (K .accepted) u (bestAt before u) left (extracted u before)
-      (extracted-trying never m (K .accepted) k before betweenTurns u (K .next-is)) e h
+      (extracted-trying stop m (K .accepted) k before betweenTurns u (K .next-is)) e h
 
-  pub servedAt : (e : ℕ) → e ≤ spans m → ServedOf m (at m k u e)
+  pub servedAt : (e : ℕ) → e ≤ spans m → ServedOf m (at stop m k u e)
   servedAt e h =
-      trying-keeps never m (K .accepted) (ServedOf m) (served never m (K .accepted)) k u (K .next-is)
-      (steps-keep never m (K .accepted) (ServedOf m) (served never m (K .accepted)) k) e h
+      trying-keeps stop m (K .accepted) (ServedOf m) (served stop m (K .accepted)) k u (K .next-is)
+      (steps-keep stop m (K .accepted) (ServedOf m) (served stop m (K .accepted)) k) e h
 
   pub place-in : u < m .places
   place-in =
       omega (
         arith,
         betweenTurns .invariant .waitsN,
-        waits-below (before .queue .waits) u (next-takes never (before .queue) u (K .next-is) .inside),
+        waits-below (before .queue .waits) u (next-takes stop (before .queue) u (K .next-is) .inside),
       )
 
   pub place-small : u < 4096

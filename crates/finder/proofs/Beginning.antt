@@ -16,7 +16,8 @@ use Rattle.rules.proofs.Sums.{sumBy-set}
 use Rattle.heap.specs.declared.Reply.{Reply}
 use Rattle.heap.specs.Performed.{Ready, Performed}
 use Rattle.paths.specs.Map.{SpanLists, noSpans, Map, mapOf, Accepted}
-use Rattle.paths.specs.Search.{begin, steps, never}
+use Rattle.paths.specs.Queue.{Stop}
+use Rattle.paths.specs.Search.{begin, steps}
 use Rattle.paths.specs.Feed.{linksOf, cutsOf, ResultLists, resultLists}
 use Rattle.paths.proofs.Begin.{sum-zeros}
 use Rattle.relax.specs.declared.Progress.{Progress}
@@ -71,21 +72,21 @@ module _ (places start : ℕ) (l : ResultLists) (R : BeginReady places start l) 
       }
 
 -- no step is made
-no-turn : (m : Map) (k : ℕ) → k ≡ 0 → (l : ResultLists) (r : Progress)
-    → Tracks (m .places) 0 (begin m) l r → Tracks (m .places) k (steps never m k) l r
+no-turn : (stop : Stop) (m : Map) (k : ℕ) → k ≡ 0 → (l : ResultLists) (r : Progress)
+    → Tracks (m .places) 0 (begin m) l r → Tracks (m .places) k (steps stop m k) l r
 unfolding steps
-no-turn m k z l r H = rw z H
+no-turn stop m k z l r H = rw z H
 
-pub begun-stands : {places start : ℕ} {lists : SpanLists} → Accepted (mapOf places start lists)
+pub begun-stands : (stop : Stop) {places start : ℕ} {lists : SpanLists} → Accepted (mapOf places start lists)
     → {l : ResultLists} {r : Progress} → Begun places start l r
-    → Stands (mapOf places start lists) l r
+    → Stands stop (mapOf places start lists) l r
 unfolding begin
-begun-stands {places} {start} {lists} A {l} {r} G =
+begun-stands stop {places} {start} {lists} A {l} {r} G =
     record {
       accepted = A;
       few = omega (arith, G .visited-is);
       tracks =
-          no-turn (mapOf places start lists) (r .visited) (G .visited-is) l r
+          no-turn stop (mapOf places start lists) (r .visited) (G .visited-is) l r
           (same (G .tracks));
     }
   where

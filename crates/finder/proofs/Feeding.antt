@@ -2,82 +2,109 @@
 use Prim.Native.Nat.{ℕ, zero, suc}
 use mathlib.Core.Path.{_≡_, refl, sym, ap, _∙_}
 use mathlib.Core.Logic.{_≢_}
+use mathlib.Core.List.{List}
 use native.Mathlib.Omega.{arith}
-use lib.ListN.{length}
-use Rattle.rules.specs.Forests.{empty}
+use lib.ListN.{getD}
+use lib.Seq.{ext-getD}
+use Rattle.rules.specs.Forests.{none, empty}
 use Rattle.rules.specs.Words.{encode}
 use Rattle.relax.specs.declared.Progress.{Progress}
 use Rattle.paths.specs.Map.{Map, Accepted}
-use Rattle.paths.specs.Search.{never, search, find}
+use Rattle.paths.specs.Table.{Limit, unlimited}
+use Rattle.paths.specs.Search.{Search, beyond, search, find, hideWaiting, shownBest, shownLast}
 use Rattle.paths.specs.Codes.{feedCode}
-use Rattle.paths.specs.Feed.{ResultLists, feedAs, feedResult}
+use Rattle.paths.specs.Feed.{ResultLists, resultLists, feedAs, codeFor, feedResult}
 use Rattle.paths.specs.Theorems.{between, Fits}
 use Rattle.finder.specs.SearchState.{BeginReady, Found}
-use Rattle.finder.specs.Promise.{Feeds}
+use Rattle.finder.specs.declared.Fed.{Fed}
+use Rattle.finder.specs.Promise.{FedAs, Feeds}
+use Rattle.paths.proofs.Hiding.{length-hide, hide-at}
+use Rattle.paths.proofs.Table.{none-waits}
 use Rattle.paths.proofs.Served.{endsEmpty}
 use Rattle.paths.proofs.Examined.{examinedAtMost}
 use Rattle.paths.proofs.Accepts.{codeZero}
 
-pub accepted-map : (m : Map) (bestN lastN storeN code : ℕ) → code ≡ feedCode m bestN lastN storeN → code ≡ 0
-    → Accepted m
-accepted-map m bestN lastN storeN code is z = codeZero .only m bestN lastN storeN (sym is ∙ z) .accepted
+-- ---- under any limit
 
-module _ (m : Map) (lent : ResultLists) (code : ℕ)
-    (is : code ≡ feedCode m (length (lent .best)) (length (lent .last)) (length (lent .store))) where
-  -- the result by the code
-  result-is : {c : ℕ} → code ≡ c → feedResult m lent ≡ feedAs c m lent
-  unfolding feedResult
-  result-is z = rw (sym is, z)
+abbrev pub refusedFed : ℕ → Fed
+refusedFed code = record { code = code; links = 0; cuts = 0; examined = 0 }
 
-  pub feeds-refused : code ≢ 0 → Feeds m lent (record { code = code; links = 0; cuts = 0; examined = 0 }) lent
+abbrev pub doneFed : Progress → Fed
+doneFed r = record { code = 0; links = r .tally .links; cuts = r .tally .cuts; examined = r .examined }
+
+module _ (limit : Limit) (m : Map) (lent : ResultLists) where
+  pub fed-refused : (code : ℕ) → code ≢ 0 → FedAs m (feedAs code limit m lent) (refusedFed code) lent
   unfolding feedAs
-  feeds-refused n = go code refl
-    where
-      go : (c : ℕ) → code ≡ c → Feeds m lent (record { code = code; links = 0; cuts = 0; examined = 0 }) lent
-      go zero z = absurd (n z)
-      go (suc c) z =
-          let w = result-is z in
-          record {
-            code-is = rw w z;
-            links-is = rw w;
-            cuts-is = rw w;
-            left-is = rw w;
-            examined-most = omega arith;
-            examined-refused = λ _. refl;
-          }
+  fed-refused zero n = absurd (n refl)
+  fed-refused (suc code) n =
+      record {
+        code-is = refl;
+        links-is = refl;
+        cuts-is = refl;
+        left-is = refl;
+        examined-most = omega arith;
+        examined-refused = λ _. refl;
+      }
 
-  module _ (z : code ≡ 0) where
-    fits : Fits m (length (lent .best)) (length (lent .last)) (length (lent .store))
-    fits = codeZero .only m (length (lent .best)) (length (lent .last)) (length (lent .store)) (sym is ∙ z)
+  -- The figures are those of the search, and the lists left show the table.
+  pub fed-done : Accepted m → (l : ResultLists) (r : Progress) → Found (beyond limit) m l r → (best last : List ℕ)
+      → best ≡ shownBest (find limit m) → last ≡ shownLast (find limit m)
+      → FedAs m (feedAs 0 limit m lent) (doneFed r) (resultLists best last (encode (empty (m .places))))
+  unfolding feedAs search
+  fed-done A l r F best last b e =
+      let T = F .tracks in
+      record {
+        code-is = refl;
+        links-is = T .logged .links;
+        cuts-is = T .logged .cuts;
+        left-is = rw (b, e);
+        examined-most =
+            omega (
+              arith,
+              T .examined-is,
+              examinedAtMost (beyond limit) m A (find limit m) (between (m .places)),
+            );
+        examined-refused = λ n. absurd (n refl);
+      }
 
-    pub begins : BeginReady (m .places) (m .start) lent
-    begins =
-        record {
-          startIn = fits .accepted .startIn;
-          bestN = fits .best;
-          lastN = fits .last;
-          sized = record { size = fits .store; small = fits .accepted .few };
-        }
+pub code-fits : (m : Map) (bestN lastN listedN storeN code : ℕ) → code ≡ feedCode m bestN lastN listedN storeN
+    → code ≡ 0 → Fits m bestN lastN listedN storeN
+code-fits m bestN lastN listedN storeN code is z = codeZero .only m bestN lastN listedN storeN (sym is ∙ z)
 
-    pub feeds-done : (left : ResultLists) (r : Progress) → Found m left r
-        → Feeds m lent
-        (record { code = 0; links = r .tally .links; cuts = r .tally .cuts; examined = r .examined }) left
-    unfolding feedAs search
-    feeds-done left r F =
-        let w = result-is z in
-        let T = F .tracks in
-        let emptied : left .store ≡ encode (empty (m .places)) =
-        T .logged .words ∙ ap encode (endsEmpty m (fits .accepted)) in
-        record {
-          code-is = rw w;
-          links-is = rw w (T .logged .links);
-          cuts-is = rw w (T .logged .cuts);
-          left-is = rw (w, sym (T .best-is), sym (T .last-is), sym emptied);
-          examined-most =
-              omega (
-                arith,
-                T .examined-is,
-                examinedAtMost never m (fits .accepted) (find m) (between (m .places)),
-              );
-          examined-refused = λ n. absurd (n refl);
-        }
+pub begins : (m : Map) (lent : ResultLists) (listedN code : ℕ) → code ≡ codeFor m lent listedN → code ≡ 0
+    → BeginReady (m .places) (m .start) lent
+begins m lent listedN code is z =
+    let F = code-fits m _ _ listedN _ code is z in
+    record {
+      startIn = F .accepted .startIn;
+      bestN = F .best;
+      lastN = F .last;
+      sized = record { size = F .store; small = F .accepted .few };
+    }
+
+-- ---- the full call
+
+-- no place waits: all is shown
+hide-none : (waits words : List ℕ) → ((p : ℕ) → getD waits p 0 ≡ 0) → hideWaiting waits words ≡ words
+hide-none waits words n =
+    ext-getD none (hideWaiting waits words) words (length-hide waits words)
+    (λ p _. hide-at waits words p ∙ rw (n p))
+
+module _ (m : Map) (lent : ResultLists) (code : ℕ) (is : code ≡ codeFor m lent (m .places)) where
+  pub feeds-refused : code ≢ 0 → Feeds m lent (refusedFed code) lent
+  unfolding feedResult
+  feeds-refused n = rw (sym is) (fed-refused unlimited m lent code n)
+
+  pub feeds-done : code ≡ 0 → (left : ResultLists) (r : Progress) → Found (beyond unlimited) m left r
+      → Feeds m lent (doneFed r) left
+  unfolding feedResult
+  feeds-done z left r F =
+      let A = code-fits m _ _ (m .places) _ code is z .accepted in
+      let s : Search = find unlimited m in
+      let shown : (words : List ℕ) → words ≡ hideWaiting (s .queue .waits) words =
+      λ words. sym (hide-none (s .queue .waits) words (none-waits m A)) in
+      let emptied : left .store ≡ encode (empty (m .places)) =
+      F .tracks .logged .words ∙ ap encode (endsEmpty m A) in
+      rw (sym is, z, emptied)
+      (fed-done unlimited m lent A left r F (left .best) (left .last) (F .tracks .best-is ∙ shown (s .best))
+      (F .tracks .last-is ∙ shown (s .last)))

@@ -1,26 +1,45 @@
--- At every moment of a search another queue call may be made on the store.
+-- At every moment of a search another queue call may be made on the store, and its size is that for the places.
 use Prim.Native.Nat.{ℕ}
+use mathlib.Core.Path.{ap, _∙_}
 use mathlib.Core.List.{List}
 use native.Mathlib.Omega.{arith}
+use lib.ListN.{length}
 use Rattle.rules.specs.declared.Tally.{Tally}
 use Rattle.rules.specs.Forests.{empty}
 use Rattle.rules.specs.Answers.{after}
+use Rattle.rules.specs.Words.{storeSize}
+use Rattle.rules.proofs.DecodeEncode.{encode-length}
 use Rattle.rules.proofs.SoundWords.{sound-encode}
+use Rattle.store.specs.Says.{Sized}
 use Rattle.heap.specs.Performed.{Ready}
 use Rattle.paths.specs.Map.{Map, Accepted}
-use Rattle.paths.specs.Search.{Search, never}
-use Rattle.paths.specs.Theorems.{Moment}
-use Rattle.paths.proofs.Steps.{moments-keep}
+use Rattle.paths.specs.Queue.{Stop}
+use Rattle.paths.specs.Search.{Search, steps}
+use Rattle.paths.specs.Theorems.{Moment, forestsAfter}
+use Rattle.paths.proofs.Steps.{steps-between, steps-keep, moments-keep}
 use Rattle.paths.proofs.Served.{ServedOf, served}
 use Rattle.paths.proofs.Counts.{counts-low}
 use Rattle.relax.specs.Tracks.{Logged}
 
-pub logged-ready : (m : Map) → Accepted m → (s : Search) → Moment never m s → (store : List ℕ) (t : Tally)
+pub logged-ready : (stop : Stop) (m : Map) → Accepted m → (s : Search) → Moment stop m s → (store : List ℕ) (t : Tally)
     → Logged (m .places) (s .calls) store t → Ready store t
-logged-ready m A s M store t L =
-    let S = moments-keep never m A (ServedOf m) (served never m A) s M in
-    let low = counts-low never m A s M in
+logged-ready stop m A s M store t L =
+    let S = moments-keep stop m A (ServedOf m) (served stop m A) s M in
+    let low = counts-low stop m A s M in
     record {
       sound = rw (L .words) (sound-encode (after (empty (m .places)) (s .calls)) (S .formed));
       room = record { links = omega (arith, low, L .links); cuts = omega (arith, low, L .cuts) };
+    }
+
+pub logged-sized : (stop : Stop) (m : Map) → Accepted m → (k : ℕ) {store : List ℕ} {t : Tally}
+    → Logged (m .places) ((steps stop m k) .calls) store t → Sized (m .places) store
+logged-sized stop m A k L =
+    let forests = forestsAfter m (steps stop m k) in
+    let S = steps-keep stop m A (ServedOf m) (served stop m A) k in
+    record {
+      size =
+          ap length (L .words) ∙ encode-length forests
+          ∙ ap (λ l. storeSize (length l)) (S .waits)
+          ∙ ap storeSize (steps-between stop m A k .invariant .waitsN);
+      small = A .few;
     }

@@ -1,4 +1,4 @@
--- The search by code: the place that a call takes, and the search's end.
+-- The search by code: whether a place comes next, the place that a call takes, and the search's end.
 use Prim.Native.Nat.{ℕ, _≤_, _<_}
 use mathlib.Core.Path.{_≡_, refl, ap, _∙_}
 use mathlib.Core.Logic.{_≢_}
@@ -12,6 +12,7 @@ use Rattle.rules.proofs.Sums.{sumBy-set}
 use Rattle.heap.specs.declared.Reply.{Reply}
 use Rattle.heap.specs.Performed.{Ready, Performed}
 use Rattle.paths.specs.Map.{SpanLists, Map, mapOf}
+use Rattle.paths.specs.Queue.{Stop, halts, takes, next}
 use Rattle.paths.specs.Search.{Search, steps, never, bestAt}
 use Rattle.paths.specs.Feed.{ResultLists, resultLists}
 use Rattle.paths.specs.Theorems.{between}
@@ -24,51 +25,68 @@ use Rattle.finder.specs.SearchState.{Taken, Stands, Goes, Found}
 use Rattle.relax.proofs.Logged.{call-logged, logged-forests}
 use Rattle.finder.proofs.Ready.{logged-ready}
 
+-- ---- what comes next
+
+module _ {stop : Stop} {m : Map} {l : ResultLists} {go : Progress} (S : Stands stop m l go) where
+  -- a place was met and not visited: one waits
+  pub some-waits : go .visited < go .met → (u : ℕ) × (next never ((steps stop m (go .visited)) .queue) ≡ takes u)
+  some-waits h = some-next ((steps stop m (go .visited)) .queue) (λ z. omega (arith, z, S .tracks .met-is))
+
+  -- as many were visited as met: none waits
+  pub none-left : go .met ≤ go .visited → next never ((steps stop m (go .visited)) .queue) ≡ halts
+  none-left h = none-next ((steps stop m (go .visited)) .queue) (omega (arith, S .tracks .met-is))
+
+  -- nothing is left to take: the search is done
+  pub stands-found : next stop ((steps stop m (go .visited)) .queue) ≡ halts → Found stop m l go
+  stands-found n =
+      record { out = go .visited; tracks = rw (search-is stop m (go .visited) (S .few) n) (S .tracks) }
+
 -- ---- a place is taken
 
 -- the map that has these lists
-pub goes-on : {places start : ℕ} {lists : SpanLists} {index : List ℕ} {l : ResultLists} {go : Progress}
-    → IsIndex places (lists .from) index → Stands (mapOf places start lists) l go → go .visited < go .met
-    → Goes (mapOf places start lists) index (lists .to) (lists .loss) l go
-goes-on I S h =
+pub goes-on : {stop : Stop} {places start : ℕ} {lists : SpanLists} {index : List ℕ} {l : ResultLists} {go : Progress}
+    → IsIndex places (lists .from) index → Stands stop (mapOf places start lists) l go
+    → ((u : ℕ) × (next stop ((steps stop (mapOf places start lists) (go .visited)) .queue) ≡ takes u))
+    → Goes stop (mapOf places start lists) index (lists .to) (lists .loss) l go
+goes-on I S n =
     record {
       lists = record { indexed = I; to-is = refl; loss-is = refl; free = λ _. refl };
       stands = S;
-      more = h;
+      more = n;
     }
 
 module _
-    {m : Map} {index to loss : List ℕ} {l : ResultLists} {go : Progress}
-    (G : Goes m index to loss l go) where
+    {stop : Stop} {m : Map} {index to loss : List ℕ} {l : ResultLists} {go : Progress}
+    (G : Goes stop m index to loss l go) where
   abbrev s : Search
-  s = steps never m (go .visited)
+  s = steps stop m (go .visited)
 
   pub extract-ready : Ready (l .store) (go .tally)
   extract-ready =
-      logged-ready m (G .stands .accepted) s (between (go .visited)) (l .store) (go .tally) (G .stands .tracks .logged)
+      logged-ready stop m (G .stands .accepted) s (between (go .visited)) (l .store) (go .tally) (G .stands .tracks .logged)
 
   -- the call takes the place that comes next in the search, with its loss
   pub taken : {reply : Reply} {store′ : List ℕ} → Performed (l .store) (ExtractMin 0) (go .tally) reply store′
-      → Taken m index to loss (reply .item) (reply .key) (resultLists (l .best) (l .last) store′)
+      → Taken stop m index to loss (reply .item) (reply .key) (resultLists (l .best) (l .last) store′)
       (record { visited = go .visited; met = go .met; examined = go .examined; tally = reply .tally })
   taken {reply} {store′} P =
       let A = G .stands .accepted in
       let H = G .stands .tracks in
-      let S = steps-keep never m A (ServedOf m) (served never m A) (go .visited) in
-      let N = some-next (s .queue) (λ z. omega (arith, z, H .met-is, G .more)) in
-      let u : ℕ = N .0 in
-      let M = takesMinimum never m A (go .visited) u (N .1) in
+      let S = steps-keep stop m A (ServedOf m) (served stop m A) (go .visited) in
+      let u : ℕ = G .more .0 in
+      let n = G .more .1 in
+      let M = takesMinimum stop m A (go .visited) u n in
       let e = logged-forests (m .places) (s .calls) (l .store) (go .tally) (H .logged) (S .formed) in
       let item : reply .item ≡ u =
       P .item ∙ ap (λ f. (answer f (Yields (ExtractMin 0))) .reply .item) e ∙ M .0 in
       let key : reply .key ≡ bestAt s u =
       P .key ∙ ap (λ f. (answer f (Yields (ExtractMin 0))) .reply .key) e ∙ M .1 in
-      let w : getD (s .queue .waits) u 0 ≢ 0 = next-takes never (s .queue) u (N .1) .inside in
-      let B = steps-between never m A (go .visited) in
+      let w : getD (s .queue .waits) u 0 ≢ 0 = next-takes stop (s .queue) u n .inside in
+      let B = steps-between stop m A (go .visited) in
       record {
         lists = G .lists;
         accepted = A;
-        next-is = rw item (N .1);
+        next-is = rw item n;
         loss-is = rw item key;
         tracks =
             rw item
@@ -94,15 +112,6 @@ module _
   pub goes-below : go .visited < m .places
   goes-below =
       let A = G .stands .accepted in
-      let N = some-next (s .queue) (λ z. omega (arith, z, G .stands .tracks .met-is, G .more)) in
-      let B = steps-between never m A (go .visited) in
-      omega (arith, B .goes (N .0) (N .1), extracted-rest never m A (go .visited) s B (N .0) (N .1))
-
--- ---- the end
-
--- as many were visited as met: none waits, and the search is done
-pub stands-found : (m : Map) (l : ResultLists) (go : Progress) → Stands m l go
-    → go .met ≤ go .visited → Found m l go
-stands-found m l go S h =
-    let n = none-next ((steps never m (go .visited)) .queue) (omega (arith, S .tracks .met-is)) in
-    record { out = go .visited; tracks = rw (search-is never m (go .visited) (S .few) n) (S .tracks) }
+      let N = G .more in
+      let B = steps-between stop m A (go .visited) in
+      omega (arith, B .goes (N .0) (N .1), extracted-rest stop m A (go .visited) s B (N .0) (N .1))

@@ -8,7 +8,8 @@ use lib.ListN.{length, getD}
 use borrow.Author.Tests.{eq-eqb}
 use Rattle.rules.specs.Forests.{none}
 use Rattle.paths.specs.Map.{Map, spans, fromOf, toOf}
-use Rattle.paths.specs.Search.{Search, offer, try, tried, examine, steps, never, bestAt}
+use Rattle.paths.specs.Queue.{Stop}
+use Rattle.paths.specs.Search.{Search, offer, try, tried, examine, steps, bestAt}
 use Rattle.paths.specs.Feed.{ResultLists}
 use Rattle.paths.specs.Theorems.{trying}
 use Rattle.paths.proofs.Invariant.{unsettled}
@@ -23,17 +24,17 @@ use Rattle.finder.proofs.AtPlace.{at, left, left-is, tryingAt, servedAt
 use Rattle.finder.proofs.Walking.{Walking}
 
 module _
-    {m : Map} {index to loss : List ℕ} {u d : ℕ} {l₀ : ResultLists} {taken : Progress}
-    (K : Taken m index to loss u d l₀ taken) where
+    {stop : Stop} {m : Map} {index to loss : List ℕ} {u d : ℕ} {l₀ : ResultLists} {taken : Progress}
+    (K : Taken stop m index to loss u d l₀ taken) where
   abbrev k : ℕ
   k = taken .visited
 
   abbrev before : Search
-  before = steps never m k
+  before = steps stop m k
 
   -- span e is one of u's
   module _
-      {end e : ℕ} {l : ResultLists} {go : Progress} (W : Walking m k u end e l go)
+      {end e : ℕ} {l : ResultLists} {go : Progress} (W : Walking stop m k u end e l go)
       (j : e < end) where
     span-in : e < spans m
     span-in = omega (arith, W .within)
@@ -41,7 +42,7 @@ module _
     leaves-u : fromOf m e ≡ u
     leaves-u = W .own e (omega arith) j
 
-    tryingE : TryingOf m u (bestAt before u) e (left K) (at m k u e)
+    tryingE : TryingOf m u (bestAt before u) e (left K) (at stop m k u e)
     tryingE = tryingAt K e (omega (arith, span-in))
 
     pub examined-small : go .examined < 4294967295
@@ -49,7 +50,7 @@ module _
         omega (
           arith,
           W .tracks .examined-is,
-          examinedAtMost never m (K .accepted) (at m k u e) (trying k u e (K .next-is) (omega (arith, span-in))),
+          examinedAtMost stop m (K .accepted) (at stop m k u e) (trying k u e (K .next-is) (omega (arith, span-in))),
           K .accepted .short,
         )
 
@@ -68,18 +69,18 @@ module _
         (omega (
           arith,
           K .loss-is,
-          sum-fits m (K .accepted) u (bestAt before u) e (left K) (at m k u e) tryingE
+          sum-fits m (K .accepted) u (bestAt before u) e (left K) (at stop m k u e) tryingE
               (span-in, K .lists .free e) leaves-u,
         ))
 
-    offerable : Offerable (m .places) (toOf m e) (examine (at m k u e))
+    offerable : Offerable (m .places) (toOf m e) (examine (at stop m k u e))
     offerable =
         record {
           formed = servedAt K e (omega (arith, span-in)) .formed;
           inside = omega (arith, tryingE .invariant .waitsN, K .accepted .toIn e span-in);
           apart =
               λ z.
-              out-of-queue m (K .accepted) u (bestAt before u) e (left K) (at m k u e) tryingE
+              out-of-queue m (K .accepted) u (bestAt before u) e (left K) (at stop m k u e) tryingE
               (span-in, K .lists .free e) leaves-u z;
         }
 
@@ -93,12 +94,12 @@ module _
           inLast =
               omega (arith, ap length (W .tracks .last-is), tryingE .invariant .lastN, K .accepted .toIn e span-in);
           ready =
-              logged-ready m (K .accepted) (at m k u e) (trying k u e (K .next-is) (omega (arith, span-in))) (l .store)
+              logged-ready stop m (K .accepted) (at stop m k u e) (trying k u e (K .next-is) (omega (arith, span-in))) (l .store)
               (go .tally) (W .tracks .logged);
           room = omega (arith, W .tracks .met-is, tryingE .left, left-is K, K .accepted .few);
         })
 
-    examined-tracks : Tracks (m .places) (suc k) (examine (at m k u e)) l (examineOne go)
+    examined-tracks : Tracks (m .places) (suc k) (examine (at stop m k u e)) l (examineOne go)
     unfolding examineOne
     examined-tracks =
         record {
@@ -111,7 +112,7 @@ module _
 
     pub walking-on : {l′ : ResultLists} {r : Progress}
         → Advances (getD to e 0) (offer (getD to e 0) (d + getD loss e 0) e) l (examineOne go) l′ r
-        → Walking m k u end (e + 1) l′ r
+        → Walking stop m k u end (e + 1) l′ r
     unfolding examineOne tried try
     walking-on M₀ =
         let M = rw (K .lists .to-is, K .lists .loss-is, K .loss-is) at M₀ in
@@ -123,5 +124,5 @@ module _
           beyond = W .beyond;
           tracks =
               rw (add-one, eq-eqb (fromOf m e) u leaves-u, K .lists .free e)
-              (M .tracks (m .places) (suc k) (examine (at m k u e)) offerable examined-tracks);
+              (M .tracks (m .places) (suc k) (examine (at stop m k u e)) offerable examined-tracks);
         }

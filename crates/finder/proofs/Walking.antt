@@ -9,7 +9,8 @@ use lib.ListN.{getD}
 use lib.Dec.{ltb}
 use borrow.Author.Tests.{ltb-true, ltb-false}
 use Rattle.paths.specs.Map.{Map, spans, fromOf}
-use Rattle.paths.specs.Search.{Search, extracted, visit, step, steps, never, bestAt}
+use Rattle.paths.specs.Queue.{Stop}
+use Rattle.paths.specs.Search.{Search, extracted, visit, step, steps, bestAt}
 use Rattle.paths.specs.Feed.{ResultLists}
 use Rattle.spans.specs.Range.{FirstSpan}
 use Rattle.relax.specs.declared.Progress.{Progress}
@@ -19,22 +20,22 @@ use Rattle.finder.proofs.OwnSpans.{walk-begins, walk-ends}
 use Rattle.finder.proofs.AtPlace.{at, left-is, place-in}
 
 -- Before span e of place u, which was taken after k steps: the spans from e to `end` are its spans still to be tried.
-pub record Walking (m : Map) (k u end e : ℕ) (l : ResultLists) (go : Progress) : Type 0 where
+pub record Walking (stop : Stop) (m : Map) (k u end e : ℕ) (l : ResultLists) (go : Progress) : Type 0 where
   pub visited-is : go .visited ≡ k
   pub ordered : e ≤ end
   pub within : end ≤ spans m
   pub own : (i : ℕ) → e ≤ i → i < end → fromOf m i ≡ u
   pub beyond : end < spans m → u < fromOf m end
-  pub tracks : Tracks (m .places) (suc k) (at m k u e) l go
+  pub tracks : Tracks (m .places) (suc k) (at stop m k u e) l go
 
 module _
-    {m : Map} {index to loss : List ℕ} {u d : ℕ} {l₀ : ResultLists} {taken : Progress}
-    (K : Taken m index to loss u d l₀ taken) where
+    {stop : Stop} {m : Map} {index to loss : List ℕ} {u d : ℕ} {l₀ : ResultLists} {taken : Progress}
+    (K : Taken stop m index to loss u d l₀ taken) where
   abbrev k : ℕ
   k = taken .visited
 
   abbrev before : Search
-  before = steps never m k
+  before = steps stop m k
 
   -- the first span of u, and that of the next place
   firstOf : FirstSpan (m .lists .from) u (getD index u 0)
@@ -50,7 +51,7 @@ module _
   pub end-small : getD index (u + 1) 0 ≤ 16384
   end-small = omega (arith, endOf .within, K .accepted .short)
 
-  pub walking-begins : Walking m k u (getD index (u + 1) 0) (getD index u 0) l₀ taken
+  pub walking-begins : Walking stop m k u (getD index (u + 1) 0) (getD index u 0) l₀ taken
   walking-begins =
       record {
         visited-is = refl;
@@ -82,20 +83,20 @@ module _
                 endOf .above end (le-refl _) (omega (arith, h, firstOf .within)),
               ))
 
-  module _ {end e : ℕ} {l : ResultLists} {go : Progress} (W : Walking m k u end e l go) where
+  module _ {end e : ℕ} {l : ResultLists} {go : Progress} (W : Walking stop m k u end e l go) where
     pub visited-small : go .visited < 4294967295
     visited-small = omega (arith, W .visited-is, left-is K, K .accepted .few)
 
     -- the spans after e leave other places
-    steps-next : end ≤ e → steps never m (suc k) ≡ at m k u e
+    steps-next : end ≤ e → steps stop m (suc k) ≡ at stop m k u e
     unfolding steps step visit
     steps-next j =
         let q : end ≡ e = omega (arith, W .ordered) in
         rw (K .next-is)
         (walk-ends m (K .accepted) u (bestAt before u) (extracted u before) end (W .within) (W .beyond)
-        ∙ ap (λ i. at m k u i) q)
+        ∙ ap (λ i. at stop m k u i) q)
 
-    visited-tracks : Tracks (m .places) (suc k) (at m k u e) l (visitOne go)
+    visited-tracks : Tracks (m .places) (suc k) (at stop m k u e) l (visitOne go)
     unfolding visitOne
     visited-tracks =
         record {
@@ -106,10 +107,10 @@ module _
           met-is = W .tracks .met-is;
         }
 
-    turned : end ≤ e → (i : ℕ) → i ≡ suc k → Tracks (m .places) i (steps never m i) l (visitOne go)
+    turned : end ≤ e → (i : ℕ) → i ≡ suc k → Tracks (m .places) i (steps stop m i) l (visitOne go)
     turned j i q = rw (q, steps-next j) visited-tracks
 
-    pub walking-ends : end ≤ e → Visits m taken l (visitOne go)
+    pub walking-ends : end ≤ e → Visits stop m taken l (visitOne go)
     unfolding visitOne
     walking-ends j =
         record {

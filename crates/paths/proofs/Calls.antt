@@ -9,7 +9,7 @@ use native.Mathlib.Omega.{arith}
 use lib.ListN.{length, getD, set}
 use borrow.Author.Tests.{ne-eqb, le-ltb, lt-leb}
 use Rattle.rules.specs.declared.Call.{Call}
-use Rattle.rules.specs.declared.Call.the-variants.{Insert, ExtractMin, DecreaseKey}
+use Rattle.rules.specs.declared.Call.the-variants.{Insert, FindMin, ExtractMin, DecreaseKey}
 use Rattle.rules.specs.declared.Line.the-variants.{Yields}
 use Rattle.rules.specs.Forests.{Forests, rowOf, keyOf, heapOf}
 use Rattle.rules.specs.Order.{precedes, leastIn, minimum}
@@ -82,37 +82,40 @@ module _ (s : Forests) (hs ks : List ℕ) (eh : s .heap ≡ hs) (ek : s .key ≡
             le-ltb (keyOf s i) k (omega (arith, key-at i)),
           )
 
-  -- u is in heap 0, and no item of heap 0 comes before it: it is taken
-  pub extract-does : WellFormed s → (u : ℕ) → getD hs u 0 ≡ 1 → ((q : ℕ) → getD hs q 0 ≡ 1 → NotAfter ks u q)
-      → Does (answer s (Yields (ExtractMin 0))) u (getD ks u 0) (set hs u 0) (set ks u 0)
-  unfolding refusal perform extract minimum leastIn isEmpty
-  extract-does W u hu first =
-      rw (performs s (ExtractMin 0) ok, is)
-      (record {
-        code = refl;
-        which = refl;
-        told = key-at u;
-        heap-is = extract-heap 0 u s ∙ ap (λ l. set l u 0) eh;
-        key-is = extract-key 0 u s ∙ ap (λ l. set l u 0) ek;
-      })
-    where
-      mine : heapOf s u ≡ 1
-      mine = heap-at u ∙ hu
+  -- u is in heap 0, and no item of heap 0 comes before it
+  module _
+      (W : WellFormed s) (u : ℕ) (hu : getD hs u 0 ≡ 1) (first : (q : ℕ) → getD hs q 0 ≡ 1 → NotAfter ks u q) where
+    mine : heapOf s u ≡ 1
+    mine = heap-at u ∙ hu
 
-      comes-first : (x : ℕ) → heapOf s x ≡ 1 → x ≢ u → precedes (s .key) u x ≡ true
-      comes-first x e n =
-          let f = first x (sym (heap-at x) ∙ e) in
-          rw ek (precedes-is ks u x (f .0) (λ q. let g = f .1 q in omega arith))
+    comes-first : (x : ℕ) → heapOf s x ≡ 1 → x ≢ u → precedes (s .key) u x ≡ true
+    comes-first x e n =
+        let f = first x (sym (heap-at x) ∙ e) in
+        rw ek (precedes-is ks u x (f .0) (λ q. let g = f .1 q in omega arith))
 
-      is : minimum s 0 ≡ u
-      is = minimumUnique s W 0 u (record { inside = mine; first = comes-first })
+    pub minimum-is : minimum s 0 ≡ u
+    minimum-is = minimumUnique s W 0 u (record { inside = mine; first = comes-first })
 
-      inside : u < 4097
-      inside = let k = heap-in s u (λ z. omega (arith, mine)) in omega (arith, W .disjoint .small)
+    -- so the heap is not empty: its minimum may be shown, or taken
+    pub find-allowed : refusal s (FindMin 0) ≡ 0
+    unfolding refusal minimum leastIn isEmpty
+    find-allowed = rw (some (rowOf s 0) minimum-is)
+      where
+        inside : u < 4097
+        inside = let k = heap-in s u (λ z. omega (arith, mine)) in omega (arith, W .disjoint .small)
 
-      some : (l : List ℕ) → leastIn (s .key) l ≡ u → isEmpty l ≡ false
-      some [] e = absurd (omega (arith, inside))
-      some (x ∷ xs) e = refl
+        some : (l : List ℕ) → leastIn (s .key) l ≡ u → isEmpty l ≡ false
+        some [] e = absurd (omega (arith, inside))
+        some (x ∷ xs) e = refl
 
-      ok : refusal s (ExtractMin 0) ≡ 0
-      ok = rw (some (rowOf s 0) is)
+    pub extract-does : Does (answer s (Yields (ExtractMin 0))) u (getD ks u 0) (set hs u 0) (set ks u 0)
+    unfolding refusal perform extract
+    extract-does =
+        rw (performs s (ExtractMin 0) find-allowed, minimum-is)
+        (record {
+          code = refl;
+          which = refl;
+          told = key-at u;
+          heap-is = extract-heap 0 u s ∙ ap (λ l. set l u 0) eh;
+          key-is = extract-key 0 u s ∙ ap (λ l. set l u 0) ek;
+        })

@@ -1,6 +1,7 @@
 -- The proofs about the search, bottom to top.
 pub mod ByHand
 pub mod Waiting
+pub mod Stopping
 pub mod Invariant
 pub mod Improve
 pub mod Pass
@@ -10,6 +11,7 @@ pub mod Offers
 pub mod Tried
 pub mod Begin
 pub mod Steps
+pub mod Takings
 pub mod Hiding
 pub mod Chains
 pub mod Settling
@@ -21,6 +23,7 @@ pub mod Calls
 pub mod AllFree
 pub mod Log
 pub mod Served
+pub mod NextMinimum
 pub mod Examined
 pub mod TakenFirst
 pub mod Listing

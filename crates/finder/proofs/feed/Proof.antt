@@ -1,8 +1,9 @@
 -- `finder::feed` meets its contract.
 use Rattle.paths.specs.Map.{spanLists, mapOf}
+use Rattle.paths.specs.Search.{never}
 use Rattle.paths.specs.Feed.{resultLists}
 use Rattle.finder.proofs.Beginning.{begun-stands}
-use Rattle.finder.proofs.Feeding.{accepted-map, feeds-refused, begins, feeds-done}
+use Rattle.finder.proofs.Feeding.{code-fits, begins, feeds-refused, feeds-done}
 use borrow.Author.Needs.{needs}
 use Rattle.finder.proofs.feed.Statement.{statement}
 use Rattle.finder.proofs.feed.Tie as tie
@@ -17,14 +18,15 @@ returns c =
 begin-search-requires : tie.Need-begin-search-requires
 begin-search-requires c κs =
     let i = c .before .before .before in
-    begins (mapOf _ _ (spanLists _ _ _)) (resultLists _ _ _) _ (i .before .feed-code .ensures) (i .if1 .left)
+    begins (mapOf _ _ (spanLists _ _ _)) (resultLists _ _ _) _ _ (i .before .feed-code .ensures) (i .if1 .left)
 
 search-requires : tie.Need-search-requires
 search-requires c κs =
     let b = c .before .before .before .before .before .before .before .before .before in
     let i = b .before .before .before .before in
-    let A = accepted-map (mapOf _ _ (spanLists _ _ _)) _ _ _ _ (i .before .feed-code .ensures) (i .if1 .left) in
-    (_, begun-stands A {l = resultLists _ _ _} (b .begin-search .ensures))
+    let F =
+    code-fits (mapOf _ _ (spanLists _ _ _)) _ _ _ _ _ (i .before .feed-code .ensures) (i .if1 .left) in
+    (_, begun-stands never (F .accepted) {l = resultLists _ _ _} (b .begin-search .ensures))
 
 same-length : tie.Need-same-length
 same-length c = search needs
@@ -41,9 +43,9 @@ returns-2 c =
     let b = s .before .before .before .before .before .before .before .before .before .before in
     let i = b .before .before .before .before in
     let is = i .before .feed-code .ensures in
-    let A = accepted-map (mapOf _ _ (spanLists _ _ _)) _ _ _ _ is (i .if1 .left) in
+    let F = code-fits (mapOf _ _ (spanLists _ _ _)) _ _ _ _ _ is (i .if1 .left) in
     feeds-done (mapOf _ _ (spanLists _ _ _)) (resultLists _ _ _) _ is (i .if1 .left) (resultLists _ _ _) _
-    (s .search .ensures _ (begun-stands A {l = resultLists _ _ _} (b .begin-search .ensures)))
+    (s .search .ensures _ (begun-stands never (F .accepted) {l = resultLists _ _ _} (b .begin-search .ensures)))
 
 pub feed-spec : {M : Type 1} → statement M
 feed-spec =

@@ -5,17 +5,18 @@ use native.Mathlib.Omega.{arith}
 use borrow.Author.Needs.{needs}
 use lib.ListN.{length}
 use Rattle.paths.specs.Map.{spanLists, mapOf}
+use Rattle.paths.specs.Search.{never}
 use Rattle.paths.specs.Feed.{resultLists}
 use Rattle.finder.specs.SearchState.{Stands}
 use Rattle.finder.proofs.OwnSpans.{sorted}
-use Rattle.finder.proofs.Searching.{goes-on, goes-below, stands-found}
+use Rattle.finder.proofs.Searching.{some-waits, none-left, stands-found, goes-on, goes-below}
 use Rattle.finder.proofs.search.Statement.{statement}
 use Rattle.finder.proofs.search.Tie as tie
 
 abbrev Inv-loop : tie.InvT-loop
 Inv-loop places from to loss best₀ last₀ store₀ index go₀ best last store go =
-    ((start : ℕ) → Stands (mapOf places start (spanLists from to loss)) (resultLists best₀ last₀ store₀) go₀
-    → Stands (mapOf places start (spanLists from to loss)) (resultLists best last store) go)
+    ((start : ℕ) → Stands never (mapOf places start (spanLists from to loss)) (resultLists best₀ last₀ store₀) go₀
+    → Stands never (mapOf places start (spanLists from to loss)) (resultLists best last store) go)
     × (length best ≡ length best₀) × (length last ≡ length last₀) × (length store ≡ length store₀)
 
 abbrev μ-loop : tie.MeasureT-loop
@@ -36,24 +37,27 @@ visit-next-requires : tie.Need-visit-next-requires Inv-loop μ-loop
 visit-next-requires c κs =
     let t = c .before .before .before .before in
     let l = t .before .before in
-    (_, goes-on (l .before .index-spans .ensures) (l .loop .inv .0 _ (start l .pre .1)) (t .if1 .taken))
+    let S = l .loop .inv .0 _ (start l .pre .1) in
+    (_, _, goes-on (l .before .index-spans .ensures) S (some-waits S (t .if1 .taken)))
 
 loop-less : tie.Need-loop-less Inv-loop μ-loop
 loop-less c =
     let v = c .before .before .before .before .before .before in
     let t = v .before .before .before .before .before in
     let l = t .before .before in
-    let G = goes-on (l .before .index-spans .ensures) (l .loop .inv .0 _ (start l .pre .1)) (t .if1 .taken) in
-    omega (arith, v .visit-next .ensures _ G .one-more, goes-below G)
+    let S = l .loop .inv .0 _ (start l .pre .1) in
+    let G = goes-on (l .before .index-spans .ensures) S (some-waits S (t .if1 .taken)) in
+    omega (arith, v .visit-next .ensures _ _ G .one-more, goes-below G)
 
 loop-again : tie.Need-loop-again Inv-loop μ-loop
 loop-again c =
     let v = c .before .before .before .before .before .before in
     let t = v .before .before .before .before .before in
     let l = t .before .before in (
-      λ s S.
-          v .visit-next .ensures _
-          (goes-on (l .before .index-spans .ensures) (l .loop .inv .0 s S) (t .if1 .taken)) .stands,
+      λ s R.
+          let S = l .loop .inv .0 s R in
+          v .visit-next .ensures _ _
+          (goes-on (l .before .index-spans .ensures) S (some-waits S (t .if1 .taken))) .stands,
       search needs,
       search needs,
       search needs,
@@ -69,8 +73,7 @@ same-length-3 : tie.Need-same-length-3 Inv-loop μ-loop
 same-length-3 c = c .before .before .loop .inv .3
 
 returns : tie.Need-returns Inv-loop μ-loop
-returns c = λ start S.
-    stands-found _ (resultLists _ _ _) _ (c .before .before .loop .inv .0 start S) (c .if1 .left)
+returns c = λ start R. let S = c .before .before .loop .inv .0 start R in stands-found S (none-left S (c .if1 .left))
 
 pub search-spec : {M : Type 1} → statement M
 search-spec =

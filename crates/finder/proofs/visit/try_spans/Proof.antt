@@ -4,6 +4,7 @@ use mathlib.Core.Path.{_≡_, refl, _∙_}
 use native.Mathlib.Omega.{arith}
 use lib.ListN.{length, getD}
 use Rattle.paths.specs.Map.{Map}
+use Rattle.paths.specs.Queue.{Stop}
 use Rattle.paths.specs.Feed.{resultLists}
 use Rattle.finder.specs.SearchState.{Taken}
 use Rattle.finder.proofs.AtPlace.{place-small}
@@ -29,8 +30,8 @@ use Rattle.finder.proofs.visit.try_spans.Tie as tie
 
 abbrev Inv-loop : tie.InvT-loop
 Inv-loop index to loss best₀ last₀ store₀ u d i end e₀ go₀ best last store e go =
-    ((m : Map) → Taken m index to loss u d (resultLists best₀ last₀ store₀) go₀
-    → Walking m (go₀ .visited) u end e (resultLists best last store) go)
+    ((stop : Stop) (m : Map) → Taken stop m index to loss u d (resultLists best₀ last₀ store₀) go₀
+    → Walking stop m (go₀ .visited) u end e (resultLists best last store) go)
     × (length best ≡ length best₀) × (length last ≡ length last₀) × (length store ≡ length store₀)
 
 abbrev μ-loop : tie.MeasureT-loop
@@ -42,40 +43,40 @@ start c = c .before .before .before .before .before .before .before .before
 -- the walk at the loop's head, on the map that the caller has
 here : (c : tie.At-loop Inv-loop μ-loop) →
     let a = start c .args in
-    Walking (start c .pre .0) (a .taken .visited) (a .u) (getD (a .index .now) (a .u + 1) 0) (c .loop .e)
+    Walking (start c .pre .0) (start c .pre .1) (a .taken .visited) (a .u) (getD (a .index .now) (a .u + 1) 0) (c .loop .e)
     (resultLists (c .loop .best) (c .loop .last) (c .loop .store)) (c .loop .go)
-here c = c .loop .inv .0 _ (start c .pre .1)
+here c = c .loop .inv .0 _ _ (start c .pre .2)
 
 add-end : tie.Need-add-end Inv-loop μ-loop
-add-end c = omega (arith, place-small (c .before .before .before .before .before .pre .1))
+add-end c = omega (arith, place-small (c .before .before .before .before .before .pre .2))
 
 mul-end : tie.Need-mul-end Inv-loop μ-loop
-mul-end c = omega (arith, place-small (c .before .before .before .before .before .pre .1))
+mul-end c = omega (arith, place-small (c .before .before .before .before .before .pre .2))
 
 element-copy-out-end : tie.Need-element-copy-out-end Inv-loop μ-loop
-element-copy-out-end c = omega (arith, place-small (c .before .before .before .before .before .pre .1))
+element-copy-out-end c = omega (arith, place-small (c .before .before .before .before .before .pre .2))
 
 cast-end : tie.Need-cast-end Inv-loop μ-loop
-cast-end c = omega (arith, end-small (c .before .before .before .before .before .before .pre .1))
+cast-end c = omega (arith, end-small (c .before .before .before .before .before .before .pre .2))
 
 mul-e : tie.Need-mul-e Inv-loop μ-loop
-mul-e c = omega (arith, place-small (c .before .before .before .before .before .before .pre .1))
+mul-e c = omega (arith, place-small (c .before .before .before .before .before .before .pre .2))
 
 element-copy-out-e : tie.Need-element-copy-out-e Inv-loop μ-loop
-element-copy-out-e c = omega (arith, place-small (c .before .before .before .before .before .before .pre .1))
+element-copy-out-e c = omega (arith, place-small (c .before .before .before .before .before .before .pre .2))
 
 cast-e : tie.Need-cast-e Inv-loop μ-loop
-cast-e c = omega (arith, first-small (c .before .before .before .before .before .before .before .pre .1))
+cast-e c = omega (arith, first-small (c .before .before .before .before .before .before .before .pre .2))
 
 loop-holds : tie.Need-loop-holds Inv-loop μ-loop
-loop-holds c = (λ m K. walking-begins K, refl, refl, refl)
+loop-holds c = (λ _ _ K. walking-begins K, refl, refl, refl)
 
 -- the number of a span is small
 small : (c : tie.In-loop Inv-loop μ-loop) → c .before .loop .e < 16384
-small c = span-small (start (c .before) .pre .1) (here (c .before)) (c .loop-test .taken)
+small c = span-small (start (c .before) .pre .2) (here (c .before)) (c .loop-test .taken)
 
 examine-requires : tie.Need-examine-requires Inv-loop μ-loop
-examine-requires c κs = examined-small (start (c .before) .pre .1) (here (c .before)) (c .loop-test .taken)
+examine-requires c κs = examined-small (start (c .before) .pre .2) (here (c .before)) (c .loop-test .taken)
 
 mul-l : tie.Need-mul-l Inv-loop μ-loop
 mul-l c = omega (arith, small (c .before))
@@ -83,12 +84,12 @@ mul-l c = omega (arith, small (c .before))
 shared-slice-read-l : tie.Need-shared-slice-read-l Inv-loop μ-loop
 shared-slice-read-l c =
     let t = c .before .before in
-    in-loss (start (t .before) .pre .1) (here (t .before)) (t .loop-test .taken)
+    in-loss (start (t .before) .pre .2) (here (t .before)) (t .loop-test .taken)
 
 add-l : tie.Need-add-l Inv-loop μ-loop
 add-l c =
     let t = c .before .before in
-    omega (arith, loss-fits (start (t .before) .pre .1) (here (t .before)) (t .loop-test .taken))
+    omega (arith, loss-fits (start (t .before) .pre .2) (here (t .before)) (t .loop-test .taken))
 
 mul-offered : tie.Need-mul-offered Inv-loop μ-loop
 mul-offered c = omega (arith, small (c .before .before .before .before .before))
@@ -96,7 +97,7 @@ mul-offered c = omega (arith, small (c .before .before .before .before .before))
 shared-slice-read-offered : tie.Need-shared-slice-read-offered Inv-loop μ-loop
 shared-slice-read-offered c =
     let t = c .before .before .before .before .before .before in
-    in-to (start (t .before) .pre .1) (here (t .before)) (t .loop-test .taken)
+    in-to (start (t .before) .pre .2) (here (t .before)) (t .loop-test .taken)
 
 cast-offered : tie.Need-cast-offered Inv-loop μ-loop
 cast-offered c = omega (arith, small (c .before .before .before .before .before .before))
@@ -106,7 +107,7 @@ offered-requires c κs =
     let x = c .before .before .before .before .before in
     let t = x .before in
     rw (x .examine .ensures)
-    (offer-ready (start (t .before) .pre .1) (here (t .before)) (t .loop-test .taken))
+    (offer-ready (start (t .before) .pre .2) (here (t .before)) (t .loop-test .taken))
 
 add-e : tie.Need-add-e Inv-loop μ-loop
 add-e c =
@@ -124,15 +125,15 @@ loop-again c =
     let x = o .before .before .before .before .before .before in
     let t = x .before in
     let i = t .before .loop .inv in (
-      λ m K.
-          walking-on K (i .0 m K) (t .loop-test .taken) (rw (x .examine .ensures) at (o .offered .ensures)),
+      λ stop m K.
+          walking-on K (i .0 stop m K) (t .loop-test .taken) (rw (x .examine .ensures) at (o .offered .ensures)),
       c .before .before .before .before .before .best .given ∙ i .1,
       c .before .before .before .last .given ∙ i .2,
       c .before .store .given ∙ i .3,
     )
 
 visit-requires : tie.Need-visit-requires Inv-loop μ-loop
-visit-requires c κs = visited-small (start (c .before) .pre .1) (here (c .before))
+visit-requires c κs = visited-small (start (c .before) .pre .2) (here (c .before))
 
 same-length : tie.Need-same-length Inv-loop μ-loop
 same-length c = c .before .before .loop .inv .1
@@ -144,8 +145,8 @@ same-length-3 : tie.Need-same-length-3 Inv-loop μ-loop
 same-length-3 c = c .before .before .loop .inv .3
 
 returns : tie.Need-returns Inv-loop μ-loop
-returns c = λ m K.
-    rw (c .visit .ensures) (walking-ends K (c .before .before .loop .inv .0 m K) (c .before .loop-test .left))
+returns c = λ stop m K.
+    rw (c .visit .ensures) (walking-ends K (c .before .before .loop .inv .0 stop m K) (c .before .loop-test .left))
 
 pub try-spans-spec : {M : Type 1} → statement M
 try-spans-spec =

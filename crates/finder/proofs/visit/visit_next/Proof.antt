@@ -5,13 +5,13 @@ use Rattle.finder.proofs.visit.visit_next.Statement.{statement}
 use Rattle.finder.proofs.visit.visit_next.Tie as tie
 
 perform-requires : tie.Need-perform-requires
-perform-requires c κs = extract-ready (c .before .before .before .before .before .before .before .pre .1)
+perform-requires c κs = extract-ready (c .before .before .before .before .before .before .before .pre .2)
 
 try-spans-requires : tie.Need-try-spans-requires
 try-spans-requires c κs =
     let p = c .before .before .before .before .before .before in
     let start = p .before .before .before .before .before .before .before .before in
-    (_, taken (start .pre .1) (p .perform .ensures))
+    (_, _, taken (start .pre .2) (p .perform .ensures))
 
 same-length : tie.Need-same-length
 same-length c = search needs
@@ -25,8 +25,8 @@ same-length-3 c = search needs
 returns : tie.Need-returns
 returns c =
     let t = c .before .before .before .before .before .before in
-    let p = t .before .before .before .before .before .before .before in λ m G.
-    let v = t .try-spans .ensures m (taken G (p .perform .ensures)) in
+    let p = t .before .before .before .before .before .before .before in λ stop m G.
+    let v = t .try-spans .ensures stop m (taken G (p .perform .ensures)) in
     record { stands = v .stands; one-more = v .one-more }
 
 pub visit-next-spec : {M : Type 1} → statement M

@@ -1,0 +1,89 @@
+-- What a feed call with a budget answers and leaves, by code: after a refusal, and when it is done.
+use Prim.Native.Nat.{ℕ, zero, suc}
+use mathlib.Core.Path.{_≡_, refl, sym, ap, _∙_}
+use mathlib.Core.Logic.{_≢_}
+use mathlib.Core.List.{List}
+use lib.ListN.{length}
+use Rattle.rules.specs.Forests.{empty}
+use Rattle.rules.specs.Words.{encode}
+use Rattle.store.specs.Says.{Sized}
+use Rattle.relax.specs.declared.Progress.{Progress}
+use Rattle.paths.specs.Map.{SpanLists, Map, mapOf, Accepted}
+use Rattle.paths.specs.Table.{upTo}
+use Rattle.paths.specs.Search.{beyond, search}
+use Rattle.paths.specs.Feed.{ResultLists, resultLists, codeFor, budgetAs, budgetResult}
+use Rattle.paths.specs.Theorems.{Fits}
+use Rattle.paths.proofs.Steps.{search-between}
+use Rattle.finder.specs.declared.budget.FedWithin.{FedWithin}
+use Rattle.finder.specs.SearchState.{Begun, ListReady, FoundListed}
+use Rattle.finder.specs.Hidden.{Hidden}
+use Rattle.finder.specs.Promise.{FedAs, FeedsWithin}
+use Rattle.finder.proofs.Ready.{logged-sized}
+use Rattle.finder.proofs.Beginning.{begun-stands}
+use Rattle.finder.proofs.Feeding.{refusedFed, doneFed, fed-refused, fed-done, code-fits}
+use Rattle.finder.proofs.Hiding.{hidden}
+use Rattle.finder.proofs.WaitsBeyond.{hidden-best, hidden-last}
+
+pub list-ready : (budget : ℕ) {places start : ℕ} {lists : SpanLists} {bestN lastN storeN : ℕ} {listed : List ℕ}
+    → Fits (mapOf places start lists) bestN lastN (length listed) storeN → {l : ResultLists} {r : Progress}
+    → Begun places start l r → ListReady budget (mapOf places start lists) l listed r
+list-ready budget F G =
+    record {
+      stands = begun-stands (beyond (upTo budget)) (F .accepted) G;
+      none-visited = G .visited-is;
+      room = F .listed;
+    }
+
+-- after the search the lists and the store have the sizes that they began with
+module _
+    {budget : ℕ} {m : Map} {lent : List ℕ} {l : ResultLists} {listed : List ℕ} {r : Progress} (A : Accepted m)
+    (F : FoundListed budget m lent l listed r) where
+  pub hide-ready : length (l .last) ≡ length (l .best)
+  hide-ready =
+      let T = F .found .tracks in
+      let I = search-between (beyond (upTo budget)) m A .invariant in
+      ap length (T .last-is) ∙ I .lastN ∙ sym (ap length (T .best-is) ∙ I .bestN)
+
+  pub empty-ready : Sized (m .places) (l .store)
+  unfolding search
+  empty-ready = logged-sized (beyond (upTo budget)) m A (m .places) (F .found .tracks .logged)
+
+module _
+    (budget : ℕ) (m : Map) (lent : ResultLists) (lentList : List ℕ) (code : ℕ)
+    (is : code ≡ codeFor m lent (length lentList)) where
+  -- the result by the code
+  result-is : budgetResult budget m lent lentList ≡ budgetAs code budget m lent lentList
+  unfolding budgetResult
+  result-is = rw (sym is)
+
+  pub within-refused : code ≢ 0
+      → FeedsWithin budget m lent lentList (record { fed = refusedFed code; listed = 0 }) lent lentList
+  unfolding budgetAs
+  within-refused n =
+      let R = go code n in
+      record { fed-as = rw result-is (R .0); number-is = rw result-is (R .1); listed-is = rw result-is (R .2) }
+    where
+      go : (c : ℕ) → c ≢ 0 →
+          let b = budgetAs c budget m lent lentList in
+          FedAs m (b .feed) (refusedFed c) lent × (0 ≡ b .number) × (lentList ≡ b .listed)
+      go zero n = absurd (n refl)
+      go (suc c) n = (fed-refused (upTo budget) m lent (suc c) n, refl, refl)
+
+  pub within-done : code ≡ 0 → (l : ResultLists) (listed : List ℕ) (r : Progress)
+      → FoundListed budget m lentList l listed r → (left : ResultLists)
+      → Hidden budget (l .best) (l .last) (left .best) (left .last) → left .store ≡ encode (empty (m .places))
+      → FeedsWithin budget m lent lentList (record { fed = doneFed r; listed = r .visited }) left listed
+  unfolding budgetAs
+  within-done z l listed r F left H e =
+      let A = code-fits m _ _ (length lentList) _ code is z .accepted in
+      let T = F .found .tracks in
+      let w = result-is ∙ ap (λ c. budgetAs c budget m lent lentList) z in
+      record {
+        fed-as =
+            rw (w, e)
+            (fed-done (upTo budget) m lent A l r (F .found) (left .best) (left .last)
+            (H .best-is ∙ rw (T .best-is) (hidden-best budget m A))
+            (H .last-is ∙ rw (T .best-is, T .last-is) (hidden-last budget m A)));
+        number-is = rw w (F .number-is);
+        listed-is = rw w (F .listed-is);
+      }
