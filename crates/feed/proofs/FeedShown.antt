@@ -11,7 +11,7 @@ use Rattle.text.specs.Decimal.{field, row}
 use Rattle.text.specs.Output.{Wrote}
 use Rattle.text.proofs.Wrote.{wrote-then, wrote-length}
 use Rattle.paths.specs.Map.{Map}
-use Rattle.paths.specs.Table.{Table}
+use Rattle.paths.specs.Table.{unlimited, Table}
 use Rattle.paths.specs.Feed.{ResultLists, Feed, feedResult}
 use Rattle.paths.proofs.FeedDone.{feedDone}
 use Rattle.finder.specs.declared.Fed.{Fed}
@@ -38,7 +38,7 @@ module _ (m : Map) (lent : ResultLists) (fed : Fed) (left : ResultLists) (F : Fe
     abbrev done : w .code ≡ 0
     done = sym (F .code-is) ∙ z
 
-    abbrev table : Table m (w .left .best) (w .left .last)
+    abbrev table : Table unlimited m (w .left .best) (w .left .last)
     table = feedDone m lent done .table
 
     best-n : length (left .best) ≡ m .places
