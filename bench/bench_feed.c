@@ -101,20 +101,30 @@ static void bench_table(void)
 }
 
 #ifdef HAVE_HOST
-/* A budget of 0 lists the start alone: nearly all of its time is the work that is linear in what is lent. */
-enum { FULL, LARGEST, ONE_IN_100, LEAST, CALLS };
+/* Calls with a budget, plain C and product in turn, after the product's full call. A budget of 0 lists the start alone:
+   nearly all of its time is the work that is linear in what is lent. */
+enum { LARGEST, ONE_IN_100, LEAST, BUDGETS, FULL = 0, CALLS = 1 + 2 * BUDGETS };
 
-static const char *const call_names[CALLS] = { "feed_table", "largest budget", "one in a hundred", "budget 0" };
-static uint32_t budgets[CALLS] = { 0, 4294967295, 0, 0 };
-static uint32_t listed[PLACES], figures[4];
+static const char *const budget_names[BUDGETS] = { "largest", "one in a hundred", "0" };
+static uint32_t budgets[BUDGETS] = { 4294967295, 0, 0 };
+static uint32_t listed[PLACES], budget_figures[4];
+
+#define BUDGET_ARGUMENTS(budget)                                                                                     \
+    PLACES, 0, from, SPANS, to, SPANS, loss, SPANS, budget, result.best, PLACES, result.last, PLACES, listed, PLACES, \
+        result.words, WORDS, budget_figures
+
+static int plain_call(int budget) { return 1 + 2 * budget; }
+static int product_call(int budget) { return 2 + 2 * budget; }
 
 static void run_call(int call)
 {
+    uint32_t budget = budgets[(call - 1) / 2];
     if (call == FULL)
         run_product();
+    else if (call % 2 == 1)
+        result.code = plain_feed_budget(BUDGET_ARGUMENTS(budget));
     else
-        result.code = feed_budget(PLACES, 0, from, SPANS, to, SPANS, loss, SPANS, budgets[call], result.best, PLACES,
-                                  result.last, PLACES, listed, PLACES, result.words, WORDS, figures);
+        result.code = feed_budget(BUDGET_ARGUMENTS(budget));
 }
 
 static int by_loss(const void *a, const void *b)
@@ -132,24 +142,44 @@ static uint32_t budget_for_one_in_100(void)
     return losses[PLACES / 100 - 1];
 }
 
+/* The product owes plain C's words, list and figures; returns the number of places listed. */
+static uint32_t expect_same_list(int budget)
+{
+    static uint32_t plain_listed[PLACES], plain_figures[4];
+    memset(listed, 0, sizeof listed);
+    run_call(plain_call(budget));
+    if (result.code != 0)
+        fail("the map is refused", budget_names[budget]);
+    plain = result;
+    memcpy(plain_listed, listed, sizeof listed);
+    memcpy(plain_figures, budget_figures, sizeof budget_figures);
+    memset(listed, 0, sizeof listed);
+    run_call(product_call(budget));
+    if (memcmp(&result, &plain, sizeof result) != 0 || memcmp(listed, plain_listed, sizeof listed) != 0
+        || memcmp(budget_figures, plain_figures, sizeof budget_figures) != 0)
+        fail("the table differs from that of plain C", budget_names[budget]);
+    return budget_figures[3];
+}
+
 static void bench_budget(void)
 {
     double ns[CALLS];
-    uint32_t places[CALLS] = { PLACES };
+    uint32_t places[BUDGETS];
     budgets[ONE_IN_100] = budget_for_one_in_100();
-    for (int call = LARGEST; call < CALLS; call++) {
-        run_call(call);
-        if (result.code != 0)
-            fail("the map is refused", call_names[call]);
-        places[call] = figures[3];
-    }
+    for (int budget = 0; budget < BUDGETS; budget++)
+        places[budget] = expect_same_list(budget);
     measure(CALLS, run_call, ns);
-    printf("feed_budget: the same map\n");
-    for (int call = 0; call < CALLS; call++)
-        printf("  %-16s %7.3f ms   %4u places   %.2f of feed_table\n", call_names[call], ns[call] / 1e6, places[call],
-               ns[call] / ns[FULL]);
-    double part = (ns[ONE_IN_100] - ns[LEAST]) / (ns[FULL] - ns[LEAST]);
-    printf("  beyond budget 0, one in a hundred takes %.3f of what feed_table takes", part);
+    printf("feed_budget: the same map, feed_table %.3f ms\n", ns[FULL] / 1e6);
+    for (int budget = 0; budget < BUDGETS; budget++) {
+        double time = ns[product_call(budget)];
+        printf("  %-16s %7.3f ms   lists %4u   %.2f of feed_table", budget_names[budget], time / 1e6, places[budget],
+               time / ns[FULL]);
+        print_ratio(time / ns[plain_call(budget)]);
+        printf("\n");
+    }
+    double least = ns[product_call(LEAST)];
+    double part = (ns[product_call(ONE_IN_100)] - least) / (ns[FULL] - least);
+    printf("  less the time of budget 0, one in a hundred takes %.3f of feed_table", part);
     print_mark("below 0.1", part < 0.1);
     printf("\n");
 }

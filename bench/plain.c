@@ -68,20 +68,64 @@ static inline uint32_t try_spans(const store *s, const feed_lists *lists, uint32
     return cuts;
 }
 
-static void find_feeds(const store *s, const feed_lists *lists, uint32_t start, uint32_t figures[3])
+/* Takes the first place and tries its spans. */
+static inline void visit_next(const store *s, const feed_lists *lists, uint32_t *figures)
 {
-    uint32_t links = 0, cuts = 0, examined = 0;
+    uint32_t place = s->heap[0].minimum;
+    figures[0] += extract_min(s, 0);
+    figures[1] += try_spans(s, lists, place);
+    figures[2] += lists->first_span[place + 1] - lists->first_span[place];
+}
+
+static void find_feeds(const store *s, const feed_lists *lists, uint32_t *figures)
+{
+    while (s->heap[0].count > 0)
+        visit_next(s, lists, figures);
+}
+
+/* Lists the places as they are taken; returns how many are. */
+static uint32_t find_within(const store *s, const feed_lists *lists, uint32_t budget, uint32_t *listed,
+                            uint32_t *figures)
+{
+    uint32_t count = 0;
+    while (s->heap[0].count > 0 && lists->best[s->heap[0].minimum] <= budget) {
+        listed[count++] = s->heap[0].minimum;
+        visit_next(s, lists, figures);
+    }
+    return count;
+}
+
+/* What places beyond the budget were offered is not shown. */
+static void hide_beyond(uint32_t places, uint32_t budget, uint32_t *best, uint32_t *last)
+{
+    for (uint32_t place = 0; place < places; place++)
+        if (best[place] > budget)
+            best[place] = last[place] = NONE;
+}
+
+/* Codes 14 to 17, or 0. */
+static uint32_t size_fault(uint32_t places, uint32_t start, size_t from_len, size_t to_len, size_t loss_len,
+                           size_t best_len, size_t last_len, size_t words_len)
+{
+    if (places == 0 || places > MAX_PLACES)
+        return 14;
+    if (start >= places)
+        return 15;
+    if (to_len != from_len || loss_len != from_len || from_len > MAX_SPANS)
+        return 16;
+    if (best_len != places || last_len != places || words_len != HEAP_WORDS + ITEM_WORDS * (size_t)places)
+        return 17;
+    return 0;
+}
+
+/* No place but the start is met. */
+static void begin_search(const store *s, const feed_lists *lists, uint32_t places, uint32_t start)
+{
+    memset(lists->best, 0xFF, places * sizeof *lists->best);
+    memset(lists->last, 0xFF, places * sizeof *lists->last);
+    make_empty(s);
     lists->best[start] = 0;
     insert(s, 0, start, 0);
-    while (s->heap[0].count > 0) {
-        uint32_t place = s->heap[0].minimum;
-        links += extract_min(s, 0);
-        cuts += try_spans(s, lists, place);
-        examined += lists->first_span[place + 1] - lists->first_span[place];
-    }
-    figures[0] = links;
-    figures[1] = cuts;
-    figures[2] = examined;
 }
 
 uint32_t plain_feed_table(uint32_t places, uint32_t start,
@@ -93,24 +137,45 @@ uint32_t plain_feed_table(uint32_t places, uint32_t start,
                           uint32_t *words, size_t words_len,
                           uint32_t figures[3])
 {
-    figures[0] = figures[1] = figures[2] = 0;
-    if (places == 0 || places > MAX_PLACES)
-        return 14;
-    if (start >= places)
-        return 15;
-    if (to_len != from_len || loss_len != from_len || from_len > MAX_SPANS)
-        return 16;
-    if (best_len != places || last_len != places || words_len != HEAP_WORDS + ITEM_WORDS * (size_t)places)
-        return 17;
-    uint32_t fault = span_fault(places, from, to, loss, from_len);
+    memset(figures, 0, 3 * sizeof *figures);
+    uint32_t fault = size_fault(places, start, from_len, to_len, loss_len, best_len, last_len, words_len);
+    if (fault == 0)
+        fault = span_fault(places, from, to, loss, from_len);
     if (fault != 0)
         return fault;
     uint32_t first_span[MAX_PLACES + 1];
     index_spans(places, from, from_len, first_span);
-    memset(best, 0xFF, places * sizeof *best);
-    memset(last, 0xFF, places * sizeof *last);
     const store s = store_at(words, places);
+    const feed_lists lists = { first_span, to, loss, best, last };
+    begin_search(&s, &lists, places, start);
+    find_feeds(&s, &lists, figures);
+    return 0;
+}
+
+uint32_t plain_feed_budget(uint32_t places, uint32_t start,
+                           const uint32_t *from, size_t from_len,
+                           const uint32_t *to, size_t to_len,
+                           const uint32_t *loss, size_t loss_len,
+                           uint32_t budget,
+                           uint32_t *best, size_t best_len,
+                           uint32_t *last, size_t last_len,
+                           uint32_t *listed, size_t listed_len,
+                           uint32_t *words, size_t words_len,
+                           uint32_t figures[4])
+{
+    memset(figures, 0, 4 * sizeof *figures);
+    uint32_t fault = size_fault(places, start, from_len, to_len, loss_len, best_len, last_len, words_len);
+    if (fault == 0)
+        fault = listed_len < places ? 22 : span_fault(places, from, to, loss, from_len);
+    if (fault != 0)
+        return fault;
+    uint32_t first_span[MAX_PLACES + 1];
+    index_spans(places, from, from_len, first_span);
+    const store s = store_at(words, places);
+    const feed_lists lists = { first_span, to, loss, best, last };
+    begin_search(&s, &lists, places, start);
+    figures[3] = find_within(&s, &lists, budget, listed, figures);
+    hide_beyond(places, budget, best, last);
     make_empty(&s);
-    find_feeds(&s, &(feed_lists){ first_span, to, loss, best, last }, start, figures);
     return 0;
 }

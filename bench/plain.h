@@ -1,4 +1,4 @@
-/* Plain C versions of two entries, as a measure and as a second opinion. */
+/* Plain C versions of three entries, as a measure and as a second opinion. */
 #ifndef PLAIN_H
 #define PLAIN_H
 
@@ -17,5 +17,17 @@ uint32_t plain_feed_table(uint32_t places, uint32_t start,
                           uint32_t *last, size_t last_len,
                           uint32_t *store, size_t store_len,
                           uint32_t figures[3]);
+
+/* Feed call with a budget: the code; figures = links, cuts, spans examined, places listed. */
+uint32_t plain_feed_budget(uint32_t places, uint32_t start,
+                           const uint32_t *from, size_t from_len,
+                           const uint32_t *to, size_t to_len,
+                           const uint32_t *loss, size_t loss_len,
+                           uint32_t budget,
+                           uint32_t *best, size_t best_len,
+                           uint32_t *last, size_t last_len,
+                           uint32_t *listed, size_t listed_len,
+                           uint32_t *store, size_t store_len,
+                           uint32_t figures[4]);
 
 #endif

@@ -1,14 +1,14 @@
 //! The plain C version that the benchmark measures against: it must give the same answers.
 
-use crate::engine::{Engine, FeedLists, Part};
-use crate::{feed_call, own_run};
+use crate::engine::{BudgetLists, Engine, FeedLists, Part};
+use crate::{budget_call, feed_call, own_run};
 use reference::feed::Spans;
 
 pub struct Plain;
 
 impl Engine for Plain {
     fn has(&self, part: Part) -> bool {
-        matches!(part, Part::Modem | Part::Feed)
+        matches!(part, Part::Modem | Part::Feed | Part::Budget)
     }
 
     fn queue_run(&self, sheet: &[u8], out: &mut [u8]) -> u32 {
@@ -17,5 +17,17 @@ impl Engine for Plain {
 
     fn feed_table(&self, places: u32, start: u32, spans: Spans, lists: FeedLists, figures: &mut [u32; 3]) -> u32 {
         feed_call!(plain_feed_table, places, start, spans, lists, figures)
+    }
+
+    fn feed_budget(
+        &self,
+        places: u32,
+        start: u32,
+        spans: Spans,
+        budget: u32,
+        lists: BudgetLists,
+        figures: &mut [u32; 4],
+    ) -> u32 {
+        budget_call!(plain_feed_budget, places, start, spans, budget, lists, figures)
     }
 }
