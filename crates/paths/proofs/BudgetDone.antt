@@ -1,35 +1,29 @@
 -- What a feed call with a budget leaves, by its code; the largest budget gives what the full call gives.
-use Prim.Native.Nat.{ℕ, zero, suc, _+_, _≤_}
+use Prim.Native.Nat.{ℕ, zero, suc}
 use mathlib.Core.Path.{_≡_, refl, ap, _∙_}
-use mathlib.Core.List.{List, [], _∷_, _++_}
+use mathlib.Core.List.{List}
 use native.Mathlib.Nat.{le-refl}
 use native.Mathlib.Omega.{arith}
-use lib.ListN.{length, getD, take, drop, length-append}
+use lib.ListN.{length, getD, take, drop}
 use lib.Seq.{take-append-seam, drop-append-seam}
+use mathlib.Core.Bool.{false}
+use lib.Dec.{ltb}
 use borrow.Author.Tests.{le-ltb}
 use Rattle.rules.specs.Forests.{none}
 use Rattle.paths.specs.Map.{Map, Accepted}
 use Rattle.paths.specs.Table.{unlimited, upTo, Listing}
-use Rattle.paths.specs.Queue.{Stop, NextPlace, halts, takes, next}
-use Rattle.paths.specs.Search.{Search, step, steps, never, beyond, search, find, takenBy, takings, placesTaken}
+use Rattle.paths.specs.Queue.{NextPlace, halts, takes, next}
+use Rattle.paths.specs.Search.{Search, step, steps, never, beyond, search, find, placesTaken}
 use Rattle.paths.specs.Feed.{ResultLists, codeFor, feedAs, feedResult, budgetAs, budgetResult}
 use Rattle.paths.specs.Theorems.{Right, RightList, BudgetDone, LargestBudget}
-use Rattle.paths.proofs.Waiting.{next-same}
+use Rattle.paths.proofs.Waiting.{next-takes}
+use Rattle.paths.proofs.Stopping.{stopped, next-stopped}
 use Rattle.paths.proofs.Chains.{met-small}
-use Rattle.paths.proofs.Steps.{Between, steps-between}
+use Rattle.paths.proofs.Steps.{steps-between}
 use Rattle.paths.proofs.Listing.{finderListing}
+use Rattle.paths.proofs.Takings.{takings-few}
 use Rattle.paths.proofs.Accepts.{codeZero}
 use Rattle.paths.proofs.FeedDone.{done-accepted, done-right}
-
--- each step takes one place at most
-takings-few : (stop : Stop) (m : Map) (k : ℕ) → length (takings stop m k) ≤ k
-unfolding takings
-takings-few stop m zero = le-refl _
-takings-few stop m (suc k) = go (next stop ((steps stop m k) .queue)) (takings-few stop m k)
-  where
-    go : (x : NextPlace) → length (takings stop m k) ≤ k → length (takings stop m k ++ takenBy x) ≤ suc k
-    go halts h = rw (length-append (takings stop m k) []) (omega (arith, h))
-    go (takes u) h = rw (length-append (takings stop m k) (u ∷ [])) (omega (arith, h))
 
 module _ (b : ℕ) (m : Map) (lent : ResultLists) (listed : List ℕ) where
   list-right : codeFor m lent (length listed) ≡ 0 → RightList listed (budgetAs 0 b m lent listed)
@@ -64,19 +58,29 @@ steps-same : (m : Map) → Accepted m → (k : ℕ) → steps (beyond (upTo none
 unfolding steps step
 steps-same m A zero = refl
 steps-same m A (suc k) =
-    let s : Search = steps never m k in
-    let B : Between never m k s = steps-between never m A k in
-    let I = B .invariant in
-    let same : next (beyond (upTo none)) (s .queue) ≡ next never (s .queue) =
-    next-same (beyond (upTo none)) (s .queue)
-    (λ z w.
-    le-ltb none (getD (s .queue .key) z 0)
-    (omega (
-      arith,
-      I .keyed z w,
-      met-small m A (B .lastTaken) (B .reach) (s .queue .waits) (s .queue .key) (s .best) (s .last) I z (I .met z w),
-    ))) in
     ap (λ t. step m (next (beyond (upTo none)) (t .queue)) t) (steps-same m A k) ∙ ap (λ x. step m x s) same
+  where
+    s : Search
+    s = steps never m k
+
+    low : (u : ℕ) → next never (s .queue) ≡ takes u → ltb none (getD (s .queue .key) u 0) ≡ false
+    low u e =
+        let B = steps-between never m A k in
+        let I = B .invariant in
+        let w = next-takes never (s .queue) u e .inside in
+        le-ltb none (getD (s .queue .key) u 0)
+        (omega (
+          arith,
+          I .keyed u w,
+          met-small m A (B .lastTaken) (B .reach) (s .queue .waits) (s .queue .key) (s .best) (s .last) I u (I .met u w),
+        ))
+
+    go : (x : NextPlace) → next never (s .queue) ≡ x → stopped (beyond (upTo none)) (s .queue .key) x ≡ x
+    go halts e = refl
+    go (takes u) e = rw (low u e)
+
+    same : next (beyond (upTo none)) (s .queue) ≡ next never (s .queue)
+    same = next-stopped (beyond (upTo none)) (s .queue) ∙ go (next never (s .queue)) refl
 
 find-same : (m : Map) → Accepted m → find (upTo none) m ≡ find unlimited m
 unfolding search

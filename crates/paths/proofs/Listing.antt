@@ -35,7 +35,7 @@ delta-swap : (x y : ℕ) → delta x y ≡ delta y x
 delta-swap x = byItem x refl (λ y n. delta-other x y n ∙ sym (delta-other y x (λ e. n (sym e))))
 
 -- The list holds each settled place once, and no other, in ascending order.
-record Lists (l : List ℕ) (s : Search) : Type 0 where
+record ListsSettled (l : List ℕ) (s : Search) : Type 0 where
   once : (q : ℕ) → occurs q l ≡ settledAt s q
   ascending : Ascending (s .best) l
 
@@ -45,7 +45,7 @@ member-settled l s f q h = settled-is (getD (s .queue .waits) q 0) (bestAt s q) 
 
 module _ (stop : Stop) (m : Map) (A : Accepted m) where
   -- offers settle no place, and leave the losses of those that are
-  offers-keep : (l : List ℕ) → KeptByOffers m (Lists l)
+  offers-keep : (l : List ℕ) → KeptByOffers m (ListsSettled l)
   offers-keep l =
       record {
         examined = λ _ _ _ _ s _ L. record { once = L .once; ascending = L .ascending };
@@ -68,7 +68,7 @@ module _ (stop : Stop) (m : Map) (A : Accepted m) where
 
   -- the place that is taken comes after those in the list
   extracted-lists : (k : ℕ) (s : Search) (B : Between stop m k s) (u : ℕ) → next stop (s .queue) ≡ takes u
-      → TakenFirst s → (l : List ℕ) → Lists l s → Lists (l ++ (u ∷ [])) (extracted u s)
+      → TakenFirst s → (l : List ℕ) → ListsSettled l s → ListsSettled (l ++ (u ∷ [])) (extracted u s)
   extracted-lists k s B u n F l L =
       let w = next-takes stop (s .queue) u n .inside in
       record {
@@ -89,7 +89,7 @@ module _ (stop : Stop) (m : Map) (A : Accepted m) where
             before-precedes (s .best) q u (t .1) (B .invariant .met u w) (F q u t w));
       }
 
-  steps-list : (k : ℕ) → Lists (takings stop m k) (steps stop m k)
+  steps-list : (k : ℕ) → ListsSettled (takings stop m k) (steps stop m k)
   unfolding steps step visit begin takings
   steps-list zero =
       record {
@@ -101,13 +101,13 @@ module _ (stop : Stop) (m : Map) (A : Accepted m) where
       s : Search
       s = steps stop m k
 
-      go : (x : NextPlace) → next stop (s .queue) ≡ x → Lists (takings stop m k) s
-          → Lists (takings stop m k ++ takenBy x) (step m x s)
+      go : (x : NextPlace) → next stop (s .queue) ≡ x → ListsSettled (takings stop m k) s
+          → ListsSettled (takings stop m k ++ takenBy x) (step m x s)
       go halts e L = rw (append-nil (takings stop m k)) L
       go (takes u) e L =
           let B = steps-between stop m A k in
           let F = steps-keep stop m A TakenFirst (taken-first stop m A) k in
-          tried-keeps m A (Lists (takings stop m k ++ (u ∷ []))) (offers-keep (takings stop m k ++ (u ∷ []))) u
+          tried-keeps m A (ListsSettled (takings stop m k ++ (u ∷ []))) (offers-keep (takings stop m k ++ (u ∷ []))) u
           (bestAt s u) _ (extracted u s) (extracted-trying stop m A k s B u e)
           (extracted-lists k s B u e F (takings stop m k) L) _ (le-refl _)
 

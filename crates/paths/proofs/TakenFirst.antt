@@ -1,31 +1,30 @@
 -- Each settled place comes before each that waits: by loss, then by number. So places are taken in ascending order.
-use Prim.Native.Nat.{ℕ, zero, suc, _+_, _≤_, _<_}
-use mathlib.Core.Path.{_≡_, refl, sym, ap, _∙_}
+use Prim.Native.Nat.{ℕ, _+_, _≤_, _<_}
+use mathlib.Core.Path.{_≡_, sym, ap, _∙_}
 use mathlib.Core.Logic.{_≢_}
-use mathlib.Core.List.{List, [], _∷_}
+use mathlib.Core.List.{List}
 use mathlib.Core.Bool.{true}
 use native.Mathlib.Omega.{arith}
 use lib.ListN.{getD, set}
 use lib.Seq.{getD-set-same, getD-set-other}
 use Rattle.rules.specs.Forests.{none}
 use Rattle.rules.specs.Order.{precedes}
+use Rattle.rules.proofs.Default.{getD-any}
 use Rattle.rules.proofs.Occurs.{byItem}
 use Rattle.rules.proofs.Order.{precedes-is}
 use Rattle.paths.specs.Map.{Map, fromOf, toOf, lossOf, IsSpan, Accepted}
 use Rattle.paths.specs.Queue.{Stop, takes, next}
 use Rattle.paths.specs.Search.{Search, Verdict, unmet, smaller, tie, worse, update, examine, extracted, begin, bestAt}
-use Rattle.paths.proofs.Waiting.{TakesNext, next-takes, waits-below}
+use Rattle.paths.proofs.Waiting.{TakesNext, word-in, next-takes, waits-below}
 use Rattle.paths.proofs.Invariant.{Waits, Met, Settled}
 use Rattle.paths.proofs.Begin.{none-settled}
 use Rattle.paths.proofs.Offers.{TryingOf, Case, at-unmet, at-smaller}
 use Rattle.paths.proofs.Steps.{Between, Kept}
 use Rattle.paths.proofs.Settling.{stays-settled}
 
--- a place with a loss is in the list of losses, whose words are then the same whatever is read beyond its end
+-- a place that is met has a word in the list of losses, so it reads the same with any default
 pub met-word : (best : List ℕ) (p : ℕ) → Met best p → getD best p 0 ≡ getD best p none
-met-word [] p n = absurd (n refl)
-met-word (x ∷ best) zero n = refl
-met-word (x ∷ best) (suc p) n = met-word best p n
+met-word best p n = getD-any best p 0 none (word-in none best p n)
 
 -- p comes before q, said of the losses
 abbrev Before : List ℕ → ℕ → ℕ → Type 0

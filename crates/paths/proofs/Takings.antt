@@ -1,11 +1,23 @@
 -- The places that the steps of a search take, step by step.
 use Prim.Native.Nat.{ℕ, zero, suc, _+_, _-_, _≤_}
 use mathlib.Core.Path.{_≡_, ap, _∙_}
-use mathlib.Core.List.{List, [], _∷_, _++_, append-nil}
+use mathlib.Core.List.{[], _∷_, _++_, append-nil}
+use native.Mathlib.Nat.{le-refl}
 use native.Mathlib.Omega.{arith}
+use lib.ListN.{length, length-append}
 use Rattle.paths.specs.Map.{Map}
-use Rattle.paths.specs.Queue.{Stop, halts, takes, next}
+use Rattle.paths.specs.Queue.{Stop, NextPlace, halts, takes, next}
 use Rattle.paths.specs.Search.{step, steps, takenBy, takings}
+
+-- each step takes one place at most
+pub takings-few : (stop : Stop) (m : Map) (k : ℕ) → length (takings stop m k) ≤ k
+unfolding takings
+takings-few stop m zero = le-refl _
+takings-few stop m (suc k) = go (next stop ((steps stop m k) .queue)) (takings-few stop m k)
+  where
+    go : (x : NextPlace) → length (takings stop m k) ≤ k → length (takings stop m k ++ takenBy x) ≤ suc k
+    go halts h = rw (length-append (takings stop m k) []) (omega (arith, h))
+    go (takes u) h = rw (length-append (takings stop m k) (u ∷ [])) (omega (arith, h))
 
 module _ (stop : Stop) (m : Map) (k : ℕ) where
   -- a step that takes a place lists it last

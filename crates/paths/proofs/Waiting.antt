@@ -52,12 +52,16 @@ waits-in waits x n = rw (waiting-at waits 0 x x (omega arith), ne-eqb (getD wait
 in-waits : (waits : List ℕ) (x : ℕ) → 1 ≤ occurs x (waiting 0 waits) → getD waits x 0 ≢ 0
 in-waits waits x k e = omega (arith, k, rw e at (waiting-at waits 0 x x (omega arith)))
 
-pub waits-below : (waits : List ℕ) (x : ℕ) → getD waits x 0 ≢ 0 → x < length waits
-waits-below waits x n = go (ltb x (length waits)) refl
+-- a word that is not the one read beyond the end is in the list
+pub word-in : (d : ℕ) (l : List ℕ) (x : ℕ) → getD l x d ≢ d → x < length l
+word-in d l x n = go (ltb x (length l)) refl
   where
-    go : (t : Bool) → ltb x (length waits) ≡ t → x < length waits
-    go true e = ltb-true x (length waits) e
-    go false e = absurd (n (List·getD-eq-default waits 0 (ltb-false x (length waits) e)))
+    go : (t : Bool) → ltb x (length l) ≡ t → x < length l
+    go true e = ltb-true x (length l) e
+    go false e = absurd (n (List·getD-eq-default l d (ltb-false x (length l) e)))
+
+pub waits-below : (waits : List ℕ) (x : ℕ) → getD waits x 0 ≢ 0 → x < length waits
+waits-below = word-in 0
 
 -- ---- the least of a list
 
@@ -120,17 +124,6 @@ next-takes stop q u = go (waiting 0 (q .waits)) refl
               first = λ z w. leastOf-least (q .key) x xs z (rw e at (waits-in (q .waits) z w));
               goes = s;
             })
-
--- a rule that stops at no key that waits takes what is taken without one
-pub next-same : (stop : Stop) (q : Queue) → ((z : ℕ) → getD (q .waits) z 0 ≢ 0 → stop (getD (q .key) z 0) ≡ false)
-    → next stop q ≡ next never q
-unfolding next nextOf
-next-same stop q f = go (waiting 0 (q .waits)) refl
-  where
-    go : (ws : List ℕ) → waiting 0 (q .waits) ≡ ws → nextOf stop (q .key) ws ≡ nextOf never (q .key) ws
-    go [] e = refl
-    go (x ∷ xs) e =
-        rw (f (leastOf (q .key) x xs) (in-waits (q .waits) (leastOf (q .key) x xs) (rw e (leastOf-in (q .key) x xs))))
 
 -- The finder halts: if any place waits, then so does one, with no larger key, at which the rule stops.
 pub next-halts : (stop : Stop) (q : Queue) → next stop q ≡ halts → (z : ℕ) → getD (q .waits) z 0 ≢ 0

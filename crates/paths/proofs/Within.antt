@@ -5,14 +5,15 @@ use mathlib.Core.Logic.{_≢_}
 use mathlib.Core.List.{List, [], _∷_}
 use mathlib.Core.Bool.{Bool, true, false, cond}
 use native.Mathlib.Omega.{arith}
-use lib.ListN.{length, getD, List·getD-eq-default}
-use lib.Dec.{ltb, leb}
-use borrow.Author.Tests.{ne-eqb, ltb-true, ltb-false, leb-true, le-leb}
+use lib.ListN.{getD}
+use lib.Dec.{leb}
+use borrow.Author.Tests.{ne-eqb, leb-true, le-leb}
 use Rattle.rules.specs.Forests.{none}
 use Rattle.paths.specs.Map.{Map}
 use Rattle.paths.specs.Chains.{Chain, chainLoss}
 use Rattle.paths.specs.Table.{Limit, unlimited, upTo, Within, Entry, atStart, reached, unreached, isReached}
 use Rattle.paths.specs.Theorems.{BudgetTable, ListedExactly}
+use Rattle.paths.proofs.Waiting.{word-in}
 use Rattle.paths.proofs.Table.{start-within, reached-one, noneUnreached}
 
 -- ---- beside the full table
@@ -59,14 +60,6 @@ reached-is : (l : ℕ) → 1 ≤ isReached l → l ≢ none
 unfolding isReached
 reached-is l h e = omega (arith, rw e at h)
 
--- a place that is reached has a word in the list
-reached-in : (best : List ℕ) (p : ℕ) → getD best p none ≢ none → p < length best
-reached-in best p n = go (ltb p (length best)) refl
-  where
-    go : (t : Bool) → ltb p (length best) ≡ t → p < length best
-    go true e = ltb-true p (length best) e
-    go false e = absurd (n (List·getD-eq-default best none (ltb-false p (length best) e)))
-
 -- an entry that shows a loss has a chain within the limit
 entry-chain : (limit : Limit) (m : Map) (p l e : ℕ) → l ≢ none → Entry limit m p l e
     → (c : List ℕ) × Chain m c p × Within limit (chainLoss m c)
@@ -83,5 +76,5 @@ listedExactly =
       only =
           λ limit m best last places T L p h.
           let n = reached-is (getD best p none) (rw (L .once p) at h) in
-          entry-chain limit m p _ _ n (T .entries p (omega (arith, reached-in best p n, T .bestN)));
+          entry-chain limit m p _ _ n (T .entries p (omega (arith, word-in none best p n, T .bestN)));
     }
