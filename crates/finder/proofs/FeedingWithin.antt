@@ -11,17 +11,15 @@ use Rattle.relax.specs.declared.Progress.{Progress}
 use Rattle.paths.specs.Map.{SpanLists, Map, mapOf, Accepted}
 use Rattle.paths.specs.Table.{upTo}
 use Rattle.paths.specs.Search.{beyond, search}
-use Rattle.paths.specs.Feed.{ResultLists, resultLists, codeFor, budgetAs, budgetResult}
+use Rattle.paths.specs.Feed.{ResultLists, codeFor, budgetAs, budgetResult}
 use Rattle.paths.specs.Theorems.{Fits}
 use Rattle.paths.proofs.Steps.{search-between}
-use Rattle.finder.specs.declared.budget.FedWithin.{FedWithin}
 use Rattle.finder.specs.SearchState.{Begun, ListReady, FoundListed}
 use Rattle.finder.specs.Hidden.{Hidden}
 use Rattle.finder.specs.Promise.{FedAs, FeedsWithin}
 use Rattle.finder.proofs.Ready.{logged-sized}
 use Rattle.finder.proofs.Beginning.{begun-stands}
 use Rattle.finder.proofs.Feeding.{refusedFed, doneFed, fed-refused, fed-done, code-fits}
-use Rattle.finder.proofs.Hiding.{hidden}
 use Rattle.finder.proofs.WaitsBeyond.{hidden-best, hidden-last}
 
 pub list-ready : (budget : ℕ) {places start : ℕ} {lists : SpanLists} {bestN lastN storeN : ℕ} {listed : List ℕ}

@@ -3,7 +3,6 @@ use Prim.Native.Nat.{ℕ, _≤_, _<_}
 use mathlib.Core.Path.{_≡_, sym, ap, _∙_}
 use mathlib.Core.List.{List}
 use mathlib.Core.Bool.{true, false, cond}
-use native.Mathlib.Omega.{arith}
 use lib.ListN.{length, getD}
 use Rattle.rules.specs.declared.Call.the-variants.{FindMin}
 use Rattle.rules.specs.Forests.{none}
@@ -42,8 +41,8 @@ module _ {stop : Stop} {m : Map} {l : ResultLists} {go : Progress} (S : Stands s
   bestN = ap length (S .tracks .best-is) ∙ steps-between stop m (S .accepted) (go .visited) .invariant .bestN
 
   -- none waits
-  pub halts-empty : go .met ≤ go .visited → next stop (s .queue) ≡ halts
-  halts-empty h = next-stopped stop (s .queue) ∙ ap (stopped stop (s .queue .key)) (none-left S h)
+  pub none-halts : go .met ≤ go .visited → next stop (s .queue) ≡ halts
+  none-halts h = next-stopped stop (s .queue) ∙ ap (stopped stop (s .queue .key)) (none-left S h)
 
   module _ (h : go .visited < go .met) where
     abbrev first : ℕ
@@ -55,8 +54,7 @@ module _ {stop : Stop} {m : Map} {l : ResultLists} {go : Progress} (S : Stands s
           store =
               record {
                 sound =
-                    logged-ready stop m (S .accepted) s (between (go .visited)) (l .store) (go .tally)
-                    (S .tracks .logged) .sound;
+                    logged-ready stop m (S .accepted) s (between (go .visited)) (S .tracks .logged) .sound;
                 items = sym (sized-items (logged-sized stop m (S .accepted) (go .visited) (S .tracks .logged)));
               };
           done = rw forests (next-allowed stop m (S .accepted) (go .visited) first (some-waits S h .1));

@@ -50,8 +50,8 @@ module _ (budget : ℕ) where
   hidden-at d (b ∷ best) (x ∷ words) (suc p) h i = hidden-at d best words p (omega arith) (omega arith)
 
   -- Of the losses and the words the first p are rewritten; then so is word p, by its loss.
-  pub hide-more : (best words : List ℕ) {best₁ words₁ : List ℕ} (p : ℕ) {r : ℕ} → length words ≡ length best → p < length best
-      → best₁ ≡ written (hidden best best) best p → words₁ ≡ written (hidden best words) words p
+  pub hide-more : (best words : List ℕ) {best₁ words₁ : List ℕ} (p : ℕ) {r : ℕ} → length words ≡ length best
+      → p < length best → best₁ ≡ written (hidden best best) best p → words₁ ≡ written (hidden best words) words p
       → r ≡ cond (ltb budget (getD best₁ p 0)) none (getD words₁ p 0)
       → set words₁ p r ≡ written (hidden best words) words (p + 1)
   hide-more best words {best₁} {words₁} p {r} n h b w e =

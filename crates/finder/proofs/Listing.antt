@@ -1,6 +1,6 @@
 -- The place list of a search by code: each place is written after those before it, as it is taken.
 use Prim.Native.Nat.{ℕ, suc, _≤_, _<_}
-use mathlib.Core.Path.{_≡_, refl, sym, ap, _∙_}
+use mathlib.Core.Path.{_≡_, sym, ap, _∙_}
 use mathlib.Core.List.{List, [], _∷_, _++_}
 use native.Mathlib.Numerals.{add-one}
 use native.Mathlib.Omega.{arith}
@@ -9,7 +9,7 @@ use lib.Seq.{drop-cons, set-at, append-snoc}
 use Rattle.paths.specs.Map.{Map}
 use Rattle.paths.specs.Table.{upTo}
 use Rattle.paths.specs.Queue.{Stop, halts, takes, next}
-use Rattle.paths.specs.Search.{steps, beyond, takings, placesTaken}
+use Rattle.paths.specs.Search.{steps, beyond, takings}
 use Rattle.paths.specs.Feed.{ResultLists, overwrite}
 use Rattle.paths.proofs.Takings.{takings-more, takings-all}
 use Rattle.relax.specs.declared.Progress.{Progress}
@@ -67,7 +67,7 @@ pub lists-done : (budget : ℕ) {m : Map} {lent : List ℕ} {l : ResultLists} {l
     → next (beyond (upTo budget)) ((steps (beyond (upTo budget)) m (go .visited)) .queue) ≡ halts
     → FoundListed budget m lent l listed go
 lists-done budget {m} {lent} {l} {listed} {go} L n =
-    let all = takings-all (beyond (upTo budget)) m (go .visited) n (L .stands .few) in
+    let all = takings-all (beyond (upTo budget)) m (go .visited) (L .stands .few) n in
     record {
       found = stands-found (L .stands) n;
       number-is = rw all (sym (L .number-is));

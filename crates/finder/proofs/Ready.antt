@@ -21,9 +21,9 @@ use Rattle.paths.proofs.Served.{ServedOf, served}
 use Rattle.paths.proofs.Counts.{counts-low}
 use Rattle.relax.specs.Tracks.{Logged}
 
-pub logged-ready : (stop : Stop) (m : Map) → Accepted m → (s : Search) → Moment stop m s → (store : List ℕ) (t : Tally)
-    → Logged (m .places) (s .calls) store t → Ready store t
-logged-ready stop m A s M store t L =
+pub logged-ready : (stop : Stop) (m : Map) → Accepted m → (s : Search) → Moment stop m s
+    → {store : List ℕ} {t : Tally} → Logged (m .places) (s .calls) store t → Ready store t
+logged-ready stop m A s M L =
     let S = moments-keep stop m A (ServedOf m) (served stop m A) s M in
     let low = counts-low stop m A s M in
     record {

@@ -63,7 +63,7 @@ module _
 
   pub extract-ready : Ready (l .store) (go .tally)
   extract-ready =
-      logged-ready stop m (G .stands .accepted) s (between (go .visited)) (l .store) (go .tally) (G .stands .tracks .logged)
+      logged-ready stop m (G .stands .accepted) s (between (go .visited)) (G .stands .tracks .logged)
 
   -- the call takes the place that comes next in the search, with its loss
   pub taken : {reply : Reply} {store′ : List ℕ} → Performed (l .store) (ExtractMin 0) (go .tally) reply store′

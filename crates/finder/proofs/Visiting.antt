@@ -94,8 +94,8 @@ module _
           inLast =
               omega (arith, ap length (W .tracks .last-is), tryingE .invariant .lastN, K .accepted .toIn e span-in);
           ready =
-              logged-ready stop m (K .accepted) (at stop m k u e) (trying k u e (K .next-is) (omega (arith, span-in))) (l .store)
-              (go .tally) (W .tracks .logged);
+              logged-ready stop m (K .accepted) (at stop m k u e) (trying k u e (K .next-is) (omega (arith, span-in)))
+              (W .tracks .logged);
           room = omega (arith, W .tracks .met-is, tryingE .left, left-is K, K .accepted .few);
         })
 

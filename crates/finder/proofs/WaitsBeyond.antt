@@ -1,7 +1,7 @@
 -- At the end of a search with a budget the places that wait are those with losses beyond it, so to hide by the losses
 -- is to hide what waits.
 use Prim.Native.Nat.{ℕ}
-use mathlib.Core.Path.{_≡_, refl, sym, ap, _∙_}
+use mathlib.Core.Path.{_≡_, refl, sym, _∙_}
 use mathlib.Core.List.{List}
 use mathlib.Core.Bool.{Bool, true, false, cond}
 use native.Mathlib.Omega.{arith}
@@ -14,7 +14,6 @@ use Rattle.paths.specs.Map.{Map, Accepted}
 use Rattle.paths.specs.Table.{upTo}
 use Rattle.paths.specs.Search.{Search, beyond, find, hideWaiting, shownBest, shownLast, bestAt}
 use Rattle.paths.proofs.Hiding.{length-hide, hide-at}
-use Rattle.paths.proofs.Invariant.{Invariant}
 use Rattle.paths.proofs.Steps.{search-between}
 use Rattle.paths.proofs.Halting.{search-halted}
 use Rattle.finder.proofs.Hiding.{hidden, hidden-at}
@@ -22,6 +21,9 @@ use Rattle.finder.proofs.Hiding.{hidden, hidden-at}
 module _ (budget : ℕ) (m : Map) (A : Accepted m) where
   abbrev s : Search
   s = find (upTo budget) m
+
+  bestN : length (s .best) ≡ m .places
+  bestN = search-between (beyond (upTo budget)) m A .invariant .bestN
 
   -- A place that is not met has no word to hide.
   same-word : (p x : ℕ) → (bestAt s p ≡ none → x ≡ none)
@@ -49,19 +51,19 @@ module _ (budget : ℕ) (m : Map) (A : Accepted m) where
           (search-halted (upTo budget) m A .out p (eqb-false (getD (s .queue .waits) p 0) 0 z)
           (ltb-false budget (bestAt s p) b))
 
-  hidden-waiting : (words : List ℕ) → length words ≡ m .places → ((p : ℕ) → bestAt s p ≡ none → getD words p none ≡ none)
+  hidden-waiting : (words : List ℕ) → length words ≡ m .places
+      → ((p : ℕ) → bestAt s p ≡ none → getD words p none ≡ none)
       → hidden budget (s .best) words ≡ hideWaiting (s .queue .waits) words
   hidden-waiting words n f =
       ext-getD none (hidden budget (s .best) words) (hideWaiting (s .queue .waits) words)
       (length-hide _ words ∙ sym (length-hide (s .queue .waits) words))
       (λ p h.
       let i = rw (length-hide _ words) at h in
-      hidden-at budget none (s .best) words p (omega (arith, i, n, search-between (beyond (upTo budget)) m A .invariant .bestN)) i
+      hidden-at budget none (s .best) words p (omega (arith, i, n, bestN)) i
       ∙ same-word p (getD words p none) (f p) ∙ sym (hide-at (s .queue .waits) words p))
 
   pub hidden-best : hidden budget (s .best) (s .best) ≡ shownBest s
-  hidden-best =
-      hidden-waiting (s .best) (search-between (beyond (upTo budget)) m A .invariant .bestN) (λ _ e. e)
+  hidden-best = hidden-waiting (s .best) bestN (λ _ e. e)
 
   pub hidden-last : hidden budget (s .best) (s .last) ≡ shownLast s
   hidden-last =

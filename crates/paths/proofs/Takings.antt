@@ -9,39 +9,33 @@ use Rattle.paths.specs.Map.{Map}
 use Rattle.paths.specs.Queue.{Stop, NextPlace, halts, takes, next}
 use Rattle.paths.specs.Search.{step, steps, takenBy, takings}
 
--- each step takes one place at most
-pub takings-few : (stop : Stop) (m : Map) (k : ℕ) → length (takings stop m k) ≤ k
-unfolding takings
-takings-few stop m zero = le-refl _
-takings-few stop m (suc k) = go (next stop ((steps stop m k) .queue)) (takings-few stop m k)
-  where
-    go : (x : NextPlace) → length (takings stop m k) ≤ k → length (takings stop m k ++ takenBy x) ≤ suc k
-    go halts h = rw (length-append (takings stop m k) []) (omega (arith, h))
-    go (takes u) h = rw (length-append (takings stop m k) (u ∷ [])) (omega (arith, h))
+module _ (stop : Stop) (m : Map) where
+  -- each step takes one place at most
+  pub takings-few : (k : ℕ) → length (takings stop m k) ≤ k
+  unfolding takings
+  takings-few zero = le-refl _
+  takings-few (suc k) = go (next stop ((steps stop m k) .queue)) (takings-few k)
+    where
+      go : (x : NextPlace) → length (takings stop m k) ≤ k → length (takings stop m k ++ takenBy x) ≤ suc k
+      go halts h = rw (length-append (takings stop m k) []) (omega (arith, h))
+      go (takes u) h = rw (length-append (takings stop m k) (u ∷ [])) (omega (arith, h))
 
-module _ (stop : Stop) (m : Map) (k : ℕ) where
   -- a step that takes a place lists it last
-  pub takings-more : (u : ℕ) → next stop ((steps stop m k) .queue) ≡ takes u
+  pub takings-more : (k u : ℕ) → next stop ((steps stop m k) .queue) ≡ takes u
       → takings stop m (suc k) ≡ takings stop m k ++ (u ∷ [])
   unfolding takings
-  takings-more u e = ap (λ x. takings stop m k ++ takenBy x) e
+  takings-more k u e = ap (λ x. takings stop m k ++ takenBy x) e
 
-  -- nothing is left to take after k steps: more steps find nothing either
-  module _ (e : next stop ((steps stop m k) .queue) ≡ halts) where
-    still-halts : (n j : ℕ) → j ≡ k + n → next stop ((steps stop m j) .queue) ≡ halts
-    unfolding steps step
-    still-halts zero j q = let z : j ≡ k = omega arith in rw z e
-    still-halts (suc n) zero q = absurd (omega arith)
-    still-halts (suc n) (suc j) q = let h = still-halts n j (omega arith) in rw (h, h)
+  -- nothing is left to take after k steps: n more take none
+  takings-stop : (n k : ℕ) → m .places ≡ k + n → next stop ((steps stop m k) .queue) ≡ halts
+      → takings stop m (m .places) ≡ takings stop m k
+  unfolding takings steps step
+  takings-stop zero k q e = let z : m .places ≡ k = omega arith in ap (takings stop m) z
+  takings-stop (suc n) k q e =
+      takings-stop n (suc k) (omega arith) (rw e e) ∙ ap (λ x. takings stop m k ++ takenBy x) e
+      ∙ append-nil (takings stop m k)
 
-    takings-stop : (n j : ℕ) → j ≡ k + n → takings stop m j ≡ takings stop m k
-    unfolding takings
-    takings-stop zero j q = let z : j ≡ k = omega arith in ap (takings stop m) z
-    takings-stop (suc n) zero q = absurd (omega arith)
-    takings-stop (suc n) (suc j) q =
-        ap (λ x. takings stop m j ++ takenBy x) (still-halts n j (omega arith)) ∙ append-nil (takings stop m j)
-        ∙ takings-stop n j (omega arith)
-
-    -- so these places are all that the search takes
-    pub takings-all : k ≤ m .places → takings stop m (m .places) ≡ takings stop m k
-    takings-all h = takings-stop (m .places - k) (m .places) (omega arith)
+  -- so these places are all that the search takes
+  pub takings-all : (k : ℕ) → k ≤ m .places → next stop ((steps stop m k) .queue) ≡ halts
+      → takings stop m (m .places) ≡ takings stop m k
+  takings-all k h e = takings-stop (m .places - k) k (omega arith) e

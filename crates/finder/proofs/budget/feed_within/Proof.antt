@@ -33,7 +33,7 @@ hide-beyond-requires c κs =
     let b = s .before .before .before .before .before .before .before .before .before .before .before in
     let i = b .before .before .before .before in
     let F = code-fits (mapOf _ _ (spanLists _ _ _)) _ _ _ _ _ (i .before .feed-code .ensures) (i .if1 .left) in
-    hide-ready (F .accepted)
+    hide-ready {l = resultLists _ _ _} (F .accepted)
     (s .search-within .ensures _ (list-ready _ F {l = resultLists _ _ _} (b .begin-search .ensures)))
 
 make-empty-requires : tie.Need-make-empty-requires
@@ -43,7 +43,7 @@ make-empty-requires c κs =
     let b = s .before .before .before .before .before .before .before .before .before .before .before in
     let i = b .before .before .before .before in
     let F = code-fits (mapOf _ _ (spanLists _ _ _)) _ _ _ _ _ (i .before .feed-code .ensures) (i .if1 .left) in
-    empty-ready (F .accepted)
+    empty-ready {l = resultLists _ _ _} (F .accepted)
     (s .search-within .ensures _ (list-ready _ F {l = resultLists _ _ _} (b .begin-search .ensures)))
 
 same-length : tie.Need-same-length

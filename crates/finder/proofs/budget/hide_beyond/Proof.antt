@@ -1,7 +1,7 @@
 -- `finder::budget::hide_beyond` meets its contract. Invariant: the words before p are rewritten, the others as at the
 -- start.
 use Prim.Native.Nat.{_-_, _<_, _≤_}
-use mathlib.Core.Path.{_≡_, refl, ap, _∙_}
+use mathlib.Core.Path.{_≡_, refl, _∙_}
 use native.Mathlib.Omega.{arith}
 use borrow.Author.Needs.{needs}
 use lib.ListN.{length, length-set}

@@ -1,11 +1,11 @@
 -- `finder::budget::search_within` meets its contract. The invariant: as many steps are made as places were visited, and
 -- the places taken are listed.
 use Prim.Native.Nat.{ℕ, _-_, _<_}
-use mathlib.Core.Path.{_≡_, refl, _∙_}
+use mathlib.Core.Path.{_≡_, refl}
 use native.Mathlib.Omega.{arith}
 use borrow.Author.Needs.{needs}
 use borrow.Author.Tests.{lt-ltb, le-ltb}
-use lib.ListN.{length, length-set}
+use lib.ListN.{length}
 use Rattle.paths.specs.Map.{spanLists, mapOf}
 use Rattle.paths.specs.Table.{upTo}
 use Rattle.paths.specs.Search.{beyond}
@@ -14,7 +14,7 @@ use Rattle.finder.specs.SearchState.{ListReady}
 use Rattle.finder.proofs.OwnSpans.{sorted}
 use Rattle.finder.proofs.Searching.{goes-below}
 use Rattle.finder.proofs.FirstWaiting.{
-  halts-empty,
+  none-halts,
   find-ready,
   first-in,
   first-read,
@@ -25,11 +25,6 @@ use Rattle.finder.proofs.FirstWaiting.{
 use Rattle.finder.proofs.Listing.{Lists, lists-begins, lists-more, lists-done}
 use Rattle.finder.proofs.budget.search_within.Statement.{statement}
 use Rattle.finder.proofs.budget.search_within.Tie as tie
-use Rattle.finder.proofs.budget.search_within.Reads as reads
-use Rattle.finder.proofs.budget.search_within.Lts as lts
-use Rattle.finder.proofs.visit.visit_next.Reads as visit-next-reads
-use Rattle.heap.proofs.insert.find_min.Reads as find-min-reads
-use Rattle.spans.proofs.index.index_spans.Reads as index-spans-reads
 
 abbrev Inv-loop : tie.InvT-loop
 Inv-loop places from to loss budget best₀ last₀ listed₀ store₀ index n go₀ best last listed store go =
@@ -162,7 +157,7 @@ loop-again c =
           let G =
           first-goes (l .before .index-spans .ensures) (L .stands) (t .if1 .taken) (f .find-min .ensures) w in
           lists-more L (first-taken (L .stands) (t .if1 .taken) (f .find-min .ensures) w) (goes-below G)
-          (v .visit-next .ensures _ _ G),
+          {l′ = resultLists _ _ _} (v .visit-next .ensures _ _ G),
       search needs,
       search needs,
       search needs,
@@ -184,7 +179,7 @@ same-length-8 c = search needs
 returns-2 : tie.Need-returns-2 Inv-loop μ-loop
 returns-2 c = λ s R.
     let L = c .before .before .loop .inv .0 s R in
-    lists-done _ L (halts-empty (L .stands) (c .if1 .left))
+    lists-done _ L (none-halts (L .stands) (c .if1 .left))
 
 pub search-within-spec : {M : Type 1} → statement M
 search-within-spec =

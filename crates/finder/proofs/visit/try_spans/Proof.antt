@@ -43,8 +43,8 @@ start c = c .before .before .before .before .before .before .before .before
 -- the walk at the loop's head, on the map that the caller has
 here : (c : tie.At-loop Inv-loop μ-loop) →
     let a = start c .args in
-    Walking (start c .pre .0) (start c .pre .1) (a .taken .visited) (a .u) (getD (a .index .now) (a .u + 1) 0) (c .loop .e)
-    (resultLists (c .loop .best) (c .loop .last) (c .loop .store)) (c .loop .go)
+    Walking (start c .pre .0) (start c .pre .1) (a .taken .visited) (a .u) (getD (a .index .now) (a .u + 1) 0)
+    (c .loop .e) (resultLists (c .loop .best) (c .loop .last) (c .loop .store)) (c .loop .go)
 here c = c .loop .inv .0 _ _ (start c .pre .2)
 
 add-end : tie.Need-add-end Inv-loop μ-loop
