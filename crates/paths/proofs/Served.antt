@@ -16,8 +16,23 @@ use Rattle.rules.specs.Theorems.{InRange}
 use Rattle.rules.proofs.EmptyForests.{getD-all, emptyWellFormed}
 use Rattle.rules.proofs.KeepsWellFormed.{keepsWellFormed}
 use Rattle.paths.specs.Map.{Map, fromOf, toOf, lossOf, IsSpan, Accepted}
+use Rattle.paths.specs.Table.{unlimited}
 use Rattle.paths.specs.Queue.{Queue, Stop, takes, next, noneWait}
-use Rattle.paths.specs.Search.{Search, Verdict, unmet, smaller, tie, worse, update, examine, begin, steps, never, search}
+use Rattle.paths.specs.Search.{
+  Search,
+  Verdict,
+  unmet,
+  smaller,
+  tie,
+  worse,
+  update,
+  examine,
+  begin,
+  steps,
+  never,
+  search,
+  find,
+}
 use Rattle.paths.specs.Theorems.{forestsAfter, ViewAgrees, TakesMinimum, AllDone, CallsDone, EndsEmpty}
 use Rattle.paths.proofs.Waiting.{next-takes}
 use Rattle.paths.proofs.Offers.{TryingOf, Case, at-unmet, at-smaller, sum-fits}
@@ -27,6 +42,7 @@ use Rattle.paths.proofs.Steps.{
   steps-between,
   steps-keep,
   moments-keep,
+  search-between,
 }
 use Rattle.paths.proofs.Table.{none-waits}
 use Rattle.paths.proofs.Log.{after-snoc, done-snoc}
@@ -136,16 +152,11 @@ takesMinimum stop m A k u e =
     let D = take-does stop m A k s B u e (steps-keep stop m A (ServedOf m) (served stop m A) k) in
     (D .which, D .told ∙ B .invariant .keyed u (next-takes stop (s .queue) u e .inside))
 
--- no place waits after k steps: their calls have left the forests empty
-pub none-left-empty : (stop : Stop) (m : Map) → Accepted m → (k : ℕ)
-    → ((q : ℕ) → getD ((steps stop m k) .queue .waits) q 0 ≡ 0) → forestsAfter m (steps stop m k) ≡ empty (m .places)
-none-left-empty stop m A k z =
-    let s : Search = steps stop m k in
-    let S = steps-keep stop m A (ServedOf m) (served stop m A) k in
-    all-free (forestsAfter m s) (m .places) (S .formed .disjoint)
-    (ap length (S .waits) ∙ steps-between stop m A k .invariant .waitsN)
-    (λ x. ap (λ l. getD l x 0) (S .waits) ∙ z x)
-
 pub endsEmpty : EndsEmpty
 unfolding search
-endsEmpty m A = none-left-empty never m A (m .places) (none-waits m A)
+endsEmpty m A =
+    let s : Search = find unlimited m in
+    let S = steps-keep never m A (ServedOf m) (served never m A) (m .places) in
+    let B = search-between never m A in
+    all-free (forestsAfter m s) (m .places) (S .formed .disjoint) (ap length (S .waits) ∙ B .invariant .waitsN)
+    (λ x. ap (λ l. getD l x 0) (S .waits) ∙ none-waits m A x)
