@@ -7,8 +7,8 @@ pub mod Visiting
 pub mod Beginning
 pub mod Searching
 pub mod Feeding
-pub mod Hiding
+pub mod HideBeyond
 pub mod FirstWaiting
-pub mod Listing
+pub mod ListTaken
 pub mod WaitsBeyond
 pub mod FeedingWithin

@@ -16,7 +16,7 @@ use Rattle.paths.specs.Search.{Search, beyond, find, hideWaiting, shownBest, sh
 use Rattle.paths.proofs.Hiding.{length-hide, hide-at}
 use Rattle.paths.proofs.Steps.{search-between}
 use Rattle.paths.proofs.Halting.{search-halted}
-use Rattle.finder.proofs.Hiding.{hidden, hidden-at}
+use Rattle.finder.proofs.HideBeyond.{hidden, hidden-at}
 
 module _ (budget : ℕ) (m : Map) (A : Accepted m) where
   abbrev s : Search

@@ -5,7 +5,7 @@ use mathlib.Core.Path.{_≡_, refl, _∙_}
 use native.Mathlib.Omega.{arith}
 use borrow.Author.Needs.{needs}
 use lib.ListN.{length, length-set}
-use Rattle.finder.proofs.Hiding.{written, hidden, hide-more, hide-all}
+use Rattle.finder.proofs.HideBeyond.{written, hidden, hide-more, hide-all}
 use Rattle.finder.proofs.budget.hide_beyond.Statement.{statement}
 use Rattle.finder.proofs.budget.hide_beyond.Tie as tie
 

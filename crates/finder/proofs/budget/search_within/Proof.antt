@@ -22,7 +22,7 @@ use Rattle.finder.proofs.FirstWaiting.{
   first-stops,
   first-goes,
 }
-use Rattle.finder.proofs.Listing.{Lists, lists-begins, lists-more, lists-done}
+use Rattle.finder.proofs.ListTaken.{ListsTaken, lists-begins, lists-more, lists-done}
 use Rattle.finder.proofs.budget.search_within.Statement.{statement}
 use Rattle.finder.proofs.budget.search_within.Tie as tie
 
@@ -30,7 +30,7 @@ abbrev Inv-loop : tie.InvT-loop
 Inv-loop places from to loss budget best₀ last₀ listed₀ store₀ index n go₀ best last listed store go =
     ((start : ℕ)
     → ListReady budget (mapOf places start (spanLists from to loss)) (resultLists best₀ last₀ store₀) listed₀ go₀
-    → Lists (beyond (upTo budget)) (mapOf places start (spanLists from to loss)) listed₀ (resultLists best last store)
+    → ListsTaken (beyond (upTo budget)) (mapOf places start (spanLists from to loss)) listed₀ (resultLists best last store)
     listed go)
     × (length best ≡ length best₀) × (length last ≡ length last₀) × (length listed ≡ length listed₀)
     × (length store ≡ length store₀)

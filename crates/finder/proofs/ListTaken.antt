@@ -26,7 +26,7 @@ overwrite-more lent words n u e h =
     ∙ rw (length-append words (u ∷ []), e, add-one))
 
 -- The places taken, as many as were visited, are written over the first words of the list that was lent.
-pub record Lists (stop : Stop) (m : Map) (lent : List ℕ) (l : ResultLists) (listed : List ℕ) (go : Progress)
+pub record ListsTaken (stop : Stop) (m : Map) (lent : List ℕ) (l : ResultLists) (listed : List ℕ) (go : Progress)
     : Type 0 where
   pub stands : Stands stop m l go
   pub room : m .places ≤ length lent
@@ -34,7 +34,7 @@ pub record Lists (stop : Stop) (m : Map) (lent : List ℕ) (l : ResultLists) (li
   pub listed-is : listed ≡ overwrite lent (takings stop m (go .visited))
 
 pub lists-begins : (budget : ℕ) {m : Map} {l : ResultLists} {listed : List ℕ} {go : Progress}
-    → ListReady budget m l listed go → Lists (beyond (upTo budget)) m listed l listed go
+    → ListReady budget m l listed go → ListsTaken (beyond (upTo budget)) m listed l listed go
 unfolding takings
 lists-begins budget R =
     record {
@@ -46,9 +46,9 @@ lists-begins budget R =
 
 -- the place that comes next is listed and visited
 pub lists-more : {stop : Stop} {m : Map} {lent : List ℕ} {l : ResultLists} {listed : List ℕ} {go : Progress}
-    → Lists stop m lent l listed go → {u : ℕ} → next stop ((steps stop m (go .visited)) .queue) ≡ takes u
+    → ListsTaken stop m lent l listed go → {u : ℕ} → next stop ((steps stop m (go .visited)) .queue) ≡ takes u
     → go .visited < m .places → {l′ : ResultLists} {r : Progress} → Visits stop m go l′ r
-    → Lists stop m lent l′ (set listed (go .visited) u) r
+    → ListsTaken stop m lent l′ (set listed (go .visited) u) r
 lists-more {stop} {m} {lent} {l} {listed} {go} L {u} n h {l′} {r} X =
     let places = takings stop m (go .visited) in
     let more : takings stop m (r .visited) ≡ places ++ (u ∷ []) =
@@ -63,7 +63,7 @@ lists-more {stop} {m} {lent} {l} {listed} {go} L {u} n h {l′} {r} X =
 
 -- nothing is left to take
 pub lists-done : (budget : ℕ) {m : Map} {lent : List ℕ} {l : ResultLists} {listed : List ℕ} {go : Progress}
-    → Lists (beyond (upTo budget)) m lent l listed go
+    → ListsTaken (beyond (upTo budget)) m lent l listed go
     → next (beyond (upTo budget)) ((steps (beyond (upTo budget)) m (go .visited)) .queue) ≡ halts
     → FoundListed budget m lent l listed go
 lists-done budget {m} {lent} {l} {listed} {go} L n =
