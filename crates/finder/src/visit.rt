@@ -1,5 +1,5 @@
-// A place is taken from the queue, and its spans are tried. The stopping rule and the map are no arguments: the contracts
-// hold for any rule, and for any map whose lists these are.
+// A place is taken from the queue, and its spans are tried. The stopping rule and the map are no arguments: the
+// contracts hold for any rule, and for any map whose lists these are.
 ghost use Rattle.paths.specs.Map.{Map};
 ghost use Rattle.paths.specs.Queue.{Stop};
 ghost use Rattle.paths.specs.Feed.{resultLists};
@@ -24,7 +24,8 @@ fn try_spans(
 ) -> Progress
     requires { ⌜ ((stop : Stop) × (m : Map) × Taken stop m (now index) (now to) (now loss) u d
         (resultLists (now best) (now last) (now store)) taken) ⌝ }
-    ensures { λ r. ⌜ ((stop : Stop) (m : Map) → Taken stop m (now (index .entry)) (now (to .entry)) (now (loss .entry)) u d
+    ensures { λ r. ⌜ ((stop : Stop) (m : Map)
+        → Taken stop m (now (index .entry)) (now (to .entry)) (now (loss .entry)) u d
         (resultLists (now (best .entry)) (now (last .entry)) (now (store .entry))) taken
         → Visits stop m taken (resultLists (now (best .exit)) (now (last .exit)) (now (store .exit))) r) ⌝ }
 {
@@ -53,7 +54,8 @@ pub fn visit_next(
 ) -> Progress
     requires { ⌜ ((stop : Stop) × (m : Map) × Goes stop m (now index) (now to) (now loss)
         (resultLists (now best) (now last) (now store)) go) ⌝ }
-    ensures { λ r. ⌜ ((stop : Stop) (m : Map) → Goes stop m (now (index .entry)) (now (to .entry)) (now (loss .entry))
+    ensures { λ r. ⌜ ((stop : Stop) (m : Map)
+        → Goes stop m (now (index .entry)) (now (to .entry)) (now (loss .entry))
         (resultLists (now (best .entry)) (now (last .entry)) (now (store .entry))) go
         → Visits stop m go (resultLists (now (best .exit)) (now (last .exit)) (now (store .exit))) r) ⌝ }
 {

@@ -72,7 +72,8 @@ steps-same m A (suc k) =
         (omega (
           arith,
           I .keyed u w,
-          met-small m A (B .lastTaken) (B .reach) (s .queue .waits) (s .queue .key) (s .best) (s .last) I u (I .met u w),
+          met-small m A (B .lastTaken) (B .reach) (s .queue .waits) (s .queue .key) (s .best) (s .last) I u
+              (I .met u w),
         ))
 
     go : (x : NextPlace) → next never (s .queue) ≡ x → stopped (beyond (upTo none)) (s .queue .key) x ≡ x

@@ -11,7 +11,23 @@ use Rattle.rules.proofs.Occurs.{occurs-append, occurs-nil, occurs-one, delta-ot
 use Rattle.paths.specs.Map.{Map, toOf, lossOf, Accepted}
 use Rattle.paths.specs.Table.{Ascending}
 use Rattle.paths.specs.Queue.{Stop, NextPlace, halts, takes, next}
-use Rattle.paths.specs.Search.{Search, update, examine, extracted, visit, step, begin, steps, beyond, search, find, bestAt, shownBest, takenBy, takings}
+use Rattle.paths.specs.Search.{
+  Search,
+  update,
+  examine,
+  extracted,
+  visit,
+  step,
+  begin,
+  steps,
+  beyond,
+  search,
+  find,
+  bestAt,
+  shownBest,
+  takenBy,
+  takings,
+}
 use Rattle.paths.specs.Theorems.{FinderListing}
 use Rattle.paths.proofs.Waiting.{next-takes}
 use Rattle.paths.proofs.Hiding.{hide-at}

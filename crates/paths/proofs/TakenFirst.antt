@@ -14,7 +14,19 @@ use Rattle.rules.proofs.Occurs.{byItem}
 use Rattle.rules.proofs.Order.{precedes-is}
 use Rattle.paths.specs.Map.{Map, fromOf, toOf, lossOf, IsSpan, Accepted}
 use Rattle.paths.specs.Queue.{Stop, takes, next}
-use Rattle.paths.specs.Search.{Search, Verdict, unmet, smaller, tie, worse, update, examine, extracted, begin, bestAt}
+use Rattle.paths.specs.Search.{
+  Search,
+  Verdict,
+  unmet,
+  smaller,
+  tie,
+  worse,
+  update,
+  examine,
+  extracted,
+  begin,
+  bestAt,
+}
 use Rattle.paths.proofs.Waiting.{TakesNext, word-in, next-takes, waits-below}
 use Rattle.paths.proofs.Invariant.{Waits, Met, Settled}
 use Rattle.paths.proofs.Begin.{none-settled}

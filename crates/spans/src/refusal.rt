@@ -84,8 +84,8 @@ fn first_code(code: u32, next: u32) -> u32
     code
 }
 
-// The first condition that a feed call meets, by its code, or 0; best, last, listed and store are the lengths of what is
-// lent.
+// The first condition that a feed call meets, by its code, or 0; best, last, listed and store are the lengths of what
+// is lent.
 pub fn feed_code(
     places: u32,
     start: u32,

@@ -30,8 +30,8 @@ abbrev Inv-loop : tie.InvT-loop
 Inv-loop places from to loss budget best₀ last₀ listed₀ store₀ index n go₀ best last listed store go =
     ((start : ℕ)
     → ListReady budget (mapOf places start (spanLists from to loss)) (resultLists best₀ last₀ store₀) listed₀ go₀
-    → ListsTaken (beyond (upTo budget)) (mapOf places start (spanLists from to loss)) listed₀ (resultLists best last store)
-    listed go)
+    → ListsTaken (beyond (upTo budget)) (mapOf places start (spanLists from to loss)) listed₀
+    (resultLists best last store) listed go)
     × (length best ≡ length best₀) × (length last ≡ length last₀) × (length listed ≡ length listed₀)
     × (length store ≡ length store₀)
 

@@ -27,7 +27,8 @@ returns-2 c =
 
 returns-3 : tie.Need-returns-3
 returns-3 c =
-    code-start (mapOf _ _ (spanLists _ _ _)) _ _ _ _ (c .before .before .if1 .left) (c .before .if2 .left) (c .if3 .taken)
+    code-start (mapOf _ _ (spanLists _ _ _)) _ _ _ _ (c .before .before .if1 .left) (c .before .if2 .left)
+    (c .if3 .taken)
 
 returns-4 : tie.Need-returns-4
 returns-4 c =
@@ -53,7 +54,8 @@ returns-7 c =
 
 returns-8 : tie.Need-returns-8
 returns-8 c =
-    code-last (mapOf _ _ (spanLists _ _ _)) _ _ _ _ (c .before .before .before .before .before .before .before .if1 .left)
+    code-last (mapOf _ _ (spanLists _ _ _)) _ _ _ _
+    (c .before .before .before .before .before .before .before .if1 .left)
     (c .before .before .before .before .before .before .if2 .left)
     (c .before .before .before .before .before .if3 .left) (c .before .before .before .before .if4 .left)
     (c .before .before .before .if5 .left) (c .before .before .if6 .left) (c .before .if7 .left) (c .if8 .taken)
