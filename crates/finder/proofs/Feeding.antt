@@ -67,6 +67,7 @@ module _ (limit : Limit) (m : Map) (lent : ResultLists) where
         examined-refused = λ n. absurd (n refl);
       }
 
+-- code 0: the map is accepted, and what was lent has the right sizes
 pub code-fits : (m : Map) (bestN lastN listedN storeN code : ℕ) → code ≡ feedCode m bestN lastN listedN storeN
     → code ≡ 0 → Fits m bestN lastN listedN storeN
 code-fits m bestN lastN listedN storeN code is z = codeZero .only m bestN lastN listedN storeN (sym is ∙ z)

@@ -22,6 +22,7 @@ use Rattle.finder.proofs.Beginning.{begun-stands}
 use Rattle.finder.proofs.Feeding.{refusedFed, doneFed, fed-refused, fed-done, code-fits}
 use Rattle.finder.proofs.WaitsBeyond.{hidden-best, hidden-last}
 
+-- the search begins with no place listed
 pub list-ready : (budget : ℕ) {places start : ℕ} {lists : SpanLists} {bestN lastN storeN : ℕ} {listed : List ℕ}
     → Fits (mapOf places start lists) bestN lastN (length listed) storeN → {l : ResultLists} {r : Progress}
     → Begun places start l r → ListReady budget (mapOf places start lists) l listed r

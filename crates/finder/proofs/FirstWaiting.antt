@@ -40,7 +40,7 @@ module _ {stop : Stop} {m : Map} {l : ResultLists} {go : Progress} (S : Stands s
   bestN : length (l .best) ≡ m .places
   bestN = ap length (S .tracks .best-is) ∙ steps-between stop m (S .accepted) (go .visited) .invariant .bestN
 
-  -- none waits
+  -- none waits: any rule halts
   pub none-halts : go .met ≤ go .visited → next stop (s .queue) ≡ halts
   none-halts h = next-stopped stop (s .queue) ∙ ap (stopped stop (s .queue .key)) (none-left S h)
 
@@ -71,6 +71,7 @@ module _ {stop : Stop} {m : Map} {l : ResultLists} {go : Progress} (S : Stands s
       pub first-read : u < length (l .best)
       first-read = rw bestN first-in
 
+      -- by the key that it waits with, which is its loss
       next-is : next stop (s .queue) ≡ cond (stop (getD (l .best) u 0)) halts (takes u)
       next-is =
           let n = some-waits S h .1 in
@@ -86,7 +87,7 @@ module _ {stop : Stop} {m : Map} {l : ResultLists} {go : Progress} (S : Stands s
       pub first-stops : stop (getD (l .best) u 0) ≡ true → next stop (s .queue) ≡ halts
       first-stops e = next-is ∙ rw e
 
--- the first place that waits is visited: the map has these lists
+-- it may be visited, on the map that has these lists
 pub first-goes : {stop : Stop} {places start : ℕ} {lists : SpanLists} {index : List ℕ} {l : ResultLists} {go : Progress}
     → IsIndex places (lists .from) index → (S : Stands stop (mapOf places start lists) l go) (h : go .visited < go .met)
     → {u : ℕ} → u ≡ minimum (forestsOf (l .store)) 0 → stop (getD (l .best) u 0) ≡ false

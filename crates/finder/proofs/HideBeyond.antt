@@ -18,6 +18,7 @@ use Rattle.finder.specs.Hidden.{beyondBudget}
 abbrev pub written : List ℕ → List ℕ → ℕ → List ℕ
 written new old p = take p new ++ drop p old
 
+-- word p is still to be written, and may then be
 written-at : (new old : List ℕ) (p : ℕ) → length new ≡ length old → p < length old
     → getD (written new old p) p 0 ≡ getD old p 0
 written-at new [] p q h = absurd (omega arith)
@@ -37,6 +38,7 @@ module _ (budget : ℕ) where
   abbrev pub hidden : List ℕ → List ℕ → List ℕ
   hidden best words = hideWaiting (beyondBudget budget best) words
 
+  -- word by word
   pub hidden-at : (d : ℕ) (best words : List ℕ) (p : ℕ) → p < length best → p < length words
       → getD (hidden best words) p d ≡ cond (ltb budget (getD best p d)) none (getD words p d)
   unfolding hideWaiting

@@ -31,6 +31,7 @@ logged-ready stop m A s M L =
       room = record { links = omega (arith, low, L .links); cuts = omega (arith, low, L .cuts) };
     }
 
+-- the forests have as many items as the search has places
 pub logged-sized : (stop : Stop) (m : Map) → Accepted m → (k : ℕ) {store : List ℕ} {t : Tally}
     → Logged (m .places) ((steps stop m k) .calls) store t → Sized (m .places) store
 logged-sized stop m A k L =

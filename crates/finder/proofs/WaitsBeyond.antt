@@ -25,7 +25,7 @@ module _ (budget : ℕ) (m : Map) (A : Accepted m) where
   bestN : length (s .best) ≡ m .places
   bestN = search-between (beyond (upTo budget)) m A .invariant .bestN
 
-  -- A place that is not met has no word to hide.
+  -- A place beyond the budget waits or is not met, and one that is not met has no word to hide.
   same-word : (p x : ℕ) → (bestAt s p ≡ none → x ≡ none)
       → cond (ltb budget (bestAt s p)) none x ≡ cond (eqb (getD (s .queue .waits) p 0) 0) x none
   same-word p x f = go (ltb budget (bestAt s p)) refl (eqb (getD (s .queue .waits) p 0) 0) refl
@@ -51,6 +51,7 @@ module _ (budget : ℕ) (m : Map) (A : Accepted m) where
           (search-halted (upTo budget) m A .out p (eqb-false (getD (s .queue .waits) p 0) 0 z)
           (ltb-false budget (bestAt s p) b))
 
+  -- so to hide words by the losses beside them is to hide those of the places that wait
   hidden-waiting : (words : List ℕ) → length words ≡ m .places
       → ((p : ℕ) → bestAt s p ≡ none → getD words p none ≡ none)
       → hidden budget (s .best) words ≡ hideWaiting (s .queue .waits) words
