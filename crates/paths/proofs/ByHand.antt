@@ -37,6 +37,8 @@ use Rattle.paths.specs.ByHand.{
   equalMap,
   unreachedMap,
   budgetRows,
+  starMap,
+  starLinks,
   onTwo,
   refusedTwo,
   WorkedMaps,
@@ -44,10 +46,10 @@ use Rattle.paths.specs.ByHand.{
 
 pub workedMaps : WorkedMaps
 unfolding ninesThree onThree doneThree refusedThree paperMap tieMap refusedMaps onFour doneFour equalMap unreachedMap
-    budgetRows onTwo refusedTwo budgetResult budgetAs feedResult feedAs hideWaiting takings linksOf cutsOf feedCode
-    storeSize codeBelow spanCode previous fault search steps begin step visit tried try offer update judge next nextOf
-    waiting answers answer unlessRefused refused refusal isEmpty perform decreaseKey hasParent extract
+    budgetRows starMap starLinks onTwo refusedTwo budgetResult budgetAs feedResult feedAs hideWaiting takings linksOf
+    cutsOf feedCode storeSize codeBelow spanCode previous fault search steps begin step visit tried try offer update
+    judge next nextOf waiting answers answer unlessRefused refused refusal isEmpty perform decreaseKey hasParent extract
     removeRoot setFree release insert consolidate consolidateWithin occupied linkTrees climb isFree link cutIf
     cutOut cutWithin cascadingCut nodeKind cut minimum leastIn leastOf comesBefore setAll without sumBy
 workedMaps =
-    record { calls = refl; paper = refl; tie = refl; refusals = refl; budgets = refl; placeList = refl }
+    record { calls = refl; paper = refl; tie = refl; refusals = refl; budgets = refl; links = refl; placeList = refl }

@@ -17,7 +17,7 @@ use Rattle.paths.specs.Table.{
   Limit,
   unlimited,
   upTo,
-  Within,
+  WithinLimit,
   Reached,
   Entry,
   atStart,
@@ -30,11 +30,11 @@ use Rattle.paths.proofs.Invariant.{Waits, Met, Settled, Invariant}
 
 -- A search has halted by a limit: what waits is beyond it, and what is settled is within.
 pub record Halted (limit : Limit) (waits best : List ℕ) : Type 0 where
-  pub out : (q : ℕ) → Waits waits q → Within limit (getD best q none) → ⊥
-  pub inside : (q : ℕ) → Settled waits best q → Within limit (getD best q none)
+  pub out : (q : ℕ) → Waits waits q → WithinLimit limit (getD best q none) → ⊥
+  pub inside : (q : ℕ) → Settled waits best q → WithinLimit limit (getD best q none)
 
 -- a loss within a limit is smaller than one beyond it
-apart : (limit : Limit) (x y : ℕ) → Within limit x → (Within limit y → ⊥) → x < y
+apart : (limit : Limit) (x y : ℕ) → WithinLimit limit x → (WithinLimit limit y → ⊥) → x < y
 apart unlimited x y i o = absurd (o tt)
 apart (upTo b) x y i o = go (leb y b) refl
   where
@@ -148,7 +148,7 @@ module _
               (omega (arith, cheapest (f ∷ c) (L .leads), L .least (e ∷ t .chain) leads, has));
         }
 
-    final : (limit : Limit) → Within limit (getD best p none) → Met best p
+    final : (limit : Limit) → WithinLimit limit (getD best p none) → Met best p
         → Entry limit m p (getD best p none) (getD last p none)
     final limit i a = go (eqb p (m .start)) refl
       where
@@ -160,10 +160,10 @@ module _
 
   -- The search has halted by a limit: a chain within it leads to a settled place, and what is shown there is final.
   module _ (limit : Limit) (H : Halted limit waits best) (p : ℕ) where
-    above : (b : ℕ) → Within limit b → (q : ℕ) → Waits waits q → b < getD best q none
+    above : (b : ℕ) → WithinLimit limit b → (q : ℕ) → Waits waits q → b < getD best q none
     above b i q w = apart limit b (getD best q none) i (H .out q w)
 
-    pub leads-settled : (c : List ℕ) → Chain m c p → Within limit (chainLoss m c) → Settled waits best p
+    pub leads-settled : (c : List ℕ) → Chain m c p → WithinLimit limit (chainLoss m c) → Settled waits best p
     leads-settled c h i = covers (chainLoss m c) (above (chainLoss m c) i) c p h (le-refl _) .is
 
     pub entryShown : Entry limit m p (getD (hideWaiting waits best) p none) (getD (hideWaiting waits last) p none)

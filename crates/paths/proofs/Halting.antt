@@ -7,7 +7,7 @@ use lib.Seq.{getD-set-other}
 use borrow.Author.Tests.{ltb-true, ltb-false}
 use Rattle.rules.proofs.Occurs.{byItem}
 use Rattle.paths.specs.Map.{Map, Accepted}
-use Rattle.paths.specs.Table.{Limit, unlimited, upTo, Within}
+use Rattle.paths.specs.Table.{Limit, unlimited, upTo, WithinLimit}
 use Rattle.paths.specs.Queue.{Stop}
 use Rattle.paths.specs.Search.{Search, begin, beyond, search, find, bestAt}
 use Rattle.paths.proofs.Waiting.{next-takes, next-halts}
@@ -42,11 +42,11 @@ passed stop m A =
     }
 
 -- where the rule stops, no larger loss is within
-stopped-out : (limit : Limit) (x y : ℕ) → beyond limit x ≡ true → x ≤ y → Within limit y → ⊥
+stopped-out : (limit : Limit) (x y : ℕ) → beyond limit x ≡ true → x ≤ y → WithinLimit limit y → ⊥
 stopped-out unlimited x y e h i = true≢false (sym e)
 stopped-out (upTo b) x y e h i = omega (arith, ltb-true b x e)
 
-passed-within : (limit : Limit) (l : ℕ) → beyond limit l ≡ false → Within limit l
+passed-within : (limit : Limit) (l : ℕ) → beyond limit l ≡ false → WithinLimit limit l
 passed-within unlimited l e = tt
 passed-within (upTo b) l e = ltb-false b l e
 

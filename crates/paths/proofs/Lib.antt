@@ -17,7 +17,7 @@ pub mod Chains
 pub mod Settling
 pub mod Halting
 pub mod Table
-pub mod Within
+pub mod BudgetTable
 pub mod Ascending
 pub mod Calls
 pub mod AllFree

@@ -13,7 +13,7 @@ use Rattle.paths.specs.Table.{
   Limit,
   unlimited,
   upTo,
-  Within,
+  WithinLimit,
   Reached,
   Entry,
   atStart,
@@ -47,7 +47,7 @@ finderTable limit m A =
     }
 
 -- the start has the chain of no span, which is within any limit
-pub start-within : (limit : Limit) (m : Map) → Within limit (chainLoss m [])
+pub start-within : (limit : Limit) (m : Map) → WithinLimit limit (chainLoss m [])
 unfolding chainLoss sumBy
 start-within unlimited m = tt
 start-within (upTo b) m = omega arith

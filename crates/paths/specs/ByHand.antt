@@ -9,9 +9,9 @@ use Rattle.rules.specs.declared.Line.the-variants.{Yields}
 use Rattle.rules.specs.Forests.{none, empty}
 use Rattle.rules.specs.Words.{storeSize, encode}
 use Rattle.paths.specs.Map.{Map, spanLists, noSpans, mapOf}
-use Rattle.paths.specs.Table.{unlimited}
+use Rattle.paths.specs.Table.{unlimited, upTo}
 use Rattle.paths.specs.Search.{find}
-use Rattle.paths.specs.Feed.{ResultLists, resultLists, Feed, feedResult, BudgetFeed, budgetResult}
+use Rattle.paths.specs.Feed.{linksOf, ResultLists, resultLists, Feed, feedResult, BudgetFeed, budgetResult}
 
 -- result lists and a store for three places, all full of nines, and a feed call that is lent them
 unfoldable pub ninesThree : ResultLists
@@ -61,8 +61,8 @@ pub record BudgetRow : Type 0 where
   pub best : List ℕ
   pub last : List ℕ
 
-abbrev pub row : Map → ℕ → List ℕ → ℕ → List ℕ → List ℕ → BudgetRow
-row map budget places examined best last =
+abbrev pub budgetRow : Map → ℕ → List ℕ → ℕ → List ℕ → List ℕ → BudgetRow
+budgetRow map budget places examined best last =
     record { map = map; budget = budget; places = places; examined = examined; best = best; last = last }
 
 unfoldable pub onFour : BudgetRow → BudgetFeed
@@ -86,16 +86,16 @@ unreachedMap = mapOf 3 0 (spanLists (0 ∷ []) (1 ∷ []) (7 ∷ []))
 
 unfoldable pub budgetRows : List BudgetRow
 budgetRows =
-    row paperMap 0 (0 ∷ []) 2 (0 ∷ none ∷ none ∷ []) (none ∷ none ∷ none ∷ [])
-    ∷ row paperMap 6 (0 ∷ []) 2 (0 ∷ none ∷ none ∷ []) (none ∷ none ∷ none ∷ [])
-    ∷ row paperMap 7 (0 ∷ 1 ∷ []) 3 (0 ∷ 7 ∷ none ∷ []) (none ∷ 0 ∷ none ∷ [])
-    ∷ row paperMap 11 (0 ∷ 1 ∷ []) 3 (0 ∷ 7 ∷ none ∷ []) (none ∷ 0 ∷ none ∷ [])
-    ∷ row paperMap 12 (0 ∷ 1 ∷ 2 ∷ []) 3 (0 ∷ 7 ∷ 12 ∷ []) (none ∷ 0 ∷ 2 ∷ [])
-    ∷ row paperMap 4294967295 (0 ∷ 1 ∷ 2 ∷ []) 3 (0 ∷ 7 ∷ 12 ∷ []) (none ∷ 0 ∷ 2 ∷ [])
-    ∷ row tieMap 2 (2 ∷ 0 ∷ 1 ∷ []) 3 (1 ∷ 2 ∷ 0 ∷ []) (1 ∷ 0 ∷ none ∷ [])
-    ∷ row equalMap 4 (0 ∷ []) 2 (0 ∷ none ∷ none ∷ []) (none ∷ none ∷ none ∷ [])
-    ∷ row equalMap 5 (0 ∷ 1 ∷ 2 ∷ []) 2 (0 ∷ 5 ∷ 5 ∷ []) (none ∷ 1 ∷ 0 ∷ [])
-    ∷ row unreachedMap 4294967295 (0 ∷ 1 ∷ []) 1 (0 ∷ 7 ∷ none ∷ []) (none ∷ 0 ∷ none ∷ [])
+    budgetRow paperMap 0 (0 ∷ []) 2 (0 ∷ none ∷ none ∷ []) (none ∷ none ∷ none ∷ [])
+    ∷ budgetRow paperMap 6 (0 ∷ []) 2 (0 ∷ none ∷ none ∷ []) (none ∷ none ∷ none ∷ [])
+    ∷ budgetRow paperMap 7 (0 ∷ 1 ∷ []) 3 (0 ∷ 7 ∷ none ∷ []) (none ∷ 0 ∷ none ∷ [])
+    ∷ budgetRow paperMap 11 (0 ∷ 1 ∷ []) 3 (0 ∷ 7 ∷ none ∷ []) (none ∷ 0 ∷ none ∷ [])
+    ∷ budgetRow paperMap 12 (0 ∷ 1 ∷ 2 ∷ []) 3 (0 ∷ 7 ∷ 12 ∷ []) (none ∷ 0 ∷ 2 ∷ [])
+    ∷ budgetRow paperMap 4294967295 (0 ∷ 1 ∷ 2 ∷ []) 3 (0 ∷ 7 ∷ 12 ∷ []) (none ∷ 0 ∷ 2 ∷ [])
+    ∷ budgetRow tieMap 2 (2 ∷ 0 ∷ 1 ∷ []) 3 (1 ∷ 2 ∷ 0 ∷ []) (1 ∷ 0 ∷ none ∷ [])
+    ∷ budgetRow equalMap 4 (0 ∷ []) 2 (0 ∷ none ∷ none ∷ []) (none ∷ none ∷ none ∷ [])
+    ∷ budgetRow equalMap 5 (0 ∷ 1 ∷ 2 ∷ []) 2 (0 ∷ 5 ∷ 5 ∷ []) (none ∷ 1 ∷ 0 ∷ [])
+    ∷ budgetRow unreachedMap 4294967295 (0 ∷ 1 ∷ []) 1 (0 ∷ 7 ∷ none ∷ []) (none ∷ 0 ∷ none ∷ [])
     ∷ []
 
 -- A place list of two words is refused before the spans are tested, with all that was lent unchanged.
@@ -104,6 +104,14 @@ onTwo m = budgetResult 0 m ninesThree (replicate 2 9)
 
 unfoldable pub refusedTwo : ℕ → BudgetFeed
 refusedTwo code = record { feed = refusedThree code; number = 0; listed = replicate 2 9 }
+
+-- Three places wait once the start is visited: the taking of the first links the others, and a budget of 0 halts before
+-- it.
+unfoldable pub starMap : Map
+starMap = mapOf 4 0 (spanLists (0 ∷ 0 ∷ 0 ∷ []) (1 ∷ 2 ∷ 3 ∷ []) (1 ∷ 2 ∷ 3 ∷ []))
+
+unfoldable pub starLinks : ℕ → ℕ
+starLinks budget = linksOf 4 ((find (upTo budget) starMap) .calls)
 
 -- ---- the results
 
@@ -116,4 +124,5 @@ pub record WorkedMaps : Type 0 where
   pub tie : onThree tieMap ≡ doneThree 0 0 3 (1 ∷ 2 ∷ 0 ∷ []) (1 ∷ 0 ∷ none ∷ [])
   pub refusals : map onThree refusedMaps ≡ map refusedThree (14 ∷ 15 ∷ 16 ∷ 17 ∷ 18 ∷ 19 ∷ 20 ∷ [])
   pub budgets : map onFour budgetRows ≡ map doneFour budgetRows
+  pub links : map starLinks (0 ∷ 1 ∷ 2 ∷ 3 ∷ []) ≡ 0 ∷ 1 ∷ 1 ∷ 1 ∷ []
   pub placeList : map onTwo refusedMaps ≡ map refusedTwo (14 ∷ 15 ∷ 16 ∷ 17 ∷ 22 ∷ 22 ∷ 22 ∷ [])

@@ -20,9 +20,9 @@ pub data Limit : Type 0 where
   unlimited : Limit
   upTo : ℕ → Limit
 
-abbrev pub Within : Limit → ℕ → Type 0
-Within unlimited l = Unit {0}
-Within (upTo budget) l = l ≤ budget
+abbrev pub WithinLimit : Limit → ℕ → Type 0
+WithinLimit unlimited l = Unit {0}
+WithinLimit (upTo budget) l = l ≤ budget
 
 -- The loss of a least chain to p is l, and e is the lowest-numbered span that ends one.
 pub record Reached (m : Map) (p l e : ℕ) : Type 0 where
@@ -34,8 +34,8 @@ pub record Reached (m : Map) (p l e : ℕ) : Type 0 where
 -- The loss l and the span e are shown at p: 0 and none at the start, none and none where no chain is within the limit.
 pub data Entry (limit : Limit) (m : Map) (p l e : ℕ) : Type 0 where
   atStart : p ≡ m .start → l ≡ 0 → e ≡ none → Entry limit m p l e
-  reached : p ≢ m .start → Reached m p l e → Within limit l → Entry limit m p l e
-  unreached : ((c : List ℕ) → Chain m c p → Within limit (chainLoss m c) → ⊥) → l ≡ none → e ≡ none
+  reached : p ≢ m .start → Reached m p l e → WithinLimit limit l → Entry limit m p l e
+  unreached : ((c : List ℕ) → Chain m c p → WithinLimit limit (chainLoss m c) → ⊥) → l ≡ none → e ≡ none
       → Entry limit m p l e
 
 -- The two lists, of one word per place, are the table of m under the limit; without one they are the full table.

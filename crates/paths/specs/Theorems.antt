@@ -16,7 +16,7 @@ use Rattle.rules.specs.Fibonacci.{R}
 use Rattle.rules.specs.Words.{storeSize, encode}
 use Rattle.paths.specs.Map.{Map, spans, fromOf, Accepted}
 use Rattle.paths.specs.Chains.{Chain, chainLoss}
-use Rattle.paths.specs.Table.{Limit, unlimited, upTo, Within, Table, isReached, Listing}
+use Rattle.paths.specs.Table.{Limit, unlimited, upTo, WithinLimit, Table, isReached, Listing}
 use Rattle.paths.specs.Queue.{Stop, halts, takes, next}
 use Rattle.paths.specs.Search.{
   Search,
@@ -50,7 +50,7 @@ TableUnique =
 abbrev pub NoneUnreached : Type 0
 NoneUnreached =
     (limit : Limit) (m : Map) → Accepted m → (best last : List ℕ) → Table limit m best last → (p : ℕ) (c : List ℕ)
-    → Chain m c p → Within limit (chainLoss m c) → getD best p none < none
+    → Chain m c p → WithinLimit limit (chainLoss m c) → getD best p none < none
 
 -- The table under a budget is the full table where the loss is at most the budget, and none elsewhere.
 abbrev pub BudgetTable : Type 0
@@ -73,9 +73,9 @@ ListingUnique = (best listed listed′ : List ℕ) → Listing best listed → L
 -- A place is listed exactly if a chain within the limit leads to it.
 pub record ListedExactly : Type 0 where
   pub listed : (limit : Limit) (m : Map) → Accepted m → (best last places : List ℕ) → Table limit m best last
-      → Listing best places → (p : ℕ) (c : List ℕ) → Chain m c p → Within limit (chainLoss m c) → occurs p places ≡ 1
+      → Listing best places → (p : ℕ) (c : List ℕ) → Chain m c p → WithinLimit limit (chainLoss m c) → occurs p places ≡ 1
   pub only : (limit : Limit) (m : Map) (best last places : List ℕ) → Table limit m best last → Listing best places
-      → (p : ℕ) → 1 ≤ occurs p places → (c : List ℕ) × Chain m c p × Within limit (chainLoss m c)
+      → (p : ℕ) → 1 ≤ occurs p places → (c : List ℕ) × Chain m c p × WithinLimit limit (chainLoss m c)
 
 -- ---- the queue
 

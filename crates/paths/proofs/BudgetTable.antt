@@ -11,7 +11,7 @@ use borrow.Author.Tests.{ne-eqb, leb-true, le-leb}
 use Rattle.rules.specs.Forests.{none}
 use Rattle.paths.specs.Map.{Map}
 use Rattle.paths.specs.Chains.{Chain, chainLoss}
-use Rattle.paths.specs.Table.{Limit, unlimited, upTo, Within, Entry, atStart, reached, unreached, isReached}
+use Rattle.paths.specs.Table.{Limit, unlimited, upTo, WithinLimit, Entry, atStart, reached, unreached, isReached}
 use Rattle.paths.specs.Theorems.{BudgetTable, ListedExactly}
 use Rattle.paths.proofs.Waiting.{word-in}
 use Rattle.paths.proofs.Table.{start-within, reached-one, noneUnreached}
@@ -62,7 +62,7 @@ reached-is l h e = omega (arith, rw e at h)
 
 -- an entry that shows a loss has a chain within the limit
 entry-chain : (limit : Limit) (m : Map) (p l e : ℕ) → l ≢ none → Entry limit m p l e
-    → (c : List ℕ) × Chain m c p × Within limit (chainLoss m c)
+    → (c : List ℕ) × Chain m c p × WithinLimit limit (chainLoss m c)
 entry-chain limit m p l e n (atStart a x y) = ([], a, start-within limit m)
 entry-chain limit m p l e n (reached o R i) = (e ∷ R .before, R .least .leads, rw (R .loss) i)
 entry-chain limit m p l e n (unreached f x y) = absurd (n x)
