@@ -4,3 +4,4 @@ pub mod Parsing
 pub mod LineAt
 pub mod LineFound
 pub mod Printed
+pub mod ByHand

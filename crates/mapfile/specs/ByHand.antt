@@ -3,6 +3,7 @@ use Prim.Native.Nat.{ℕ}
 use mathlib.Core.Path.{_≡_}
 use mathlib.Core.List.{List, [], _∷_, _++_, map}
 use lib.ListN.{replicate}
+use Rattle.text.specs.ByHand.{zeros}
 use Rattle.paths.specs.Map.{spanLists, noSpans}
 use Rattle.mapfile.specs.Read.{Reading, refusedReading, readMap}
 
@@ -12,15 +13,21 @@ paperText =
     (51 ∷ 44 ∷ 48 ∷ 10 ∷ []) ++ (48 ∷ 44 ∷ 49 ∷ 44 ∷ 55 ∷ 10 ∷ []) ++ (48 ∷ 44 ∷ 50 ∷ 44 ∷ 50 ∷ 48 ∷ 10 ∷ [])
     ++ (49 ∷ 44 ∷ 50 ∷ 44 ∷ 53 ∷ 10 ∷ [])
 
+-- the same map with zeros before its numbers: `03,00` `0,1,0000000007` `00,2,020` `1,02,5`
+unfoldable pub paddedText : List ℕ
+paddedText =
+    (48 ∷ 51 ∷ 44 ∷ 48 ∷ 48 ∷ 10 ∷ []) ++ (48 ∷ 44 ∷ 49 ∷ 44 ∷ zeros 9 ++ 55 ∷ 10 ∷ [])
+    ++ (48 ∷ 48 ∷ 44 ∷ 50 ∷ 44 ∷ 48 ∷ 50 ∷ 48 ∷ 10 ∷ []) ++ (49 ∷ 44 ∷ 48 ∷ 50 ∷ 44 ∷ 53 ∷ 10 ∷ [])
+
 -- read into lists of n words, all nines
 unfoldable pub readOnto : ℕ → List ℕ → Reading
 readOnto n text = readMap text (spanLists (replicate n 9) (replicate n 9) (replicate n 9))
 
--- nothing; `3,0` and an empty line; `3,0` and `0,1`; `3`; `3,0` with CR
+-- nothing; `3,0` and an empty line; `3,0` and `0,1`; `3`; `3,0` with CR; `3,00000000000` with eleven zeros
 unfoldable pub malformed : List (List ℕ)
 malformed =
     [] ∷ (51 ∷ 44 ∷ 48 ∷ 10 ∷ 10 ∷ []) ∷ (51 ∷ 44 ∷ 48 ∷ 10 ∷ 48 ∷ 44 ∷ 49 ∷ []) ∷ (51 ∷ []) ∷
-    (51 ∷ 44 ∷ 48 ∷ 13 ∷ 10 ∷ []) ∷ []
+    (51 ∷ 44 ∷ 48 ∷ 13 ∷ 10 ∷ []) ∷ (51 ∷ 44 ∷ zeros 11) ∷ []
 
 pub record WorkedTexts : Type 0 where
   -- a fourth word is left as it was
@@ -30,10 +37,11 @@ pub record WorkedTexts : Type 0 where
         answer = record { code = 0; places = 3; start = 0; spans = 3 };
         left = spanLists (0 ∷ 0 ∷ 1 ∷ 9 ∷ []) (1 ∷ 2 ∷ 2 ∷ 9 ∷ []) (7 ∷ 20 ∷ 5 ∷ 9 ∷ []);
       }
+  pub padded : readOnto 4 paddedText ≡ readOnto 4 paperText
   -- no room for the third span
   pub short : readOnto 2 paperText ≡ refusedReading 16 (spanLists (9 ∷ 9 ∷ []) (9 ∷ 9 ∷ []) (9 ∷ 9 ∷ []))
   pub uneven :
       readMap paperText (spanLists (9 ∷ 9 ∷ 9 ∷ []) (9 ∷ []) (9 ∷ 9 ∷ 9 ∷ []))
       ≡ refusedReading 16 (spanLists (9 ∷ 9 ∷ 9 ∷ []) (9 ∷ []) (9 ∷ 9 ∷ 9 ∷ []))
   -- 21 comes before 16
-  pub refusals : map (readOnto 0) malformed ≡ replicate 5 (refusedReading 21 noSpans)
+  pub refusals : map (readOnto 0) malformed ≡ replicate 6 (refusedReading 21 noSpans)

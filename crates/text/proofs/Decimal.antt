@@ -11,7 +11,7 @@ use lib.Dec.{ltb}
 use borrow.Author.Tests.{lt-ltb, le-ltb}
 use Rattle.text.specs.Numbers.{valueFrom}
 use Rattle.text.specs.Decimal.{digitsOf, decimal}
-use Rattle.text.specs.Laws.{DecimalShort, DecimalDigits}
+use Rattle.text.specs.Laws.{DecimalShort, DecimalDigits, DecimalUnpadded}
 use Rattle.text.proofs.Cases.{le-or-lt}
 
 -- more room for digits changes nothing
@@ -109,9 +109,8 @@ decimal-digits =
     (λ n h p i l. rw (decimal-high n h)
     (digit-last (decimal (n / 10)) (48 + n % 10) i p (omega arith, omega arith) (omega (arith, length-high n h))))
 
--- the first digit of a number that is not 0 is not 0
-pub leading-digit : (n : ℕ) → 0 < n → 48 < getD (decimal n) 0 0
-leading-digit =
+pub decimal-unpadded : DecimalUnpadded
+decimal-unpadded =
     by-digits
     (λ (n : ℕ). 0 < n → 48 < getD (decimal n) 0 0)
     (λ n h p. rw (decimal-low n h) (omega arith))

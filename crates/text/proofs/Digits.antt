@@ -1,15 +1,20 @@
 -- Runs of digits and their values, and the loop that reads them.
-use Prim.Native.Nat.{ℕ, _+_, _-_, _*_, _<_, _≤_}
+use Prim.Native.Nat.{ℕ, suc, _+_, _-_, _*_, _^_, _<_, _≤_, min}
 use mathlib.Core.Path.{_≡_, refl, sym}
-use mathlib.Core.Logic.{_⊎_, ⊎-elim, inl, inr}
+use mathlib.Core.Logic.{⊎-elim}
 use mathlib.Core.List.{List, [], _∷_}
+use native.Mathlib.Nat.{pow-suc, pow-le-pow-right}
 use native.Mathlib.Numerals.{add-one}
 use native.Mathlib.Omega.{arith}
-use lib.ListN.{length, getD, drop, drop-of-length-le}
-use lib.Seq.{drop-cons}
+use lib.ListN.{length, getD, take, drop, drop-of-length-le}
+use lib.Seq.{drop-cons, take-nil}
 use borrow.Author.Tests.{le-leb, lt-leb}
-use Rattle.text.specs.Numbers.{largest, isDigit, digitRun, valueFrom, DigitsRead}
-use Rattle.text.proofs.Cases.{by-cond}
+use Rattle.text.specs.Numbers.{isDigit, digitRun, valueFrom, mostDigits, firstDigits, DigitsRead}
+use Rattle.text.proofs.Cases.{le-or-lt}
+
+pub run-nil : digitRun [] ≡ []
+unfolding digitRun
+run-nil = refl
 
 -- the run of a list by its first byte
 module _ (b : ℕ) (bs : List ℕ) where
@@ -17,11 +22,11 @@ module _ (b : ℕ) (bs : List ℕ) where
   unfolding digitRun isDigit
   run-digit lo hi = simp (le-leb 48 b lo, le-leb b 57 hi)
 
-  run-low : b < 48 → digitRun (b ∷ bs) ≡ []
+  pub run-low : b < 48 → digitRun (b ∷ bs) ≡ []
   unfolding digitRun isDigit
   run-low lo = simp (lt-leb 48 b lo)
 
-  run-high : 57 < b → digitRun (b ∷ bs) ≡ []
+  pub run-high : 57 < b → digitRun (b ∷ bs) ≡ []
   unfolding digitRun isDigit
   run-high hi = let lo : 48 ≤ b = omega arith in simp (le-leb 48 b lo, lt-leb b 57 hi)
 
@@ -32,86 +37,91 @@ module _ (s : List ℕ) (i : ℕ) where
       → digitRun (drop i s) ≡ getD s i 0 ∷ digitRun (drop (i + 1) s)
   run-more h lo hi = rw (add-one, drop-cons s i 0 h) (run-digit _ _ lo hi)
 
-  pub ends-low : i < length s → getD s i 0 < 48 → digitRun (drop i s) ≡ []
+  ends-low : i < length s → getD s i 0 < 48 → digitRun (drop i s) ≡ []
   ends-low h lo = rw (drop-cons s i 0 h) (run-low _ _ lo)
 
-  pub ends-high : i < length s → 57 < getD s i 0 → digitRun (drop i s) ≡ []
+  ends-high : i < length s → 57 < getD s i 0 → digitRun (drop i s) ≡ []
   ends-high h hi = rw (drop-cons s i 0 h) (run-high _ _ hi)
 
-  pub ends-text : length s ≤ i → digitRun (drop i s) ≡ []
-  unfolding digitRun
-  ends-text h = rw (drop-of-length-le s h)
+  ends-text : length s ≤ i → digitRun (drop i s) ≡ []
+  ends-text h = rw (drop-of-length-le s h) run-nil
 
--- a run is no longer than its list, and begins as it does
-pub run-short : (l : List ℕ) → length (digitRun l) ≤ length l
-unfolding digitRun
-run-short [] = omega arith
-run-short (b ∷ bs) =
-    by-cond (λ (r : List ℕ). length r ≤ length (b ∷ bs)) (isDigit b) (omega (arith, run-short bs)) (omega arith)
+-- ---- the loop
 
-pub run-head : (l : List ℕ) → 0 < length (digitRun l) → getD (digitRun l) 0 0 ≡ getD l 0 0
-unfolding digitRun
-run-head [] = λ h. refl
-run-head (b ∷ bs) =
-    by-cond
-    (λ (r : List ℕ). 0 < length r → getD r 0 0 ≡ b)
-    (isDigit b)
-    {x = b ∷ digitRun bs}
-    (λ h. refl)
-    (λ h. absurd (omega arith))
+-- the digits that are left to read at position i, of those that are read from `at` on
+abbrev toRead : List ℕ → (at i : ℕ) → List ℕ
+toRead s at i = take (at + suc mostDigits - i) (digitRun (drop i s))
 
--- no digit makes a value smaller
-value-grows : (v : ℕ) (ds : List ℕ) → v ≤ valueFrom v ds
-unfolding valueFrom
-value-grows v [] = omega arith
-value-grows v (b ∷ bs) = omega (arith, value-grows (v * 10 + (b - 48)) bs)
-
--- The run at `at`, of which the digits before i are read, with v for their value; once v is above the largest number
--- it stays, and so does what it says of the whole.
+-- the digits before i are read, and v is their value
 pub record DigitsReadTo (s : List ℕ) (at i v : ℕ) : Type 0 where
-  pub ends : at + length (digitRun (drop at s)) ≡ i + length (digitRun (drop i s))
-  pub exact :
-      (valueFrom 0 (digitRun (drop at s)) ≡ valueFrom v (digitRun (drop i s)))
-      ⊎ ((largest < v) × (largest < valueFrom 0 (digitRun (drop at s))))
-  pub small : v ≤ 42949672959
+  pub from : at ≤ i
+  pub ends : at + length (firstDigits s at) ≡ i + length (toRead s at i)
+  pub exact : valueFrom 0 (firstDigits s at) ≡ valueFrom v (toRead s at i)
+  pub small : v < 10 ^ (i - at)
 
 pub none-read : (s : List ℕ) (at : ℕ) → DigitsReadTo s at at 0
-none-read s at = record { ends = refl; exact = inl refl; small = omega arith }
+unfolding firstDigits
+none-read s at =
+    let all : at + suc mostDigits - at ≡ suc mostDigits = omega arith in
+    let no-digit : at - at ≡ 0 = omega arith in
+    record { from = omega arith; ends = rw all; exact = rw all; small = rw no-digit (omega arith) }
 
--- what the code makes of v at the byte b
-abbrev pub DigitStep : (v b v′ : ℕ) → Type 0
-DigitStep v b v′ = ((v ≤ largest) × (v′ ≡ v * 10 + (b - 48))) ⊎ ((largest < v) × (v′ ≡ v))
+-- a digit after k digits leaves the value below the next power of ten
+value-small : (k v d : ℕ) → v < 10 ^ k → d ≤ 9 → v * 10 + d < 10 ^ suc k
+value-small k v d h l = rw pow-suc (omega arith)
 
-exact-more :
-    (v b v′ w : ℕ) (ds : List ℕ) → DigitStep v b v′ → (w ≡ valueFrom v (b ∷ ds)) ⊎ ((largest < v) × (largest < w))
-    → (w ≡ valueFrom v′ ds) ⊎ ((largest < v′) × (largest < w))
-unfolding valueFrom
-exact-more v b v′ w ds (inl p) (inl e) = inl (rw (p .1) e)
-exact-more v b v′ w ds (inr p) (inl e) =
-    inr (omega arith, omega (arith, value-grows (v * 10 + (b - 48)) ds))
-exact-more v b v′ w ds (inl p) (inr q) = absurd (omega arith)
-exact-more v b v′ w ds (inr p) (inr q) = inr (omega arith)
+module _ {s : List ℕ} {at i v : ℕ} (r : DigitsReadTo s at i v) where
+  all-read : toRead s at i ≡ [] → DigitsRead (firstDigits s at) at i v
+  unfolding valueFrom
+  all-read e =
+      let ends : at + length (firstDigits s at) ≡ i + length {A = ℕ} [] = rw e at (r .ends) in
+      record { ends = omega arith; exact = sym (rw e at (r .exact)) }
 
-pub one-read :
-    {s : List ℕ} {at i v : ℕ} (v′ : ℕ) → DigitsReadTo s at i v → i < length s → 48 ≤ getD s i 0 → getD s i 0 ≤ 57
-    → DigitStep v (getD s i 0) v′ → DigitsReadTo s at (i + 1) v′
-one-read {s} {at} {i} {v} v′ r h lo hi w =
-    let e = run-more s i h lo hi in
-    let ends : at + length (digitRun (drop at s)) ≡ i + length (getD s i 0 ∷ digitRun (drop (i + 1) s))
-    = rw e at (r .ends) in
-    record {
-      ends = omega arith;
-      exact = exact-more v (getD s i 0) v′ _ (digitRun (drop (i + 1) s)) w (rw e at (r .exact));
-      small = ⊎-elim (λ u. omega (arith, u .0, u .1)) (λ u. omega (arith, u .0, u .1)) w;
-    }
+  run-read : digitRun (drop i s) ≡ [] → DigitsRead (firstDigits s at) at i v
+  run-read e = all-read (rw e (take-nil (at + suc mostDigits - i)))
 
-pub all-read :
-    {s : List ℕ} {at i v : ℕ} → DigitsReadTo s at i v → digitRun (drop i s) ≡ []
-    → DigitsRead (digitRun (drop at s)) at i v
-unfolding valueFrom
-all-read {s} {at} {i} {v} r e =
-    let ends : at + length (digitRun (drop at s)) ≡ i + length {A = ℕ} [] = rw e at (r .ends) in
-    record {
-      ends = omega arith;
-      exact = ⊎-elim (λ p. inl (sym (rw e at p))) (λ p. inr p) (r .exact);
-    }
+  -- reading goes on at i
+  module _ (more : i < min (length s) (at + suc mostDigits)) where
+    inside : i < length s
+    inside = omega arith
+
+    -- ten digits or fewer are read: their value leaves room for another
+    pub value-fits : v < 10 ^ 10
+    value-fits =
+        let few : i - at ≤ 10 = omega arith in
+        omega (arith, r .small, pow-le-pow-right {n = 10} (omega arith) few)
+
+    pub read-low : getD s i 0 < 48 → DigitsRead (firstDigits s at) at i v
+    read-low lo = run-read (ends-low s i inside lo)
+
+    pub read-high : 57 < getD s i 0 → DigitsRead (firstDigits s at) at i v
+    read-high hi = run-read (ends-high s i inside hi)
+
+    module _ (lo : 48 ≤ getD s i 0) (hi : getD s i 0 ≤ 57) where
+      next : toRead s at i ≡ getD s i 0 ∷ toRead s at (i + 1)
+      next =
+          let left : at + suc mostDigits - i ≡ suc (at + suc mostDigits - (i + 1)) = omega arith in
+          rw (left, run-more s i inside lo hi)
+
+      pub one-read : DigitsReadTo s at (i + 1) (v * 10 + (getD s i 0 - 48))
+      unfolding valueFrom
+      one-read =
+          let ends : at + length (firstDigits s at) ≡ i + length (getD s i 0 ∷ toRead s at (i + 1))
+          = rw next at (r .ends) in
+          let read : i + 1 - at ≡ suc (i - at) = omega (arith, r .from) in
+          record {
+            from = omega (arith, r .from);
+            ends = omega arith;
+            exact = rw next at (r .exact);
+            small = rw read (value-small (i - at) v (getD s i 0 - 48) (r .small) (omega arith));
+          }
+
+  -- reading ends at i: with the text, or with one digit more than a number may have
+  pub read-end : min (length s) (at + suc mostDigits) ≤ i → DigitsRead (firstDigits s at) at i v
+  read-end h =
+      ⊎-elim
+      (λ (l : length s ≤ i). run-read (ends-text s i l))
+      (λ (l : i < length s).
+      let none-left : at + suc mostDigits - i ≡ 0 = omega arith in
+      all-read (rw none-left))
+      (le-or-lt (length s) i)

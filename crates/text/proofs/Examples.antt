@@ -1,38 +1,11 @@
--- Worked examples of the definitions, by computation.
+-- Worked examples of fields, lines and what is written, by computation.
 use mathlib.Core.Path.{_≡_, refl}
 use mathlib.Core.List.{[], _∷_}
 use Rattle.text.specs.Numbers.{isDigit, digitRun, valueFrom, wellFormed, numberOf, numberAt}
 use Rattle.text.specs.Fields.{endsAt, fieldAt, numbersFrom, twoFrom, threeFrom}
 use Rattle.text.specs.Lines.{ahead, lineLength, lines}
 use Rattle.text.specs.Decimal.{digitsOf, decimal, field, row}
-use Rattle.text.specs.declared.Number.the-variants.{Value, Nothing}
 use Rattle.text.specs.declared.Numbers.the-variants.{Two, Three, Other}
-
--- `0`, `7`, `07`, and nothing
-reads-0 : numberAt (48 ∷ []) 0 ≡ Value 0 1
-unfolding numberAt numberOf digitRun isDigit wellFormed valueFrom
-reads-0 = refl
-
-reads-7 : numberAt (44 ∷ 55 ∷ 44 ∷ []) 1 ≡ Value 7 2
-unfolding numberAt numberOf digitRun isDigit wellFormed valueFrom
-reads-7 = refl
-
-refuses-07 : numberAt (48 ∷ 55 ∷ []) 0 ≡ Nothing
-unfolding numberAt numberOf digitRun isDigit wellFormed valueFrom
-refuses-07 = refl
-
-refuses-empty : numberAt [] 0 ≡ Nothing
-unfolding numberAt numberOf digitRun wellFormed valueFrom
-refuses-empty = refl
-
--- `4294967295`, the largest, and `4294967296`
-reads-largest : numberAt (52 ∷ 50 ∷ 57 ∷ 52 ∷ 57 ∷ 54 ∷ 55 ∷ 50 ∷ 57 ∷ 53 ∷ []) 0 ≡ Value 4294967295 10
-unfolding numberAt numberOf digitRun isDigit wellFormed valueFrom
-reads-largest = refl
-
-refuses-larger : numberAt (52 ∷ 50 ∷ 57 ∷ 52 ∷ 57 ∷ 54 ∷ 55 ∷ 50 ∷ 57 ∷ 54 ∷ []) 0 ≡ Nothing
-unfolding numberAt numberOf digitRun isDigit wellFormed valueFrom
-refuses-larger = refl
 
 -- `3,0` from its first number on, `I,0,1,57` from its first comma on, and `3,` with no number after the comma
 reads-two : numbersFrom (51 ∷ 44 ∷ 48 ∷ []) (numberAt (51 ∷ 44 ∷ 48 ∷ []) 0) ≡ Two 3 0

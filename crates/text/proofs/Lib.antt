@@ -14,7 +14,9 @@ pub mod Fields
 pub mod OneLine
 pub mod Range
 pub mod Writing
+pub mod Padded
 pub mod RoundTrip
 pub mod Row
 pub mod RowRoom
+pub mod ByHand
 pub mod Examples

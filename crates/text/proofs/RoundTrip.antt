@@ -1,30 +1,69 @@
--- A number that was written in decimal is read back.
-use Prim.Native.Nat.{ℕ, suc, _<_}
-use mathlib.Core.Path.{_≡_, ap, _∙_}
-use mathlib.Core.List.{List, [], _∷_, _++_}
+-- A number that was written in decimal is read back, with zeros before it too, and nothing else is read as a number.
+use Prim.Native.Nat.{ℕ, _+_, _<_, _≤_}
+use mathlib.Core.Path.{_≡_, subst}
+use mathlib.Core.Logic.{⊎-elim}
+use mathlib.Core.List.{List}
 use native.Mathlib.Omega.{arith}
-use lib.ListN.{length, getD, drop}
-use Rattle.text.specs.Numbers.{digitRun, valueFrom}
+use lib.ListN.{length, drop}
+use Rattle.text.specs.Numbers.{largest, digitRun, valueFrom, mostDigits, numberAt}
 use Rattle.text.specs.Decimal.{decimal}
-use Rattle.text.specs.Laws.{ReadsBack}
-use Rattle.text.proofs.Digits.{run-digit}
-use Rattle.text.proofs.Rule.{decimal-well}
-use Rattle.text.proofs.NumberAt.{number-is}
-use Rattle.text.proofs.Decimal.{IsDigit, decimal-digits, decimal-value}
+use Rattle.text.specs.Laws.{padded, ReadsBack, ReadsPadded, IsPadded, ReadsOnlyPadded}
+use Rattle.text.specs.declared.Number.{Number}
+use Rattle.text.specs.declared.Number.the-variants.{Value, Nothing}
+use Rattle.text.proofs.Cases.{le-or-lt}
+use Rattle.text.proofs.Rule.{no-digit, too-many, well}
+use Rattle.text.proofs.NumberAt.{number-is, number-bad, number-large}
+use Rattle.text.proofs.Decimal.{decimal-short}
+use Rattle.text.proofs.Padded.{padded-run, padded-value, padded-some, run-digits, all-padded}
 
--- digits before what begins with no digit are the whole run
-run-all :
-    (xs rest : List ℕ) → ((i : ℕ) → i < length xs → IsDigit (getD xs i 0)) → digitRun rest ≡ []
-    → digitRun (xs ++ rest) ≡ xs
-run-all [] rest d e = e
-run-all (b ∷ bs) rest d e =
-    let first : IsDigit b = d 0 (omega arith) in
-    run-digit b (bs ++ rest) (first .0) (first .1)
-    ∙ ap (λ (l : List ℕ). b ∷ l) (run-all bs rest (λ i h. d (suc i) (omega arith)) e)
+pub reads-padded : ReadsPadded
+reads-padded s at zeros n rest h short e d =
+    let run : digitRun (drop at s) ≡ padded zeros n = rw d (padded-run zeros n rest e) in
+    let value : valueFrom 0 (digitRun (drop at s)) ≡ n = rw run (padded-value zeros n) in
+    let read = number-is s at (rw run (well (padded zeros n) (padded-some zeros n) short)) (omega arith) in
+    rw (value, run) at read
 
 pub reads-back : ReadsBack
-reads-back s at n rest h e d =
-    let run : digitRun (drop at s) ≡ decimal n = rw d (run-all (decimal n) rest (decimal-digits n) e) in
-    let value : valueFrom 0 (digitRun (drop at s)) ≡ n = rw run (decimal-value n) in
-    let well = number-is s at (rw run (decimal-well n h)) (omega arith) in
-    rw (value, run) at well
+unfolding padded
+reads-back s at n rest h e d = reads-padded s at 0 n rest h (decimal-short 9 n (omega arith)) e d
+
+-- ---- nothing else
+
+-- what is claimed of digits that were read
+unfoldable Claim : List ℕ → Number → Type 0
+Claim ds (Value n end) = IsPadded ds n
+Claim ds Nothing = Unit {0}
+
+module _ (s : List ℕ) (at : ℕ) where
+  abbrev run : List ℕ
+  run = digitRun (drop at s)
+
+  no-number : Nothing ≡ numberAt s at → Claim run (numberAt s at)
+  unfolding Claim
+  no-number e = rw (← e) (tt {0})
+
+  a-number : 0 < length run → length run ≤ mostDigits → valueFrom 0 run ≤ largest → Claim run (numberAt s at)
+  unfolding Claim
+  a-number some short fits =
+      let z = all-padded run some (run-digits (drop at s)) in
+      rw (number-is s at (well run some short) fits)
+      (record { zeros = z .zeros; digits = z .form; short = short; fits = fits })
+
+  claim : Claim run (numberAt s at)
+  claim =
+      ⊎-elim
+      (λ (some : 1 ≤ length run).
+      ⊎-elim
+      (λ (short : length run ≤ mostDigits).
+      ⊎-elim
+      (λ (fits : valueFrom 0 run ≤ largest). a-number some short fits)
+      (λ (large : largest < valueFrom 0 run). no-number (number-large s at large))
+      (le-or-lt (valueFrom 0 run) largest))
+      (λ (long : mostDigits < length run). no-number (number-bad s at (too-many run long)))
+      (le-or-lt (length run) mostDigits))
+      (λ (none : length run < 1). no-number (number-bad s at (no-digit run (omega arith))))
+      (le-or-lt 1 (length run))
+
+pub reads-only-padded : ReadsOnlyPadded
+unfolding Claim
+reads-only-padded s at n end e = subst (Claim (digitRun (drop at s))) e (claim s at)

@@ -5,3 +5,4 @@ pub mod Lines
 pub mod Decimal
 pub mod Output
 pub mod Laws
+pub mod ByHand

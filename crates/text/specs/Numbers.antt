@@ -1,11 +1,10 @@
 -- Numbers read from bytes: the rule for their digits, their value, and the number at a position.
-use Prim.Native.Nat.{ℕ, _+_, _-_, _*_, _<_, _≤_}
+use Prim.Native.Nat.{ℕ, suc, _+_, _-_, _*_, _≤_}
 use mathlib.Core.Path.{_≡_}
-use mathlib.Core.Logic.{_⊎_}
 use mathlib.Core.List.{List, [], _∷_}
-use mathlib.Core.Bool.{Bool, true, false, not, _&&_, cond}
-use lib.ListN.{length, drop}
-use lib.Dec.{leb, eqb}
+use mathlib.Core.Bool.{Bool, _&&_, cond}
+use lib.ListN.{length, take, drop}
+use lib.Dec.{leb}
 use Rattle.text.specs.declared.Number.{Number}
 use Rattle.text.specs.declared.Number.the-variants.{Value, Nothing}
 
@@ -27,11 +26,13 @@ unfoldable pub valueFrom : ℕ → List ℕ → ℕ
 valueFrom v [] = v
 valueFrom v (b ∷ bs) = valueFrom (v * 10 + (b - 48)) bs
 
--- The rule for the digits of a number: there is one, and no needless leading zero. Nothing else states it.
+-- the most digits that a number may have; zeros that lead are digits as well
+abbrev pub mostDigits : ℕ
+mostDigits = 10
+
+-- The rule for the digits of a number: there is one, and there are not too many. Nothing else states it.
 unfoldable pub wellFormed : List ℕ → Bool
-wellFormed [] = false
-wellFormed (b ∷ []) = true
-wellFormed (b ∷ c ∷ bs) = not (eqb b 48)
+wellFormed ds = leb 1 (length ds) && leb (length ds) mostDigits
 
 -- the number of a run of digits that begins at a position, with the position after it
 unfoldable pub numberOf : List ℕ → ℕ → Number
@@ -47,7 +48,13 @@ unfoldable pub NumberFits : Number → Type 0
 NumberFits (Value v at) = v ≤ largest
 NumberFits Nothing = Unit {0}
 
--- What the reader of digits answers: where they end, and their value, exact up to the largest number.
+-- ---- for the functions inside
+
+-- The digits at a position that are read: one more than a number may have shows that there are too many.
+unfoldable pub firstDigits : List ℕ → ℕ → List ℕ
+firstDigits s at = take (suc mostDigits) (digitRun (drop at s))
+
+-- what the reader of digits answers: where they end, and their value
 pub record DigitsRead (ds : List ℕ) (at end value : ℕ) : Type 0 where
   pub ends : end ≡ at + length ds
-  pub exact : (value ≡ valueFrom 0 ds) ⊎ ((largest < value) × (largest < valueFrom 0 ds))
+  pub exact : value ≡ valueFrom 0 ds

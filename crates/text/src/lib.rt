@@ -1,8 +1,8 @@
 // Text as bytes: numbers, fields and lines are read here, numbers are written in `output`.
 ghost use mathlib.Core.Path.{_≡_};
-ghost use Prim.Native.Nat.{_+_, _≤_};
-ghost use lib.ListN.{length, drop};
-ghost use Rattle.text.specs.Numbers.{numberAt, digitRun, wellFormed, DigitsRead};
+ghost use Prim.Native.Nat.{suc, _+_, _≤_, min};
+ghost use lib.ListN.{length};
+ghost use Rattle.text.specs.Numbers.{mostDigits, numberAt, firstDigits, DigitsRead};
 ghost use Rattle.text.specs.declared.Numbers.the-variants.{Other};
 ghost use Rattle.text.specs.Fields.{fieldAt, endsAt, numbersFrom, twoFrom, threeFrom, FieldsRead};
 ghost use Rattle.text.specs.Lines.{lines, lineEnd, lineFeeds};
@@ -17,18 +17,34 @@ pub enum Number {
     Nothing,
 }
 
-// Where a run of digits ends, and its value, which stays where it first passes 4,294,967,295.
+// Where the digits that are read end, and their value.
 struct DigitRun {
     end: usize,
     value: u64,
 }
 
-fn digits_at(s: &[u8], at: usize) -> DigitRun
-    ensures { λ r. ⌜ DigitsRead (digitRun (drop at (now (s .entry)))) at (r .end) (r .value) ⌝ }
+// Where reading digits from `at` on ends at the latest: with the text, or after one digit too many.
+fn reading_end(s: &[u8], at: usize) -> usize
+    ensures { λ r. ⌜ r ≡ min (length (now (s .entry))) (at + suc mostDigits) ⌝ }
 {
+    let len = s.len();
+    if len <= at {
+        return len;
+    }
+    if len - at <= 11 {
+        return len;
+    }
+    at + 11
+}
+
+// Eleven digits are read at most, so their value fits.
+fn digits_at(s: &[u8], at: usize) -> DigitRun
+    ensures { λ r. ⌜ DigitsRead (firstDigits (now (s .entry)) at) at (r .end) (r .value) ⌝ }
+{
+    let stop = reading_end(s, at);
     let mut i = at;
     let mut v: u64 = 0;
-    while i < s.len() {
+    while i < stop {
         let b = s[i];
         if b < b'0' {
             break;
@@ -36,42 +52,29 @@ fn digits_at(s: &[u8], at: usize) -> DigitRun
         if b > b'9' {
             break;
         }
-        if v <= 4294967295 {
-            v = v * 10 + ((b - b'0') as u64);
-        }
+        v = v * 10 + ((b - b'0') as u64);
         i += 1;
     }
     DigitRun { end: i, value: v }
 }
 
-// The rule for a number's digits, which stand from `at` up to `end`.
-fn well_formed(s: &[u8], at: usize, end: usize) -> bool
-    requires { ⌜ end ≡ at + length (digitRun (drop at (now s))) ⌝ }
-    ensures { λ r. ⌜ r ≡ wellFormed (digitRun (drop at (now (s .entry)))) ⌝ }
-{
-    let n = end - at;
-    if n == 0 {
-        return false;
-    }
-    if n == 1 {
-        return true;
-    }
-    s[at] != b'0'
-}
-
-// The number at a position.
+// The number at a position: one to ten digits, and a value of 32 bits.
 pub fn number_at(s: &[u8], at: usize) -> Number
     ensures { λ r. ⌜ r ≡ numberAt (now (s .entry)) at ⌝ }
 {
     let d = digits_at(s, at);
     let end = d.end;
     let value = d.value;
-    if value <= 4294967295 {
-        if well_formed(s, at, end) {
-            return Number::Value(value as u32, end);
-        }
+    if end == at {
+        return Number::Nothing;
     }
-    Number::Nothing
+    if value > 4294967295 {
+        return Number::Nothing;
+    }
+    if end - at > 10 {
+        return Number::Nothing;
+    }
+    Number::Value(value as u32, end)
 }
 
 // ---- fields

@@ -1,0 +1,27 @@
+-- Lines worked by hand: zeros before a number, and lines that yield no call.
+use Prim.Native.Nat.{ℕ}
+use mathlib.Core.Path.{_≡_}
+use mathlib.Core.List.{List, [], _∷_, _++_, map}
+use lib.ListN.{replicate}
+use Rattle.rules.specs.declared.Call.the-variants.{Insert, ExtractMin}
+use Rattle.rules.specs.declared.Line.the-variants.{Yields, NoCall}
+use Rattle.text.specs.Fields.{comma}
+use Rattle.text.specs.ByHand.{zeros, nineDigits}
+use Rattle.lines.specs.Parse.{letterI, letterT, lineOf}
+
+-- `T,7`, `T,07`, `I,00,0000000012,4294967295`
+unfoldable pub callTexts : List (List ℕ)
+callTexts =
+    (letterT ∷ comma ∷ 55 ∷ []) ∷ (letterT ∷ comma ∷ 48 ∷ 55 ∷ []) ∷
+    (letterI ∷ comma ∷ zeros 2 ++ comma ∷ zeros 8 ++ 49 ∷ 50 ∷ comma ∷ nineDigits ++ 53 ∷ []) ∷ []
+
+-- nothing, `T,`, `T,-7`, `T,00000000007` with its eleven digits
+unfoldable pub otherTexts : List (List ℕ)
+otherTexts =
+    [] ∷ (letterT ∷ comma ∷ []) ∷ (letterT ∷ comma ∷ 45 ∷ 55 ∷ []) ∷ (letterT ∷ comma ∷ zeros 10 ++ 55 ∷ []) ∷ []
+
+pub record WorkedLines : Type 0 where
+  pub calls :
+      map lineOf callTexts
+      ≡ Yields (ExtractMin 7) ∷ Yields (ExtractMin 7) ∷ Yields (Insert 0 12 4294967295) ∷ []
+  pub others : map lineOf otherTexts ≡ replicate 4 NoCall

@@ -1,0 +1,8 @@
+-- The numbers worked by hand, by computation.
+use mathlib.Core.Path.{refl}
+use Rattle.text.specs.Numbers.{isDigit, digitRun, valueFrom, wellFormed, numberOf, numberAt}
+use Rattle.text.specs.ByHand.{firstNumber, zeros, nineDigits, numberTexts, otherTexts, WorkedNumbers}
+
+pub workedNumbers : WorkedNumbers
+unfolding firstNumber zeros nineDigits numberTexts otherTexts numberAt numberOf digitRun isDigit wellFormed valueFrom
+workedNumbers = record { numbers = refl; others = refl }

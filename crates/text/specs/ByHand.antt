@@ -1,0 +1,37 @@
+-- Numbers worked by hand: what is read at the beginning of a text.
+use Prim.Native.Nat.{ℕ}
+use mathlib.Core.Path.{_≡_}
+use mathlib.Core.List.{List, [], _∷_, _++_, map}
+use lib.ListN.{replicate}
+use Rattle.text.specs.Numbers.{numberAt}
+use Rattle.text.specs.declared.Number.{Number}
+use Rattle.text.specs.declared.Number.the-variants.{Value, Nothing}
+
+unfoldable pub firstNumber : List ℕ → Number
+firstNumber s = numberAt s 0
+
+-- so many digits 0
+unfoldable pub zeros : ℕ → List ℕ
+zeros n = replicate n 48
+
+-- `429496729`, to which a tenth digit is added
+unfoldable pub nineDigits : List ℕ
+nineDigits = 52 ∷ 50 ∷ 57 ∷ 52 ∷ 57 ∷ 54 ∷ 55 ∷ 50 ∷ 57 ∷ []
+
+-- `0`, `7,`, `07`, `0000000000`, `0000000012`, `4294967295`
+unfoldable pub numberTexts : List (List ℕ)
+numberTexts =
+    zeros 1 ∷ (55 ∷ 44 ∷ []) ∷ (48 ∷ 55 ∷ []) ∷ zeros 10 ∷ (zeros 8 ++ 49 ∷ 50 ∷ []) ∷ (nineDigits ++ 53 ∷ []) ∷ []
+
+-- nothing, `-7`, `00000000000`, `00000000001`, `04294967295`, `4294967296`
+unfoldable pub otherTexts : List (List ℕ)
+otherTexts =
+    [] ∷ (45 ∷ 55 ∷ []) ∷ zeros 11 ∷ (zeros 10 ++ 49 ∷ []) ∷ (zeros 1 ++ nineDigits ++ 53 ∷ []) ∷
+    (nineDigits ++ 54 ∷ []) ∷ []
+
+pub record WorkedNumbers : Type 0 where
+  -- each with the position after its last digit
+  pub numbers :
+      map firstNumber numberTexts
+      ≡ Value 0 1 ∷ Value 7 1 ∷ Value 7 2 ∷ Value 0 10 ∷ Value 12 10 ∷ Value 4294967295 10 ∷ []
+  pub others : map firstNumber otherTexts ≡ replicate 6 Nothing
