@@ -113,29 +113,30 @@ void make_text_sheet(sheet_text *sheet)
 
 static void add_mixed_line(sheet_text *sheet)
 {
-    static const char *const no_calls[] = { "", "I,0,1", "T,07", "D,1,4294967296", "X,1,", "Q,1", "M,0\r" };
+    static const char *const no_calls[] = { "", "I,0,1", "T,-7", "D,1,4294967296", "X,1,", "Q,1", "M,0\r" };
     uint32_t heap = draw(9), item = draw(260), key = draw(100);
+    int digits = draw(4) == 0 ? 1 + (int)draw(11) : 1; /* with zeros before shorter numbers; eleven make no call */
     switch (draw(8)) {
     case 0:
         add_line(sheet, "%s\n", no_calls[draw(7)]);
         break;
     case 1:
-        add_line(sheet, "M,%u\n", heap);
+        add_line(sheet, "M,%0*u\n", digits, heap);
         break;
     case 2:
-        add_line(sheet, "T,%u\n", heap);
+        add_line(sheet, "T,%0*u\n", digits, heap);
         break;
     case 3:
-        add_line(sheet, "X,%u\n", item);
+        add_line(sheet, "X,%0*u\n", digits, item);
         break;
     case 4:
-        add_line(sheet, "J,%u,%u\n", heap, draw(9));
+        add_line(sheet, "J,%0*u,%u\n", digits, heap, draw(9));
         break;
     case 5:
-        add_line(sheet, "D,%u,%u\n", item, key / 2);
+        add_line(sheet, "D,%u,%0*u\n", item, digits, key / 2);
         break;
     default:
-        add_line(sheet, "I,%u,%u,%u\n", heap, item, key);
+        add_line(sheet, "I,%u,%0*u,%0*u\n", heap, digits, item, digits, key);
     }
 }
 

@@ -21,7 +21,7 @@ void make_calls_sheet(sheet_text *sheet);
 /* Long numbers in and out and next to no work in the queue: one item lowered to the key that it has. */
 void make_text_sheet(sheet_text *sheet);
 
-/* Lines of every kind, with every refusal among them; each number gives another sheet. */
+/* Lines of every kind, with every refusal and with zeros before numbers among them; each number gives another sheet. */
 void make_mixed_sheet(sheet_text *sheet, uint32_t number);
 
 #endif

@@ -35,7 +35,7 @@ static inline const uint8_t *read_number(const uint8_t *p, const uint8_t *end, u
     for (uint32_t digit; p < end && (digit = *p - (uint32_t)'0') <= 9; p++)
         value = 10 * value + digit;
     size_t digits = (size_t)(p - begin);
-    if (digits - 1 > 9 || (*begin == '0' && digits > 1) || value > UINT32_MAX)
+    if (digits - 1 > 9 || value > UINT32_MAX)
         return NULL;
     *number = (uint32_t)value;
     return p;

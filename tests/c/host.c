@@ -150,9 +150,18 @@ static void try_worked_runs(void) {
                    "0,8,80,0,0\n0,0,0,7,0\n0,8,5,0,1\n0,6,4,0,1\n0,7,3,0,2\n0,3,30,0,1\n"));
     expect("run (h), kept on (g)", answers(kept_run, store, "T,0\n", "0,7,3,3,0\n"));
     expect("every code of a line",
-           answers(fresh_run, store, "T,07\nJ,9,9\nX,16\nI,0,1,5\nI,0,1,5\nX,0\nD,1,6\nT,1\nJ,2,2\n",
+           answers(fresh_run, store, "T,-7\nJ,9,9\nX,16\nI,0,1,5\nI,0,1,5\nX,0\nD,1,6\nT,1\nJ,2,2\n",
                    "6,0,0,0,0\n7,0,0,0,0\n8,0,0,0,0\n0,1,5,0,0\n9,0,0,0,0\n10,0,0,0,0\n11,0,0,0,0\n12,0,0,0,0\n"
                    "13,0,0,0,0\n"));
+    expect("zeros before numbers, none in the answers",
+           answers(fresh_run, store, "I,07,0000000003,0000000005\nM,007\nT,07\nT,0000000007\nM,0000000000\n",
+                   "0,3,5,0,0\n0,3,5,0,0\n0,3,5,0,0\n12,0,0,0,0\n12,0,0,0,0\n"));
+    expect("eleven digits, or ten above the largest: 6",
+           answers(fresh_run, store, "T,00000000007\nT,00000000000\nT,04294967295\nT,4294967296\nT,4294967295\n",
+                   "6,0,0,0,0\n6,0,0,0,0\n6,0,0,0,0\n6,0,0,0,0\n7,0,0,0,0\n"));
+    expect("a sheet with zeros, kept on its first lines",
+           answers(fresh_run, store, "I,00,01,09\nI,00,02,08\n", "0,1,9,0,0\n0,2,8,0,0\n")
+               && answers(kept_run, store, "D,01,007\nT,00\n", "0,1,7,0,0\n0,1,7,0,0\n"));
     free(store.at);
     free(other.at);
 }
@@ -336,6 +345,8 @@ static void try_readings(void) {
            reads(worked_text, 4, 3, 3, 16) && reads(worked_text, 3, 4, 3, 16) && reads(worked_text, 3, 3, 4, 16));
     expect("0,1 as a span: 21", reads("3,0\n0,1,7\n0,1\n", 3, 3, 3, 21));
     expect("an empty text or line: 21", reads("", 3, 3, 3, 21) && reads("3,0\n\n", 3, 3, 3, 21));
+    expect("zeros before numbers", reads("03,0000000000\n00,1,0000000007\n0,02,020\n001,2,5\n", 3, 3, 3, 0));
+    expect("eleven digits: 21", reads("00000000003,0\n", 3, 3, 3, 21) && reads("3,0\n0,1,00000000007\n", 3, 3, 3, 21));
     expect("21 before 16", reads("3,0\n0,1\n", 0, 1, 2, 21));
     bytes longest = filled_bytes(60002, '0');
     longest.at[60001] = 0;

@@ -44,6 +44,9 @@ int main(void) {
     expect("a last line without LF needs room", run_text("M,0", 31) == CABLE_QUEUE_REFUSED + 4 && untouched(0));
     expect("item 255 is there, 256 is not", answered("0,255,7,0,0\n8,0,0,0,0\n", run_text("I,7,255,7\nX,256\n", 64)));
 
+    expect("zeros before numbers", answered("0,255,7,0,0\n0,255,7,0,0\n6,0,0,0,0\n",
+                                            run_text("I,07,0000000255,007\nT,07\nT,00000000007\n", 96)));
+
     memset(sheet, '\n', sizeof sheet);
     uint32_t n = run(LINES, ROOM);
     expect("2,000 lines", n == LINES * strlen("6,0,0,0,0\n") && untouched(n));

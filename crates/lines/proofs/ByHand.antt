@@ -3,11 +3,11 @@ use mathlib.Core.Path.{refl}
 use Rattle.text.specs.Numbers.{isDigit, digitRun, valueFrom, wellFormed, numberOf, numberAt}
 use Rattle.text.specs.Fields.{endsAt, fieldAt, numbersFrom, twoFrom, threeFrom}
 use Rattle.text.specs.Lines.{lineLength}
-use Rattle.text.specs.ByHand.{zeros, nineDigits}
+use Rattle.text.specs.ByHand.{zeroDigits, nineDigits}
 use Rattle.lines.specs.Parse.{ofOne, ofTwo, ofThree, callOf, lineOf}
 use Rattle.lines.specs.ByHand.{callTexts, otherTexts, WorkedLines}
 
 pub workedLines : WorkedLines
-unfolding callTexts otherTexts zeros nineDigits lineOf callOf ofOne ofTwo ofThree numbersFrom twoFrom threeFrom fieldAt
-    numberAt numberOf digitRun isDigit wellFormed valueFrom endsAt lineLength
+unfolding callTexts otherTexts zeroDigits nineDigits lineOf callOf ofOne ofTwo ofThree numbersFrom twoFrom threeFrom
+    fieldAt numberAt numberOf digitRun isDigit wellFormed valueFrom endsAt lineLength
 workedLines = record { calls = refl; others = refl }

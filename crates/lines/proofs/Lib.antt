@@ -5,3 +5,4 @@ pub mod LineAt
 pub mod LineFound
 pub mod Printed
 pub mod ByHand
+pub mod PaddedLine

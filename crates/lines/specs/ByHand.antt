@@ -6,19 +6,19 @@ use lib.ListN.{replicate}
 use Rattle.rules.specs.declared.Call.the-variants.{Insert, ExtractMin}
 use Rattle.rules.specs.declared.Line.the-variants.{Yields, NoCall}
 use Rattle.text.specs.Fields.{comma}
-use Rattle.text.specs.ByHand.{zeros, nineDigits}
+use Rattle.text.specs.ByHand.{zeroDigits, nineDigits}
 use Rattle.lines.specs.Parse.{letterI, letterT, lineOf}
 
 -- `T,7`, `T,07`, `I,00,0000000012,4294967295`
 unfoldable pub callTexts : List (List ℕ)
 callTexts =
     (letterT ∷ comma ∷ 55 ∷ []) ∷ (letterT ∷ comma ∷ 48 ∷ 55 ∷ []) ∷
-    (letterI ∷ comma ∷ zeros 2 ++ comma ∷ zeros 8 ++ 49 ∷ 50 ∷ comma ∷ nineDigits ++ 53 ∷ []) ∷ []
+    (letterI ∷ comma ∷ zeroDigits 2 ++ comma ∷ zeroDigits 8 ++ 49 ∷ 50 ∷ comma ∷ nineDigits ++ 53 ∷ []) ∷ []
 
 -- nothing, `T,`, `T,-7`, `T,00000000007` with its eleven digits
 unfoldable pub otherTexts : List (List ℕ)
 otherTexts =
-    [] ∷ (letterT ∷ comma ∷ []) ∷ (letterT ∷ comma ∷ 45 ∷ 55 ∷ []) ∷ (letterT ∷ comma ∷ zeros 10 ++ 55 ∷ []) ∷ []
+    [] ∷ (letterT ∷ comma ∷ []) ∷ (letterT ∷ comma ∷ 45 ∷ 55 ∷ []) ∷ (letterT ∷ comma ∷ zeroDigits 10 ++ 55 ∷ []) ∷ []
 
 pub record WorkedLines : Type 0 where
   pub calls :

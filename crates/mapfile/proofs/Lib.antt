@@ -6,3 +6,4 @@ pub mod Counting
 pub mod Filling
 pub mod Ways
 pub mod Fits
+pub mod PaddedNumbers

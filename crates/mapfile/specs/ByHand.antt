@@ -3,7 +3,7 @@ use Prim.Native.Nat.{ℕ}
 use mathlib.Core.Path.{_≡_}
 use mathlib.Core.List.{List, [], _∷_, _++_, map}
 use lib.ListN.{replicate}
-use Rattle.text.specs.ByHand.{zeros}
+use Rattle.text.specs.ByHand.{zeroDigits}
 use Rattle.paths.specs.Map.{spanLists, noSpans}
 use Rattle.mapfile.specs.Read.{Reading, refusedReading, readMap}
 
@@ -16,7 +16,7 @@ paperText =
 -- the same map with zeros before its numbers: `03,00` `0,1,0000000007` `00,2,020` `1,02,5`
 unfoldable pub paddedText : List ℕ
 paddedText =
-    (48 ∷ 51 ∷ 44 ∷ 48 ∷ 48 ∷ 10 ∷ []) ++ (48 ∷ 44 ∷ 49 ∷ 44 ∷ zeros 9 ++ 55 ∷ 10 ∷ [])
+    (48 ∷ 51 ∷ 44 ∷ 48 ∷ 48 ∷ 10 ∷ []) ++ (48 ∷ 44 ∷ 49 ∷ 44 ∷ zeroDigits 9 ++ 55 ∷ 10 ∷ [])
     ++ (48 ∷ 48 ∷ 44 ∷ 50 ∷ 44 ∷ 48 ∷ 50 ∷ 48 ∷ 10 ∷ []) ++ (49 ∷ 44 ∷ 48 ∷ 50 ∷ 44 ∷ 53 ∷ 10 ∷ [])
 
 -- read into lists of n words, all nines
@@ -27,7 +27,7 @@ readOnto n text = readMap text (spanLists (replicate n 9) (replicate n 9) (repli
 unfoldable pub malformed : List (List ℕ)
 malformed =
     [] ∷ (51 ∷ 44 ∷ 48 ∷ 10 ∷ 10 ∷ []) ∷ (51 ∷ 44 ∷ 48 ∷ 10 ∷ 48 ∷ 44 ∷ 49 ∷ []) ∷ (51 ∷ []) ∷
-    (51 ∷ 44 ∷ 48 ∷ 13 ∷ 10 ∷ []) ∷ (51 ∷ 44 ∷ zeros 11) ∷ []
+    (51 ∷ 44 ∷ 48 ∷ 13 ∷ 10 ∷ []) ∷ (51 ∷ 44 ∷ zeroDigits 11) ∷ []
 
 pub record WorkedTexts : Type 0 where
   -- a fourth word is left as it was

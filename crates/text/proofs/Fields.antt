@@ -46,29 +46,29 @@ module _ (s : List ℕ) {n : Number} where
 
   -- the line ends after the number
   module _ {v at : ℕ} (e : n ≡ Value v at) (end : endsAt s at ≡ true) where
-    end-numbers : numbersFrom s n ≡ One v
+    pub end-numbers : numbersFrom s n ≡ One v
     unfolding numbersFrom
     end-numbers = rw (e, end)
 
-    end-two : (x : ℕ) → twoFrom s x n ≡ Two x v
+    pub end-two : (x : ℕ) → twoFrom s x n ≡ Two x v
     unfolding twoFrom
     end-two x = rw (e, end)
 
-    end-three : (x y : ℕ) → threeFrom s x y n ≡ Three x y v
+    pub end-three : (x y : ℕ) → threeFrom s x y n ≡ Three x y v
     unfolding threeFrom
     end-three x y = rw (e, end)
 
   -- it goes on
   module _ {v at : ℕ} (e : n ≡ Value v at) (on : endsAt s at ≡ false) where
-    on-numbers : numbersFrom s n ≡ twoFrom s v (fieldAt s at)
+    pub on-numbers : numbersFrom s n ≡ twoFrom s v (fieldAt s at)
     unfolding numbersFrom
     on-numbers = rw (e, on)
 
-    on-two : (x : ℕ) → twoFrom s x n ≡ threeFrom s x v (fieldAt s at)
+    pub on-two : (x : ℕ) → twoFrom s x n ≡ threeFrom s x v (fieldAt s at)
     unfolding twoFrom
     on-two x = rw (e, on)
 
-    on-three : (x y : ℕ) → threeFrom s x y n ≡ Other
+    pub on-three : (x y : ℕ) → threeFrom s x y n ≡ Other
     unfolding threeFrom
     on-three x y = rw (e, on)
 

@@ -16,6 +16,7 @@ pub mod Range
 pub mod Writing
 pub mod Padded
 pub mod RoundTrip
+pub mod PaddedRow
 pub mod Row
 pub mod RowRoom
 pub mod ByHand

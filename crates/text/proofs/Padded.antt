@@ -9,7 +9,7 @@ use lib.ListN.{length, getD, replicate, length-append}
 use lib.Seq.{append-snoc}
 use Rattle.text.specs.Numbers.{digitRun, valueFrom}
 use Rattle.text.specs.Decimal.{decimal}
-use Rattle.text.specs.Laws.{padded}
+use Rattle.text.specs.Padding.{Padded, withZeros, padded}
 use Rattle.text.proofs.Cases.{le-or-lt}
 use Rattle.text.proofs.Digits.{run-digit, run-low, run-high, run-nil}
 use Rattle.text.proofs.Decimal.{IsDigit, decimal-low, decimal-high, decimal-digits, decimal-value, some-digit}
@@ -27,21 +27,34 @@ run-all (b ∷ bs) rest d e =
     run-digit b (bs ++ rest) (first .0) (first .1)
     ∙ ap (λ (l : List ℕ). b ∷ l) (run-all bs rest (λ i h. d (suc i) (omega arith)) e)
 
-pub padded-run : (zeros n : ℕ) (rest : List ℕ) → digitRun rest ≡ [] → digitRun (padded zeros n ++ rest) ≡ padded zeros n
-unfolding padded
-padded-run zero n rest e = run-all (decimal n) rest (decimal-digits n) e
-padded-run (suc zeros) n rest e =
-    run-digit 48 (padded zeros n ++ rest) (omega arith) (omega arith)
-    ∙ ap (λ (l : List ℕ). 48 ∷ l) (padded-run zeros n rest e)
+-- zeros before the digits of n, as a list
+abbrev zerosBefore : ℕ → ℕ → List ℕ
+zerosBefore zeros n = replicate zeros 48 ++ decimal n
 
-pub padded-value : (zeros n : ℕ) → valueFrom 0 (padded zeros n) ≡ n
-unfolding padded valueFrom
-padded-value zero n = decimal-value n
-padded-value (suc zeros) n = padded-value zeros n
+before-run : (zeros n : ℕ) (rest : List ℕ) → digitRun rest ≡ []
+    → digitRun (zerosBefore zeros n ++ rest) ≡ zerosBefore zeros n
+before-run zero n rest e = run-all (decimal n) rest (decimal-digits n) e
+before-run (suc zeros) n rest e =
+    run-digit 48 (zerosBefore zeros n ++ rest) (omega arith) (omega arith)
+    ∙ ap (λ (l : List ℕ). 48 ∷ l) (before-run zeros n rest e)
 
-pub padded-some : (zeros n : ℕ) → 0 < length (padded zeros n)
-unfolding padded
-padded-some zeros n = omega (arith, length-append (replicate zeros 48) (decimal n), some-digit n)
+before-value : (zeros n : ℕ) → valueFrom 0 (zerosBefore zeros n) ≡ n
+unfolding valueFrom
+before-value zero n = decimal-value n
+before-value (suc zeros) n = before-value zeros n
+
+module _ (p : Padded) where
+  pub padded-run : (rest : List ℕ) → digitRun rest ≡ [] → digitRun (padded p ++ rest) ≡ padded p
+  unfolding padded
+  padded-run = before-run (p .zeros) (p .number)
+
+  pub padded-value : valueFrom 0 (padded p) ≡ p .number
+  unfolding padded
+  padded-value = before-value (p .zeros) (p .number)
+
+  pub padded-some : 0 < length (padded p)
+  unfolding padded
+  padded-some = omega (arith, length-append (replicate (p .zeros) 48) (decimal (p .number)), some-digit (p .number))
 
 -- ---- what digits are
 
@@ -89,14 +102,14 @@ value-first b ds = rw (zero-add (b - 48))
 -- the zeros that digits begin with
 pub record HasZeros (ds : List ℕ) : Type 0 where
   pub zeros : ℕ
-  pub form : ds ≡ padded zeros (valueFrom 0 ds)
+  pub form : ds ≡ padded (withZeros zeros (valueFrom 0 ds))
 
 zero-before : {b : ℕ} {ds : List ℕ} → b ≡ 48 → HasZeros ds → HasZeros (b ∷ ds)
 unfolding padded valueFrom
 zero-before e z = record { zeros = suc (z .zeros); form = rw e (ap (λ (ds : List ℕ). 48 ∷ ds) (z .form)) }
 
 not-zero : {b : ℕ} {ds : List ℕ} → 49 ≤ b → IsDigit b → AllDigits ds → HasZeros (b ∷ ds)
-unfolding padded valueFrom
+unfolding padded
 not-zero {b} {ds} h d rest =
     record {
       zeros = 0;

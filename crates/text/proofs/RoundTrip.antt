@@ -7,7 +7,8 @@ use native.Mathlib.Omega.{arith}
 use lib.ListN.{length, drop}
 use Rattle.text.specs.Numbers.{largest, digitRun, valueFrom, mostDigits, numberAt}
 use Rattle.text.specs.Decimal.{decimal}
-use Rattle.text.specs.Laws.{padded, ReadsBack, ReadsPadded, IsPadded, ReadsOnlyPadded}
+use Rattle.text.specs.Laws.{ReadsBack}
+use Rattle.text.specs.Padding.{withZeros, padded, ReadsPadded, IsPadded, ReadsOnlyPadded}
 use Rattle.text.specs.declared.Number.{Number}
 use Rattle.text.specs.declared.Number.the-variants.{Value, Nothing}
 use Rattle.text.proofs.Cases.{le-or-lt}
@@ -17,15 +18,18 @@ use Rattle.text.proofs.Decimal.{decimal-short}
 use Rattle.text.proofs.Padded.{padded-run, padded-value, padded-some, run-digits, all-padded}
 
 pub reads-padded : ReadsPadded
-reads-padded s at zeros n rest h short e d =
-    let run : digitRun (drop at s) ≡ padded zeros n = rw d (padded-run zeros n rest e) in
-    let value : valueFrom 0 (digitRun (drop at s)) ≡ n = rw run (padded-value zeros n) in
-    let read = number-is s at (rw run (well (padded zeros n) (padded-some zeros n) short)) (omega arith) in
+reads-padded s at p rest m e d =
+    let run : digitRun (drop at s) ≡ padded p = rw d (padded-run p rest e) in
+    let value : valueFrom 0 (digitRun (drop at s)) ≡ p .number = rw run (padded-value p) in
+    let read = number-is s at (rw run (well (padded p) (padded-some p) (m .short))) (omega (arith, m .fits)) in
     rw (value, run) at read
 
+-- no zeros
 pub reads-back : ReadsBack
 unfolding padded
-reads-back s at n rest h e d = reads-padded s at 0 n rest h (decimal-short 9 n (omega arith)) e d
+reads-back s at n rest h e d =
+    reads-padded s at (withZeros 0 n) rest
+    (record { fits = h; short = decimal-short 9 n (omega arith) }) e d
 
 -- ---- nothing else
 
@@ -47,7 +51,11 @@ module _ (s : List ℕ) (at : ℕ) where
   a-number some short fits =
       let z = all-padded run some (run-digits (drop at s)) in
       rw (number-is s at (well run some short) fits)
-      (record { zeros = z .zeros; digits = z .form; short = short; fits = fits })
+      (record {
+        zeros = z .zeros;
+        stands = record { fits = fits; short = rw (← z .form) short };
+        digits = z .form;
+      })
 
   claim : Claim run (numberAt s at)
   claim =

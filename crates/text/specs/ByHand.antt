@@ -11,8 +11,8 @@ unfoldable pub firstNumber : List ℕ → Number
 firstNumber s = numberAt s 0
 
 -- so many digits 0
-unfoldable pub zeros : ℕ → List ℕ
-zeros n = replicate n 48
+unfoldable pub zeroDigits : ℕ → List ℕ
+zeroDigits n = replicate n 48
 
 -- `429496729`, to which a tenth digit is added
 unfoldable pub nineDigits : List ℕ
@@ -21,12 +21,13 @@ nineDigits = 52 ∷ 50 ∷ 57 ∷ 52 ∷ 57 ∷ 54 ∷ 55 ∷ 50 ∷ 57 ∷ []
 -- `0`, `7,`, `07`, `0000000000`, `0000000012`, `4294967295`
 unfoldable pub numberTexts : List (List ℕ)
 numberTexts =
-    zeros 1 ∷ (55 ∷ 44 ∷ []) ∷ (48 ∷ 55 ∷ []) ∷ zeros 10 ∷ (zeros 8 ++ 49 ∷ 50 ∷ []) ∷ (nineDigits ++ 53 ∷ []) ∷ []
+    zeroDigits 1 ∷ (55 ∷ 44 ∷ []) ∷ (48 ∷ 55 ∷ []) ∷ zeroDigits 10 ∷ (zeroDigits 8 ++ 49 ∷ 50 ∷ []) ∷
+    (nineDigits ++ 53 ∷ []) ∷ []
 
 -- nothing, `-7`, `00000000000`, `00000000001`, `04294967295`, `4294967296`
 unfoldable pub otherTexts : List (List ℕ)
 otherTexts =
-    [] ∷ (45 ∷ 55 ∷ []) ∷ zeros 11 ∷ (zeros 10 ++ 49 ∷ []) ∷ (zeros 1 ++ nineDigits ++ 53 ∷ []) ∷
+    [] ∷ (45 ∷ 55 ∷ []) ∷ zeroDigits 11 ∷ (zeroDigits 10 ++ 49 ∷ []) ∷ (zeroDigits 1 ++ nineDigits ++ 53 ∷ []) ∷
     (nineDigits ++ 54 ∷ []) ∷ []
 
 pub record WorkedNumbers : Type 0 where

@@ -3,38 +3,17 @@ use Prim.Native.Nat.{ℕ, suc, _+_, _^_, _<_, _≤_}
 use mathlib.Core.Path.{_≡_}
 use mathlib.Core.Bool.{true, cond}
 use mathlib.Core.List.{List, [], _++_}
-use lib.ListN.{length, getD, drop, replicate}
-use Rattle.text.specs.Numbers.{largest, digitRun, mostDigits, numberAt}
+use lib.ListN.{length, getD, drop}
+use Rattle.text.specs.Numbers.{largest, digitRun, numberAt}
 use Rattle.text.specs.Lines.{lines, lineFeeds, closed}
 use Rattle.text.specs.Decimal.{decimal}
 use Rattle.text.specs.declared.Number.the-variants.{Value}
-
--- n in decimal with zeros before it
-unfoldable pub padded : ℕ → ℕ → List ℕ
-padded zeros n = replicate zeros 48 ++ decimal n
 
 -- a number that was written is read back, whatever stands after it but a digit
 abbrev pub ReadsBack : Type 0
 ReadsBack =
     (s : List ℕ) (at n : ℕ) (rest : List ℕ) → n ≤ largest → digitRun rest ≡ [] → drop at s ≡ decimal n ++ rest
     → numberAt s at ≡ Value n (at + length (decimal n))
-
--- zeros before a number change nothing but where it ends, while there are not too many digits
-abbrev pub ReadsPadded : Type 0
-ReadsPadded =
-    (s : List ℕ) (at zeros n : ℕ) (rest : List ℕ) → n ≤ largest → length (padded zeros n) ≤ mostDigits
-    → digitRun rest ≡ [] → drop at s ≡ padded zeros n ++ rest → numberAt s at ≡ Value n (at + length (padded zeros n))
-
--- and nothing else is read as a number: where one is, its digits are that number's with zeros before them
-pub record IsPadded (ds : List ℕ) (n : ℕ) : Type 0 where
-  pub zeros : ℕ
-  pub digits : ds ≡ padded zeros n
-  pub short : length ds ≤ mostDigits
-  pub fits : n ≤ largest
-
-abbrev pub ReadsOnlyPadded : Type 0
-ReadsOnlyPadded =
-    (s : List ℕ) (at n end : ℕ) → numberAt s at ≡ Value n end → IsPadded (digitRun (drop at s)) n
 
 -- text after a closed text adds its lines to those before it
 abbrev pub LinesAppend : Type 0

@@ -5,4 +5,5 @@ pub mod Lines
 pub mod Decimal
 pub mod Output
 pub mod Laws
+pub mod Padding
 pub mod ByHand

@@ -9,6 +9,7 @@ pub mod linked;
 pub mod malformed;
 pub mod maps;
 pub mod mock;
+pub mod padding;
 pub mod plain;
 pub mod random;
 pub mod sheets;

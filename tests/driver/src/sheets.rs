@@ -2,6 +2,7 @@
 
 use crate::forest;
 use crate::malformed;
+use crate::padding;
 use crate::random::Random;
 use reference::{Call, Queues, Tree};
 
@@ -22,6 +23,8 @@ pub struct Profile {
     pub refusals: u64,
     /// Percent of lines that are no call.
     pub malformed: u64,
+    /// Percent of numbers with zeros in front.
+    pub padding: u64,
 }
 
 pub const STEADY: [u64; 6] = [30, 5, 20, 35, 8, 2];
@@ -41,6 +44,7 @@ pub fn profile(random: &mut Random, lines: usize) -> Profile {
         weights: *random.pick(&[STEADY, CASCADES, DELETIONS, MELDS]),
         refusals: *random.pick(&[0, 3, 15]),
         malformed: *random.pick(&[0, 2, 15]),
+        padding: *random.pick(&[0, 0, 15, 100]),
     }
 }
 
@@ -48,19 +52,20 @@ pub fn profile(random: &mut Random, lines: usize) -> Profile {
 pub fn lines(random: &mut Random, start: &Queues, profile: &Profile) -> Vec<Vec<u8>> {
     let mut queues = start.clone();
     let mut lines = Vec::with_capacity(profile.lines);
-    let push = |queues: &mut Queues, lines: &mut Vec<Vec<u8>>, line: Vec<u8>| {
+    let push = |random: &mut Random, queues: &mut Queues, lines: &mut Vec<Vec<u8>>, line: Vec<u8>| {
         if lines.len() < profile.lines {
+            let line = padding::pad(random, profile.padding, &line);
             queues.answer(Call::parse(&line));
             lines.push(line);
         }
     };
     for line in filling(random, &queues, profile) {
-        push(&mut queues, &mut lines, line);
+        push(random, &mut queues, &mut lines, line);
     }
     while lines.len() < profile.lines {
         if random.chance(profile.bursts) {
             for line in burst(&queues) {
-                push(&mut queues, &mut lines, line);
+                push(random, &mut queues, &mut lines, line);
             }
         }
         let line = if random.chance(profile.malformed) {
@@ -70,7 +75,7 @@ pub fn lines(random: &mut Random, start: &Queues, profile: &Profile) -> Vec<Vec<
         } else {
             steered(random, &queues, profile).into_bytes()
         };
-        push(&mut queues, &mut lines, line);
+        push(random, &mut queues, &mut lines, line);
     }
     lines
 }
@@ -201,7 +206,7 @@ fn refused(random: &mut Random, queues: &Queues) -> String {
 pub fn grown(random: &mut Random, capacity: u32, lines_played: usize) -> Queues {
     let mut queues = Queues::new(capacity);
     let mut profile = profile(random, lines_played);
-    (profile.refusals, profile.malformed) = (0, 0);
+    (profile.refusals, profile.malformed, profile.padding) = (0, 0, 0);
     for line in lines(random, &queues.clone(), &profile) {
         queues.answer(Call::parse(&line));
     }

@@ -72,11 +72,10 @@ impl Answer {
         format!("{},{},{},{},{}\n", self.code, self.item, self.key, self.links, self.cuts)
     }
 
-    /// Reads a printed line (without LF) back.
+    /// Reads a printed line (without LF) back; one with zeros in front of its numbers was never printed.
     pub fn parse(line: &[u8]) -> Option<Answer> {
-        match text::numbers(line)?[..] {
-            [code, item, key, links, cuts] => Some(Answer { code, item, key, links, cuts }),
-            _ => None,
-        }
+        let [code, item, key, links, cuts] = text::numbers(line)?[..] else { return None };
+        let answer = Answer { code, item, key, links, cuts };
+        (answer.line().as_bytes() == [line, b"\n"].concat()).then_some(answer)
     }
 }

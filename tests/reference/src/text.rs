@@ -9,11 +9,12 @@ pub fn lines(text: &[u8]) -> Vec<&[u8]> {
     lines
 }
 
-/// A number without sign or needless leading zero, at most 4,294,967,295.
+/// The most digits of a number, zeros in front among them.
+pub const MAX_DIGITS: usize = 10;
+
+/// A number: one to ten digits and nothing else, of a value up to 4,294,967,295.
 pub fn number(field: &[u8]) -> Option<u32> {
-    let digits_only = !field.is_empty() && field.iter().all(u8::is_ascii_digit);
-    let padded = field.len() > 1 && field[0] == b'0';
-    if !digits_only || padded || field.len() > 10 {
+    if field.is_empty() || field.len() > MAX_DIGITS || !field.iter().all(u8::is_ascii_digit) {
         return None;
     }
     std::str::from_utf8(field).ok()?.parse::<u64>().ok()?.try_into().ok()

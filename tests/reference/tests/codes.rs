@@ -37,7 +37,7 @@ fn codes(capacity: u32, lines: &[&str]) -> Vec<u32> {
 
 #[test]
 fn lines() {
-    assert_eq!(codes(4, &["T,07"]), [6]);
+    assert_eq!(codes(4, &["T,-7"]), [6]);
     assert_eq!(codes(4, &["J,9,9"]), [7]);
     assert_eq!(codes(1024, &["X,1024"]), [8]);
     assert_eq!(codes(4, &["I,0,1,5", "I,0,1,5"]), [0, 9]);
@@ -50,9 +50,20 @@ fn lines() {
 
 #[test]
 fn lines_that_are_no_call() {
-    let lines = ["", ",", "T", "T,", "T,0,", "T,0,0", "T 0", "t,0", "T,0\r", " T,0", "T,00", "T,+0", "T,-0", "M,,0"];
+    let lines = ["", ",", "T", "T,", "T,0,", "T,0,0", "T 0", "t,0", "T,0\r", " T,0", "T,+0", "T,-0", "M,,0"];
     assert_eq!(codes(4, &lines), vec![6; lines.len()]);
     assert_eq!(codes(4, &["T,4294967295", "T,4294967296", "T,18446744073709551616"]), [7, 6, 6]);
+}
+
+#[test]
+fn zeros_in_front() {
+    assert_eq!(codes(4, &["I,07,3,9", "T,07", "T,007", "T,0000000007"]), [0, 0, 12, 12]);
+    assert_eq!(codes(4, &["M,0000000000", "M,00000000000", "T,00000000001"]), [12, 6, 6]);
+    assert_eq!(codes(4, &["T,0000000008", "T,4294967295", "T,04294967295", "T,4294967296"]), [7, 7, 6, 6]);
+    let mut queues = Queues::new(4);
+    let lines = ["I,00,03,0000000250", "D,003,0249", "M,000", "J,01,00", "X,0000000003"];
+    let printed: String = lines.iter().map(|line| queues.answer(Call::parse(line.as_bytes())).line()).collect();
+    assert_eq!(printed, "0,3,250,0,0\n0,3,249,0,0\n0,3,249,0,0\n0,1,1,0,0\n0,3,249,0,0\n");
 }
 
 /// A feed call with result lists of `listed` words and a store for `stored` places.
@@ -122,4 +133,7 @@ fn map_texts() {
     assert_eq!(map_code(b"3,0\n0,1,2\n0,1", 1), 21);
     assert_eq!(map_code(b"3,0\n0,1,2\n0,1,2", 2), 0);
     assert_eq!(map::read(b"3,0", &mut [1], &mut [1, 2], &mut [1]).code, 16);
+    assert_eq!(map_code(b"03,0000000000\n00,1,02", 1), 0);
+    assert_eq!(map_code(b"3,00000000000\n", 1), 21);
+    assert_eq!(map_code(b"3,0\n0,1,00000000002", 1), 21);
 }

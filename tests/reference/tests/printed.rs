@@ -27,6 +27,7 @@ fn modem_run() {
 fn feed_program() {
     let printed = program::feed(b"3,0\n0,1,7\n0,2,20\n1,2,5\n");
     assert_eq!(printed, b"0,0,-\n1,7,0\n2,12,2\n0,0,3\n");
+    assert_eq!(program::feed(b"03,00\n0,1,0000000007\n00,2,020\n1,02,5\n"), printed);
     assert_eq!(program::feed(b"2,1\n"), b"0,-,-\n1,0,-\n0,0,0\n");
     assert_eq!(program::feed(b""), b"21\n");
     assert_eq!(program::feed(b"1025,0\n"), b"14\n");

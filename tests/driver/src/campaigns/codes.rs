@@ -208,7 +208,7 @@ pub fn line_codes(checker: &mut Checker) -> Verdict {
         }
     }
     let nothing = store::empty(0);
-    let sheet = b"I,0,0,0\nD,0,0\nX,0\nM,0\nT,7\nJ,0,1\nJ,1,1\nI,8,0,0\nM,8\nT,07\n";
+    let sheet = b"I,0,0,0\nD,0,0\nX,0\nM,0\nT,7\nJ,0,1\nJ,1,1\nI,8,0,0\nM,8\nT,-7\n";
     checker.fresh(&nothing, sheet, 320)?;
     checker.kept(&nothing, sheet, 320)?;
     Ok(())

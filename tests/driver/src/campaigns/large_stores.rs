@@ -31,8 +31,17 @@ fn large_shapes(step: u32) -> Vec<Queues> {
 }
 
 /// Sheets for large forests.
-const LARGE: Profile =
-    Profile { lines: 120, heaps: 2, keys: 9, fill: 0, bursts: 5, weights: sheets::CASCADES, refusals: 0, malformed: 0 };
+const LARGE: Profile = Profile {
+    lines: 120,
+    heaps: 2,
+    keys: 9,
+    fill: 0,
+    bursts: 5,
+    weights: sheets::CASCADES,
+    refusals: 0,
+    malformed: 0,
+    padding: 0,
+};
 
 pub fn large_forests(checker: &mut Checker) -> Verdict {
     let mut random = Random::new(9);

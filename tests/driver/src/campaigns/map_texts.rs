@@ -4,6 +4,7 @@ use super::feeds::expect;
 use crate::check::{Checker, Verdict};
 use crate::malformed;
 use crate::maps;
+use crate::padding;
 use crate::random::Random;
 
 /// A map text of exactly so many bytes.
@@ -46,9 +47,9 @@ pub fn limits(checker: &mut Checker) -> Verdict {
         "3,0\n0,1,2,3",
         "3,0\n0,1,2\n\n",
         "3,0\n\n0,1,2",
-        "03,0",
-        "3,00",
-        "3,0\n0,01,2",
+        "00000000003,0",
+        "3,00000000000",
+        "3,0\n0,00000000001,2",
         "3,0\n0,1,4294967296",
         "4294967296,0",
         "3,-1",
@@ -64,8 +65,18 @@ pub fn limits(checker: &mut Checker) -> Verdict {
         expect(checker.read(text.as_bytes(), [4; 3])?, 21, text)?;
         expect(checker.read(text.as_bytes(), [0, 1, 2])?, 21, text)?;
     }
-    let fine =
-        ["3,0", "3,0\n", "0,0", "4294967295,4294967295\n", "3,0\n0,1,2", "3,0\n0,1,2\n", "0,9\n4294967295,7,0\n9,9,9"];
+    let fine = [
+        "3,0",
+        "3,0\n",
+        "0,0",
+        "03,00",
+        "4294967295,4294967295\n",
+        "3,0\n0,1,2",
+        "3,0\n0,1,2\n",
+        "3,0\n0,01,2",
+        "0000000003,0000000000\n0000000000,0000000001,0000000002\n",
+        "0,9\n4294967295,7,0\n9,9,9",
+    ];
     for text in fine {
         expect(checker.read(text.as_bytes(), [4; 3])?, 0, text)?;
     }
@@ -79,7 +90,8 @@ pub fn texts(checker: &mut Checker) -> Verdict {
     for _ in 0..25_000 {
         let call = maps::small(&mut random);
         let open = random.chance(40);
-        let mut text = maps::text_of(&call, open);
+        let padded = *random.pick(&[0, 0, 30, 100]);
+        let mut text = padding::pad(&mut random, padded, &maps::text_of(&call, open));
         for _ in 0..random.size(3) {
             malformed::damage(&mut random, &mut text);
         }

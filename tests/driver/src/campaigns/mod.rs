@@ -5,6 +5,7 @@ pub mod codes;
 pub mod feeds;
 pub mod large_stores;
 pub mod map_texts;
+pub mod numbers;
 pub mod programs;
 pub mod runs;
 pub mod stores;
@@ -23,13 +24,16 @@ const fn campaign(part: Part, name: &'static str, run: fn(&mut Checker) -> Verdi
 }
 
 /// Quick ones first, so that a wrong engine is caught soon.
-pub const ALL: [Campaign; 33] = [
+pub const ALL: [Campaign; 39] = [
     campaign(Part::Modem, "modem: worked runs and limits", codes::modem),
+    campaign(Part::Modem, "modem: zeros before every number", numbers::modem),
     campaign(Part::Modem, "modem: random sheets", runs::modem_sheets),
     campaign(Part::Runs, "runs: worked runs", codes::worked_runs),
     campaign(Part::Runs, "runs: codes 1 to 5 at their limits", codes::run_limits),
     campaign(Part::Runs, "runs: lines that are no call", codes::no_calls),
     campaign(Part::Runs, "runs: codes 6 to 13", codes::line_codes),
+    campaign(Part::Runs, "runs: zeros before every number", numbers::calls),
+    campaign(Part::Runs, "runs: sheets with zeros, cut", numbers::continued),
     campaign(Part::Runs, "stores: every single-word change", stores::single_changes),
     campaign(Part::Runs, "stores: several changes", stores::several_changes),
     campaign(Part::Runs, "stores: loops apart from the rows", stores::loops),
@@ -53,10 +57,13 @@ pub const ALL: [Campaign; 33] = [
     campaign(Part::Budget, "budget: calls one after another", budgets::one_after_another),
     campaign(Part::Budget, "budget: large maps", budgets::large_maps),
     campaign(Part::Map, "map: limits and malformed texts", map_texts::limits),
+    campaign(Part::Map, "map: zeros before every number", numbers::maps),
     campaign(Part::Map, "map: random and damaged texts", map_texts::texts),
     campaign(Part::Map, "map: lengths of the lent lists", map_texts::lists),
     campaign(Part::QueueProgram, "queue program", programs::queue),
+    campaign(Part::QueueProgram, "queue program: zeros before every number", numbers::queue_program),
     campaign(Part::FeedProgram, "feed program", programs::feed),
+    campaign(Part::FeedProgram, "feed program: zeros before every number", numbers::feed_program),
 ];
 
 /// The result of one campaign.

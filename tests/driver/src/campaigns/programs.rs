@@ -12,7 +12,9 @@ use reference::Queues;
 pub fn queue(checker: &mut Checker) -> Verdict {
     let one = |text: &str| text.as_bytes().to_vec();
     let mut inputs = vec![codes::WORKED.to_vec(), codes::LONG_RUN.to_vec(), vec![]];
-    inputs.extend(["\n", "M,0", "X,1023\nX,1024", "I,0,1023,4294967295\nI,0,1024,1\nM,0\n", "T,07\nJ,9,9\n"].map(one));
+    inputs.extend(
+        ["\n", "M,0", "X,1023\nX,1024", "I,0,1023,4294967295\nI,0,1024,1\nM,0\n", "T,-7\nT,07\nJ,9,9\n"].map(one),
+    );
     inputs.extend([vec![b'M'; 60_000], vec![b'M'; 60_001], vec![b'M'; 200_000]]);
     inputs.extend([vec![b'\n'; 2_000], vec![b'\n'; 2_001], vec![b'\n'; 60_001]]);
     inputs.push(malformed::NO_CALLS.join("\n").into_bytes());

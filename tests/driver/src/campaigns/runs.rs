@@ -1,6 +1,7 @@
 //! Random sheets: fresh, line by line with demand 3, and cut into kept runs in every way.
 
 use crate::check::{Checker, Ran, Verdict};
+use crate::padding;
 use crate::random::Random;
 use crate::sheets::{self, Profile};
 use reference::ledger::{allowance, potential, Ledger};
@@ -49,7 +50,7 @@ pub fn fresh_sheets(checker: &mut Checker) -> Verdict {
         if ran.done() && !checker.sound(&ran.words)? {
             return Err("a run left an unsound store".into());
         }
-        coverage.add(&ran);
+        coverage.add(&sheet, &ran);
     }
     coverage.suffices()
 }
@@ -80,23 +81,27 @@ struct Coverage {
     cascades: u32,
     long_cascades: u32,
     many_links: u32,
+    padded: u32,
 }
 
 impl Coverage {
-    fn add(&mut self, ran: &Ran) {
-        for answer in text::lines(ran.answers()).into_iter().filter_map(Answer::parse) {
+    fn add(&mut self, sheet: &[u8], ran: &Ran) {
+        for (line, printed) in text::lines(sheet).into_iter().zip(text::lines(ran.answers())) {
+            let answer = Answer::parse(printed).expect("compared with the reference");
             self.codes[answer.code as usize] += 1;
             self.cascades += u32::from(answer.cuts > 1);
             self.long_cascades += u32::from(answer.cuts > 3);
             self.many_links += u32::from(answer.links > 20);
+            self.padded += u32::from(answer.code == 0 && padding::is_padded(line));
         }
     }
 
     fn suffices(&self) -> Verdict {
-        let seen = [&self.codes[..1], &self.codes[6..], &[self.cascades, self.long_cascades, self.many_links]].concat();
+        let others = [self.cascades, self.long_cascades, self.many_links, self.padded];
+        let seen = [&self.codes[..1], &self.codes[6..], &others].concat();
         match seen.iter().all(|&times| times >= 100) {
             true => Ok(()),
-            false => Err(format!("codes 0 and 6 to 13, cascades and links were seen only {seen:?} times")),
+            false => Err(format!("codes 0 and 6 to 13, cascades, links and zeros were seen only {seen:?} times")),
         }
     }
 }

@@ -64,7 +64,7 @@ impl Mock {
         }
         let without_empty_lines =
             text.split_inclusive(|&byte| byte == b'\n').filter(|line| line != b"\n").collect::<Vec<_>>().concat();
-        let text = if self.is(MapEmptyLineSkipped) { &without_empty_lines } else { text };
+        let text = if self.is(MapEmptyLineSkipped) { &without_empty_lines } else { &self.misread(text)[..] };
         let before = *figures;
         let code = Faithful.read_map(text, [&mut *from, to, loss], figures);
         if code != 0 && self.is(MapListsTouchedOnRefusal) {

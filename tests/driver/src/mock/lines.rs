@@ -43,10 +43,7 @@ impl Mock {
     fn parse(&self, line: &[u8]) -> Option<Call> {
         match line {
             [start @ .., b'\r'] if self.is(ReturnBeforeLineEndAccepted) => Call::parse(start),
-            [letter, b',', b'0', digit, rest @ ..] if self.is(LeadingZeroAccepted) && digit.is_ascii_digit() => {
-                Call::parse(&[&[*letter, b',', *digit], rest].concat())
-            }
-            _ => Call::parse(line),
+            _ => Call::parse(&self.misread(line)),
         }
     }
 

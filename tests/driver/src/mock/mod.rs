@@ -3,6 +3,7 @@
 mod budgets;
 mod feeds;
 mod lines;
+mod numbers;
 mod runs;
 
 use crate::engine::{BudgetLists, Engine, FeedLists, Part};
@@ -31,8 +32,13 @@ variants! {
         MarkLeftOnCutTree MarkLeftOnReleasedChild RootMarkedThatLostAChild;
     // Lines and runs.
     [Modem Runs QueueProgram]
-        RefusesEverySheet SixTestedAfterSeven LeadingZeroAccepted ReturnBeforeLineEndAccepted
+        RefusesEverySheet SixTestedAfterSeven ReturnBeforeLineEndAccepted
         OpenLastLineDropped EmptyLineSkipped EightAnsweredAsNine;
+    // Numbers, in sheets and in maps.
+    [Modem Runs QueueProgram Map FeedProgram]
+        PaddedNumberRefused ElevenDigitsAccepted AnyZerosAccepted FirstNineDigitsRead DigitDroppedWithZeros
+        PaddedNumberReadAsOctal TenDigitsRefused NumberAboveTheLargestWraps NumberAboveTheLargestLowered;
+    [Modem Runs QueueProgram] PaddingPrinted;
     [Modem Runs] OneByteBeyond RoomTestedBeforeLines;
     [Runs]
         StoreLeftAsFound KeptRunEmptiesTheStore FirstItemWordIsFirstTree CountOfJoinedHeapLeft RunFiguresSwapped
@@ -148,7 +154,7 @@ impl Engine for Mock {
     fn feed_program(&self, input: &[u8]) -> Vec<u8> {
         let most = program::ITEMS + usize::from(self.is(ProgramHoldsOnePlaceMore));
         let spans = program::SPANS + usize::from(self.is(ProgramHoldsOneSpanMore));
-        let mut printed = program::feed_sized(self.read(input), most, spans);
+        let mut printed = program::feed_sized(&self.misread(self.read(input)), most, spans);
         if self.is(ProgramOmitsLastLineEnd) {
             printed.pop();
         }

@@ -2,8 +2,9 @@
 
 use super::Mock;
 use super::Variant::*;
+use crate::padding;
 use reference::run::{self, Run, LINE_ROOM};
-use reference::{store, text, Queues, Tree, NONE};
+use reference::{store, text, Answer, Queues, Tree, NONE};
 
 impl Mock {
     pub(super) fn accepts(&self, words: &[u32]) -> Option<Queues> {
@@ -90,6 +91,14 @@ impl Mock {
         }
     }
 
+    /// The answer to a line; with a fault, zeros in the line are printed again.
+    fn printed(&self, line: &[u8], answer: Answer) -> String {
+        match self.is(PaddingPrinted) && padding::is_padded(line) {
+            true => answer.line().replacen(',', ",0", 1),
+            false => answer.line(),
+        }
+    }
+
     fn answers(&self, queues: &mut Queues, sheet: &[u8]) -> String {
         let mut lines = text::lines(sheet);
         if self.is(OpenLastLineDropped) && !sheet.ends_with(b"\n") {
@@ -105,7 +114,7 @@ impl Mock {
             if self.is(TallyNotReset) && answer.code == 0 {
                 answer.links = links;
             }
-            answers += &answer.line();
+            answers += &self.printed(line, answer);
         }
         answers
     }
