@@ -8,6 +8,9 @@
  *
  * A store for N items, N from 0 to 4,096, is 32 + 8N words, and its length says what N is.
  *
+ * A number in a sheet or a map text has one to ten digits, leading zeros among them, and is at most 4,294,967,295: `T,07`
+ * takes from heap 7, while `T,-7` and `T,00000000007` are no calls. What is written has no leading zeros.
+ *
  * Codes of a run, of a feed call and of the map reader, the first whose condition is met; 0 is done:
  *    1  the store is not 32 + 8N words
  *    2  the sheet is over 60,000 bytes

@@ -6,6 +6,7 @@ pub mod Runs
 pub mod Leaves
 pub mod FreshRuns
 pub mod Bounds
+pub mod SameCalls
 pub mod Continuation
 pub mod Moments
 pub mod Histories

@@ -1,6 +1,6 @@
 -- A line of numbers is read as these numbers, whatever zeros stand before them.
 use Prim.Native.Nat.{ℕ, suc, _+_}
-use mathlib.Core.Path.{_≡_, refl, sym, ap, _∙_}
+use mathlib.Core.Path.{_≡_, sym, ap, _∙_}
 use mathlib.Core.Bool.{true, false}
 use mathlib.Core.List.{List, [], _∷_, _++_, append-nil}
 use native.Mathlib.Nat.{add-zero}
@@ -8,8 +8,8 @@ use native.Mathlib.Omega.{arith}
 use lib.ListN.{length, getD, drop}
 use lib.Seq.{getD-drop, drop-drop, drop-append-seam}
 use borrow.Author.Tests.{ne-eqb}
-use Rattle.text.specs.Numbers.{digitRun, numberAt}
-use Rattle.text.specs.Fields.{comma, endsAt, fieldAt, numbersFrom, twoFrom, threeFrom}
+use Rattle.text.specs.Numbers.{numberAt}
+use Rattle.text.specs.Fields.{comma, endsAt, fieldAt, twoFrom, threeFrom}
 use Rattle.text.specs.Lines.{lineLength}
 use Rattle.text.specs.Padding.{Padded, padded, MayStand, paddedRow, rowNumbers, AllStand, ReadsRow}
 use Rattle.text.specs.declared.Number.the-variants.{Value}

@@ -1,12 +1,11 @@
 -- A number that was written in decimal is read back, with zeros before it too, and nothing else is read as a number.
-use Prim.Native.Nat.{ℕ, _+_, _<_, _≤_}
+use Prim.Native.Nat.{ℕ, _<_, _≤_}
 use mathlib.Core.Path.{_≡_, subst}
 use mathlib.Core.Logic.{⊎-elim}
 use mathlib.Core.List.{List}
 use native.Mathlib.Omega.{arith}
 use lib.ListN.{length, drop}
 use Rattle.text.specs.Numbers.{largest, digitRun, valueFrom, mostDigits, numberAt}
-use Rattle.text.specs.Decimal.{decimal}
 use Rattle.text.specs.Laws.{ReadsBack}
 use Rattle.text.specs.Padding.{withZeros, padded, ReadsPadded, IsPadded, ReadsOnlyPadded}
 use Rattle.text.specs.declared.Number.{Number}

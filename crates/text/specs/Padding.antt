@@ -1,4 +1,5 @@
--- Zeros before numbers, and what is read then. Proofs stand in proofs/ under the same words.
+-- Zeros before numbers: what follows from the rule for digits. No reader is defined by these. Proofs stand in proofs/
+-- under the same words.
 use Prim.Native.Nat.{ℕ, _+_, _≤_}
 use mathlib.Core.Path.{_≡_}
 use mathlib.Core.List.{List, [], _∷_, _++_}
