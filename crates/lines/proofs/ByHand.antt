@@ -5,9 +5,9 @@ use Rattle.text.specs.Fields.{endsAt, fieldAt, numbersFrom, twoFrom, threeFrom}
 use Rattle.text.specs.Lines.{lineLength}
 use Rattle.text.specs.ByHand.{zeroDigits, nineDigits}
 use Rattle.lines.specs.Parse.{ofOne, ofTwo, ofThree, callOf, lineOf}
-use Rattle.lines.specs.ByHand.{callTexts, otherTexts, WorkedLines}
+use Rattle.lines.specs.ByHand.{callTexts, noCallTexts, WorkedLines}
 
 pub workedLines : WorkedLines
-unfolding callTexts otherTexts zeroDigits nineDigits lineOf callOf ofOne ofTwo ofThree numbersFrom twoFrom threeFrom
+unfolding callTexts noCallTexts zeroDigits nineDigits lineOf callOf ofOne ofTwo ofThree numbersFrom twoFrom threeFrom
     fieldAt numberAt numberOf digitRun isDigit wellFormed valueFrom endsAt lineLength
 workedLines = record { calls = refl; others = refl }

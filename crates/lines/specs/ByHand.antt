@@ -16,12 +16,12 @@ callTexts =
     (letterI ∷ comma ∷ zeroDigits 2 ++ comma ∷ zeroDigits 8 ++ 49 ∷ 50 ∷ comma ∷ nineDigits ++ 53 ∷ []) ∷ []
 
 -- nothing, `T,`, `T,-7`, `T,00000000007` with its eleven digits
-unfoldable pub otherTexts : List (List ℕ)
-otherTexts =
+unfoldable pub noCallTexts : List (List ℕ)
+noCallTexts =
     [] ∷ (letterT ∷ comma ∷ []) ∷ (letterT ∷ comma ∷ 45 ∷ 55 ∷ []) ∷ (letterT ∷ comma ∷ zeroDigits 10 ++ 55 ∷ []) ∷ []
 
 pub record WorkedLines : Type 0 where
   pub calls :
       map lineOf callTexts
       ≡ Yields (ExtractMin 7) ∷ Yields (ExtractMin 7) ∷ Yields (Insert 0 12 4294967295) ∷ []
-  pub others : map lineOf otherTexts ≡ replicate 4 NoCall
+  pub others : map lineOf noCallTexts ≡ replicate 4 NoCall

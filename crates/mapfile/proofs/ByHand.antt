@@ -20,6 +20,6 @@ use Rattle.mapfile.specs.ByHand.{paperText, paddedText, readOnto, malfor
 
 pub workedTexts : WorkedTexts
 unfolding readOnto paperText paddedText zeroDigits malformed readMap readAnswer refusedReading refusedAnswer withSpans
-    runOut isMap spanLines firstLine column allSpans isThree isTwo spanFrom numbersOf lines ahead numbersFrom twoFrom threeFrom
-    fieldAt numberAt numberOf digitRun isDigit wellFormed valueFrom endsAt lineLength
+    runOut isMap spanLines firstLine column allSpans isThree isTwo spanFrom numbersOf lines ahead numbersFrom twoFrom
+    threeFrom fieldAt numberAt numberOf digitRun isDigit wellFormed valueFrom endsAt lineLength
 workedTexts = record { paper = refl; padded = refl; short = refl; uneven = refl; refusals = refl }

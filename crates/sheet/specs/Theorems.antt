@@ -24,8 +24,8 @@ pub record Bounded (run : Run) : Type 0 where
 abbrev pub RunsBounded : Type 0
 RunsBounded = (store sheet out : List ℕ) → Bounded (freshRun store sheet out) × Bounded (keptRun store sheet out)
 
--- Only the calls of a sheet count: sheets whose lines yield the same, as where zeros before numbers are all that differs
--- (`lines` `PaddedLine`), have the same runs, where both are within the limits.
+-- Only the calls of a sheet count: sheets whose lines yield the same, as where only zeros before numbers differ (`lines`
+-- `PaddedLine`), have the same runs, where both are within the limits.
 abbrev pub SameCalls : Type 0
 SameCalls =
     (store a b out : List ℕ) → linesOf a ≡ linesOf b → limitCode store a out ≡ 0 → limitCode store b out ≡ 0

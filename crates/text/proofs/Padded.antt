@@ -9,7 +9,7 @@ use lib.ListN.{length, getD, replicate, length-append}
 use lib.Seq.{append-snoc}
 use Rattle.text.specs.Numbers.{digitRun, valueFrom}
 use Rattle.text.specs.Decimal.{decimal}
-use Rattle.text.specs.Padding.{Padded, withZeros, padded}
+use Rattle.text.specs.Padding.{Padded, withZeros, paddedDigits}
 use Rattle.text.proofs.Cases.{le-or-lt}
 use Rattle.text.proofs.Digits.{run-digit, run-low, run-high, run-nil}
 use Rattle.text.proofs.Decimal.{IsDigit, decimal-low, decimal-high, decimal-digits, decimal-value, some-digit}
@@ -44,16 +44,16 @@ before-value zero n = decimal-value n
 before-value (suc zeros) n = before-value zeros n
 
 module _ (p : Padded) where
-  pub padded-run : (rest : List ℕ) → digitRun rest ≡ [] → digitRun (padded p ++ rest) ≡ padded p
-  unfolding padded
+  pub padded-run : (rest : List ℕ) → digitRun rest ≡ [] → digitRun (paddedDigits p ++ rest) ≡ paddedDigits p
+  unfolding paddedDigits
   padded-run = before-run (p .zeros) (p .number)
 
-  pub padded-value : valueFrom 0 (padded p) ≡ p .number
-  unfolding padded
+  pub padded-value : valueFrom 0 (paddedDigits p) ≡ p .number
+  unfolding paddedDigits
   padded-value = before-value (p .zeros) (p .number)
 
-  pub padded-some : 0 < length (padded p)
-  unfolding padded
+  pub padded-some : 0 < length (paddedDigits p)
+  unfolding paddedDigits
   padded-some = omega (arith, length-append (replicate (p .zeros) 48) (decimal (p .number)), some-digit (p .number))
 
 -- ---- what digits are
@@ -102,14 +102,14 @@ value-first b ds = rw (zero-add (b - 48))
 -- the zeros that digits begin with
 pub record HasZeros (ds : List ℕ) : Type 0 where
   pub zeros : ℕ
-  pub form : ds ≡ padded (withZeros zeros (valueFrom 0 ds))
+  pub form : ds ≡ paddedDigits (withZeros zeros (valueFrom 0 ds))
 
 zero-before : {b : ℕ} {ds : List ℕ} → b ≡ 48 → HasZeros ds → HasZeros (b ∷ ds)
-unfolding padded valueFrom
+unfolding paddedDigits valueFrom
 zero-before e z = record { zeros = suc (z .zeros); form = rw e (ap (λ (ds : List ℕ). 48 ∷ ds) (z .form)) }
 
 not-zero : {b : ℕ} {ds : List ℕ} → 49 ≤ b → IsDigit b → AllDigits ds → HasZeros (b ∷ ds)
-unfolding padded
+unfolding paddedDigits
 not-zero {b} {ds} h d rest =
     record {
       zeros = 0;
@@ -118,7 +118,7 @@ not-zero {b} {ds} h d rest =
 
 -- One digit stands alone, or the first is not 0, or it is 0 and the others are of this form.
 pub all-padded : (ds : List ℕ) → 0 < length ds → AllDigits ds → HasZeros ds
-unfolding padded valueFrom
+unfolding paddedDigits valueFrom
 all-padded [] h d = absurd (omega arith)
 all-padded (b ∷ []) h d =
     record { zeros = 0; form = sym (ap decimal (value-first b []) ∙ single b (d 0 (omega arith))) }

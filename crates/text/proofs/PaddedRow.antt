@@ -11,7 +11,7 @@ use borrow.Author.Tests.{ne-eqb}
 use Rattle.text.specs.Numbers.{numberAt}
 use Rattle.text.specs.Fields.{comma, endsAt, fieldAt, twoFrom, threeFrom}
 use Rattle.text.specs.Lines.{lineLength}
-use Rattle.text.specs.Padding.{Padded, padded, MayStand, paddedRow, rowNumbers, AllStand, ReadsRow}
+use Rattle.text.specs.Padding.{Padded, paddedDigits, MayStand, paddedRow, rowNumbers, AllStand, ReadsRow}
 use Rattle.text.specs.declared.Number.the-variants.{Value}
 use Rattle.text.proofs.Digits.{run-nil, run-low}
 use Rattle.text.proofs.Fields.{field-comma, end-numbers, end-two, end-three, on-numbers, on-two, on-three}
@@ -19,16 +19,16 @@ use Rattle.text.proofs.RoundTrip.{reads-padded}
 
 -- the position after a number that stands at `at`
 abbrev after : ℕ → Padded → ℕ
-after at p = at + length (padded p)
+after at p = at + length (paddedDigits p)
 
 module _ (s : List ℕ) (at : ℕ) (p : Padded) (m : MayStand p) where
-  left : (rest : List ℕ) → drop at s ≡ padded p ++ rest → drop (after at p) s ≡ rest
-  left rest d = sym (drop-drop (length (padded p)) at s) ∙ rw d (drop-append-seam (padded p) rest)
+  left : (rest : List ℕ) → drop at s ≡ paddedDigits p ++ rest → drop (after at p) s ≡ rest
+  left rest d = sym (drop-drop (length (paddedDigits p)) at s) ∙ rw d (drop-append-seam (paddedDigits p) rest)
 
   -- the line ends after the number
-  module _ (d : drop at s ≡ padded p) where
-    alone : drop at s ≡ padded p ++ []
-    alone = d ∙ sym (append-nil (padded p))
+  module _ (d : drop at s ≡ paddedDigits p) where
+    alone : drop at s ≡ paddedDigits p ++ []
+    alone = d ∙ sym (append-nil (paddedDigits p))
 
     read-last : numberAt s at ≡ Value (p .number) (after at p)
     read-last = reads-padded s at p [] m run-nil alone
@@ -38,7 +38,7 @@ module _ (s : List ℕ) (at : ℕ) (p : Padded) (m : MayStand p) where
     ends = rw (left [] alone)
 
   -- a comma stands after it
-  module _ (rest : List ℕ) (d : drop at s ≡ padded p ++ comma ∷ rest) where
+  module _ (rest : List ℕ) (d : drop at s ≡ paddedDigits p ++ comma ∷ rest) where
     read-on : numberAt s at ≡ Value (p .number) (after at p)
     read-on = reads-padded s at p (comma ∷ rest) m (run-low comma rest (omega arith)) d
 

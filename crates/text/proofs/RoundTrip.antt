@@ -7,7 +7,7 @@ use native.Mathlib.Omega.{arith}
 use lib.ListN.{length, drop}
 use Rattle.text.specs.Numbers.{largest, digitRun, valueFrom, mostDigits, numberAt}
 use Rattle.text.specs.Laws.{ReadsBack}
-use Rattle.text.specs.Padding.{withZeros, padded, ReadsPadded, IsPadded, ReadsOnlyPadded}
+use Rattle.text.specs.Padding.{withZeros, paddedDigits, ReadsPadded, IsPadded, ReadsOnlyPadded}
 use Rattle.text.specs.declared.Number.{Number}
 use Rattle.text.specs.declared.Number.the-variants.{Value, Nothing}
 use Rattle.text.proofs.Cases.{le-or-lt}
@@ -18,14 +18,14 @@ use Rattle.text.proofs.Padded.{padded-run, padded-value, padded-some, r
 
 pub reads-padded : ReadsPadded
 reads-padded s at p rest m e d =
-    let run : digitRun (drop at s) ≡ padded p = rw d (padded-run p rest e) in
+    let run : digitRun (drop at s) ≡ paddedDigits p = rw d (padded-run p rest e) in
     let value : valueFrom 0 (digitRun (drop at s)) ≡ p .number = rw run (padded-value p) in
-    let read = number-is s at (rw run (well (padded p) (padded-some p) (m .short))) (omega (arith, m .fits)) in
+    let read = number-is s at (rw run (well (paddedDigits p) (padded-some p) (m .short))) (omega (arith, m .fits)) in
     rw (value, run) at read
 
 -- no zeros
 pub reads-back : ReadsBack
-unfolding padded
+unfolding paddedDigits
 reads-back s at n rest h e d =
     reads-padded s at (withZeros 0 n) rest
     (record { fits = h; short = decimal-short 9 n (omega arith) }) e d

@@ -25,8 +25,8 @@ numberTexts =
     (nineDigits ++ 53 ∷ []) ∷ []
 
 -- nothing, `-7`, `00000000000`, `00000000001`, `04294967295`, `4294967296`
-unfoldable pub otherTexts : List (List ℕ)
-otherTexts =
+unfoldable pub noNumberTexts : List (List ℕ)
+noNumberTexts =
     [] ∷ (45 ∷ 55 ∷ []) ∷ zeroDigits 11 ∷ (zeroDigits 10 ++ 49 ∷ []) ∷ (zeroDigits 1 ++ nineDigits ++ 53 ∷ []) ∷
     (nineDigits ++ 54 ∷ []) ∷ []
 
@@ -35,4 +35,4 @@ pub record WorkedNumbers : Type 0 where
   pub numbers :
       map firstNumber numberTexts
       ≡ Value 0 1 ∷ Value 7 1 ∷ Value 7 2 ∷ Value 0 10 ∷ Value 12 10 ∷ Value 4294967295 10 ∷ []
-  pub others : map firstNumber otherTexts ≡ replicate 6 Nothing
+  pub others : map firstNumber noNumberTexts ≡ replicate 6 Nothing

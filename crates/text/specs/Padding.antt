@@ -20,25 +20,25 @@ abbrev pub withZeros : ℕ → ℕ → Padded
 withZeros zeros n = record { zeros = zeros; number = n }
 
 -- its digits
-unfoldable pub padded : Padded → List ℕ
-padded p = replicate (p .zeros) 48 ++ decimal (p .number)
+unfoldable pub paddedDigits : Padded → List ℕ
+paddedDigits p = replicate (p .zeros) 48 ++ decimal (p .number)
 
 -- it is not too large, and has not too many digits
 pub record MayStand (p : Padded) : Type 0 where
   pub fits : p .number ≤ largest
-  pub short : length (padded p) ≤ mostDigits
+  pub short : length (paddedDigits p) ≤ mostDigits
 
 -- Such a number is read, whatever stands after it but a digit.
 abbrev pub ReadsPadded : Type 0
 ReadsPadded =
-    (s : List ℕ) (at : ℕ) (p : Padded) (rest : List ℕ) → MayStand p → digitRun rest ≡ [] → drop at s ≡ padded p ++ rest
-    → numberAt s at ≡ Value (p .number) (at + length (padded p))
+    (s : List ℕ) (at : ℕ) (p : Padded) (rest : List ℕ) → MayStand p → digitRun rest ≡ []
+    → drop at s ≡ paddedDigits p ++ rest → numberAt s at ≡ Value (p .number) (at + length (paddedDigits p))
 
 -- Nothing else is read as a number: where n is read, its digits stand there, with some zeros before them.
 pub record IsPadded (ds : List ℕ) (n : ℕ) : Type 0 where
   pub zeros : ℕ
   pub stands : MayStand (withZeros zeros n)
-  pub digits : ds ≡ padded (withZeros zeros n)
+  pub digits : ds ≡ paddedDigits (withZeros zeros n)
 
 abbrev pub ReadsOnlyPadded : Type 0
 ReadsOnlyPadded = (s : List ℕ) (at n end : ℕ) → numberAt s at ≡ Value n end → IsPadded (digitRun (drop at s)) n
@@ -47,8 +47,8 @@ ReadsOnlyPadded = (s : List ℕ) (at n end : ℕ) → numberAt s at ≡ Value n 
 
 -- numbers separated by commas
 unfoldable pub paddedRow : Padded → List Padded → List ℕ
-paddedRow p [] = padded p
-paddedRow p (q ∷ ps) = padded p ++ comma ∷ paddedRow q ps
+paddedRow p [] = paddedDigits p
+paddedRow p (q ∷ ps) = paddedDigits p ++ comma ∷ paddedRow q ps
 
 -- what a row is read as: its numbers, without their zeros
 unfoldable pub rowNumbers : Padded → List Padded → Numbers

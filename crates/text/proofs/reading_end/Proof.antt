@@ -1,5 +1,5 @@
--- `reading_end` meets its contract: the smaller of two positions. The checker finds these proofs by itself too; they are
--- written out so that a wrong end is refused here.
+-- `reading_end` meets its contract: the smaller of two positions. The checker finds these proofs by itself too; they
+-- are written out so that a wrong end is refused here.
 use borrow.Author.Needs.{needs}
 use native.Mathlib.Omega.{arith}
 use Rattle.text.proofs.reading_end.Statement.{statement}
