@@ -166,6 +166,46 @@ static void try_worked_runs(void) {
     free(other.at);
 }
 
+/* Where the eight words of an item lie, block by block. */
+enum { KEY, PARENT, FIRST_CHILD, LAST_CHILD, NEXT, PREVIOUS, RANK, STATE };
+
+static uint32_t word_of(words store, int field, uint32_t item) {
+    size_t items = (store.len - STORE(0)) / 8;
+    return store.at[STORE(0) + (size_t)field * items + item];
+}
+
+/* So many items, from the highest down, put into heap 0 with key 0. */
+static int inserts_down(words store, unsigned highest, unsigned count) {
+    char *sheet = (char *)block(2000 * 16), *expected = (char *)block(2000 * 16);
+    size_t in = 0, out = 0;
+    for (unsigned i = 0; i < count; i++) {
+        in += (size_t)sprintf(sheet + in, "I,0,%u,0\n", highest - i);
+        out += (size_t)sprintf(expected + out, "0,%u,0,0,0\n", highest - i);
+    }
+    int same = answers(kept_run, store, sheet, expected);
+    free(sheet);
+    free(expected);
+    return same;
+}
+
+/* The largest store: its last item and item 0 meet, then all 4,096 items are linked. */
+static void try_largest_store(void) {
+    words store = filled(STORE(4096));
+    expect("the first and the last item meet",
+           answers(fresh_run, store, "I,0,4095,2\nI,0,0,2\nI,0,2048,1\nT,0\n",
+                   "0,4095,2,0,0\n0,0,2,0,0\n0,2048,1,0,0\n0,2048,1,1,0\n"));
+    expect("the last is the first's child", word_of(store, FIRST_CHILD, 0) == 4095 && word_of(store, RANK, 0) == 1
+                                                && word_of(store, PARENT, 4095) == 0);
+    expect("all items, from the last down",
+           answers(fresh_run, store, "", "") && inserts_down(store, 4095, 2000) && inserts_down(store, 2095, 2000)
+               && inserts_down(store, 95, 96));
+    /* 4,095 trees of one item are 2,048 and 1,024 and so on down to one */
+    expect("linking them all", answers(kept_run, store, "T,0\nT,0\nM,0\n", "0,0,0,4083,0\n0,1,0,0,0\n0,2,0,0,0\n"));
+    expect("the largest tree", word_of(store, RANK, 2048) == 11 && word_of(store, PARENT, 2048) == CABLE_QUEUE_NONE
+                                   && word_of(store, PARENT, 4095) == 4094);
+    free(store.at);
+}
+
 static void try_refused_runs(void) {
     words store = filled(STORE(ITEMS)), odd = filled(33);
     expect("words of no store: 5", refused(kept_run, 5, store, 1, 32));
@@ -356,6 +396,7 @@ static void try_readings(void) {
 
 int main(void) {
     try_worked_runs();
+    try_largest_store();
     try_refused_runs();
     try_feeds();
     try_budgets();

@@ -1,8 +1,6 @@
 // Linking, and taking a heap's minimum, on a store for n items.
 ghost use mathlib.Core.Path.{_≡_};
 ghost use mathlib.Core.Bool.{cond};
-ghost use Prim.Native.Nat.{_+_, _<_};
-ghost use lib.ListN.{getD, set};
 ghost use Rattle.rules.specs.declared.Call.the-variants.{ExtractMin};
 ghost use Rattle.rules.specs.declared.Field.the-variants.{Key};
 ghost use Rattle.rules.specs.Calls.{perform};
@@ -10,12 +8,16 @@ ghost use Rattle.rules.specs.Order.{comesBefore};
 ghost use Rattle.rules.specs.Words.{decode, look};
 ghost use Rattle.store.specs.ItemOrder.{itemKey};
 ghost use Rattle.store.specs.Says.{Within};
+ghost use Rattle.linking_places.specs.Places.{treesOf};
 ghost use Rattle.consolidate.specs.Consolidating.{ClimbReady, ConsolidateReady, RowReady};
 ghost use Rattle.consolidate.specs.Consolidating.{Consolidates, LinksRow, Climbs, WritesRow};
 ghost use Rattle.consolidate.specs.Extract.{ExtractReady, Performs};
 ghost use Rattle.consolidate.specs.Released.{ReleaseReady, Releases};
 ghost use Rattle.consolidate.specs.Removed.{RemovesRoot, RootReady};
 ghost use Rattle.consolidate.specs.Writing.{TreeReady, WritesTree};
+use linking_places::free_places;
+use linking_places::hold;
+use linking_places::holder;
 use rules::Field;
 use rules::Tally;
 use store::NONE;
@@ -54,34 +56,18 @@ fn in_order(s: &[u32], n: usize, a: u32, b: u32) -> Pair
     }
 }
 
-// The tree at place r. This function and the next alone index the places.
-fn holder(places: &[u32; 17], r: u32) -> u32
-    requires { ⌜ r < 17 ⌝ }
-    ensures { λ x. ⌜ x ≡ getD (now (places .entry)) r 0 ⌝ }
-{
-    places[r as usize]
-}
-
-// The tree x put at place r.
-fn hold(places: &mut [u32; 17], r: u32, x: u32)
-    requires { ⌜ r < 17 ⌝ }
-    ensures { λ q. ⌜ now (places .exit) ≡ set (now (places .entry)) r x ⌝ }
-{
-    places[r as usize] = x;
-}
-
 // The places, and the tally so far.
 struct Linked {
-    places: [u32; 17],
+    places: [u16; 17],
     tally: Tally,
 }
 
 // A tree comes to the places: it is linked with the holder of the place of its rank, and the winner climbs one rank,
 // until it rests at a free place.
-fn climb(s: &mut [u32], n: usize, held: [u32; 17], tree: u32, tally: Tally) -> Linked
-    requires { ⌜ ClimbReady n (now s) held tree (tally .links) ⌝ }
-    ensures { λ r. ⌜ Climbs n (now (s .entry)) held tree (tally .links)
-        (now (s .exit)) (r .places) (r .tally .links) ⌝ }
+fn climb(s: &mut [u32], n: usize, held: [u16; 17], tree: u32, tally: Tally) -> Linked
+    requires { ⌜ ClimbReady n (now s) (treesOf held) tree (tally .links) ⌝ }
+    ensures { λ r. ⌜ Climbs n (now (s .entry)) (treesOf held) tree (tally .links)
+        (now (s .exit)) (treesOf (r .places)) (r .tally .links) ⌝ }
     ensures { λ r. ⌜ r .tally .cuts ≡ tally .cuts ⌝ }
 {
     let mut places = held;
@@ -108,10 +94,11 @@ fn climb(s: &mut [u32], n: usize, held: [u32; 17], tree: u32, tally: Tally) -> L
 // The trees of the row of heap h come to the places, left to right. Its links are left as they are.
 fn link_row(s: &mut [u32], n: usize, h: u32, tally: Tally) -> Linked
     requires { ⌜ ConsolidateReady n (now s) h (tally .links) ⌝ }
-    ensures { λ r. ⌜ LinksRow n (now (s .entry)) h (tally .links) (now (s .exit)) (r .places) (r .tally .links) ⌝ }
+    ensures { λ r. ⌜ LinksRow n (now (s .entry)) h (tally .links)
+        (now (s .exit)) (treesOf (r .places)) (r .tally .links) ⌝ }
     ensures { λ r. ⌜ r .tally .cuts ≡ tally .cuts ⌝ }
 {
-    let mut places = [NONE; 17];
+    let mut places = free_places();
     let mut t = tally;
     let mut x = get(s, n, Field::FirstTree, h);
     while x != NONE {
@@ -170,9 +157,9 @@ fn write_tree(s: &mut [u32], n: usize, h: u32, m: u32, x: u32) -> u32
 }
 
 // The row of heap h written anew from the places, by ascending rank, with its minimum.
-fn write_row(s: &mut [u32], n: usize, h: u32, places: [u32; 17])
-    requires { ⌜ RowReady n (now s) h places ⌝ }
-    ensures { λ r. ⌜ WritesRow n (now (s .entry)) h places (now (s .exit)) ⌝ }
+fn write_row(s: &mut [u32], n: usize, h: u32, places: [u16; 17])
+    requires { ⌜ RowReady n (now s) h (treesOf places) ⌝ }
+    ensures { λ r. ⌜ WritesRow n (now (s .entry)) h (treesOf places) (now (s .exit)) ⌝ }
 {
     put(s, n, Field::FirstTree, h, NONE);
     put(s, n, Field::LastTree, h, NONE);

@@ -49,6 +49,11 @@ impl Numbering {
         Numbering { next: first, step }
     }
 
+    /// The item that comes next.
+    pub fn next(&self) -> u32 {
+        self.next
+    }
+
     pub fn leaf(&mut self) -> Tree {
         let item = self.next;
         self.next += 1;

@@ -7,6 +7,8 @@ use borrow.Author.Needs.{needs}
 use lib.ListN.{length}
 use Rattle.rules.specs.Consolidate.{occupied}
 use Rattle.rules.specs.Forests.{Forests}
+use Rattle.linking_places.specs.Places.{treesOf}
+use Rattle.linking_places.proofs.Laws.{itemsHoldable}
 use Rattle.consolidate.specs.Consolidating.{Consolidating, Climbs, climbTree}
 use Rattle.consolidate.proofs.Climbing.{Climbing, climb-ends, climb-starts, rank-inside, tree-inside}
 use Rattle.consolidate.proofs.ClimbLink.{climb-step, links-fit}
@@ -17,9 +19,9 @@ use Rattle.consolidate.proofs.climb.Tie as tie
 abbrev Inv-loop : tie.InvT-loop
 Inv-loop s₀ n tree places₀ x₀ t₀ r₀ s places x t r =
     (length s ≡ length s₀) × (t .cuts ≡ t₀ .cuts) ×
-    ((h base k : ℕ) (u : Forests) (rest : List ℕ) → Consolidating n h s₀ places₀ (x₀ ∷ rest) rest u
-    → t₀ .links ≡ base + k → t₀ .links + length (occupied places₀) ≤ 4294967295
-    → Climbing n h base rest (climbTree places₀ k u x₀) s places x r (t .links))
+    ((h base k : ℕ) (u : Forests) (rest : List ℕ) → Consolidating n h s₀ (treesOf places₀) (x₀ ∷ rest) rest u
+    → t₀ .links ≡ base + k → t₀ .links + length (occupied (treesOf places₀)) ≤ 4294967295
+    → Climbing n h base rest (climbTree (treesOf places₀) k u x₀) s (treesOf places) x r (t .links))
 
 abbrev μ-loop : tie.MeasureT-loop
 μ-loop s₀ n tree places₀ x₀ t₀ r₀ s places x t r = 17 - r
@@ -28,8 +30,8 @@ abbrev μ-loop : tie.MeasureT-loop
 here : (c : tie.At-loop Inv-loop μ-loop) →
     let a = c .before .before .before .before .args in
     let p = c .before .before .before .before .pre in
-    Climbing (a .n) (p .inHeap) 0 (p .rest) (climbTree (a .held) (a .tally .links) (p .forests) (a .tree)) (c .loop .s)
-    (c .loop .places) (c .loop .x) (c .loop .r) (c .loop .t .links)
+    Climbing (a .n) (p .inHeap) 0 (p .rest) (climbTree (treesOf (a .held)) (a .tally .links) (p .forests) (a .tree)) (c .loop .s)
+    (treesOf (c .loop .places)) (c .loop .x) (c .loop .r) (c .loop .t .links)
 here c =
     let p = c .before .before .before .before .pre in
     c .loop .inv .2 (p .inHeap) 0 _ (p .forests) (p .rest) (p .state) (omega arith) (p .fits)
@@ -42,7 +44,7 @@ get-requires c κs =
       sized = p .state .says .sized;
       inside = tree-inside
           (climb-starts (c0 .args .n) (p .inHeap) 0 (c0 .args .tally .links) (p .rest) (c0 .args .s .now)
-          (c0 .args .held)
+          (treesOf (c0 .args .held))
           (p .forests) (c0 .args .tree) (c0 .args .tally .links) _ (p .state) (omega arith) (p .fits) refl);
     }
 
@@ -77,7 +79,7 @@ append-requires c κs =
 hold-requires : tie.Need-hold-requires Inv-loop μ-loop
 hold-requires c κs =
     let c10 = c .before .before .before .before .before .before .before .before .before .before in
-    rank-inside (here c10)
+    (rank-inside (here c10), λ d. absurd (d refl))
 
 link-requires : tie.Need-link-requires Inv-loop μ-loop
 link-requires c κs =
@@ -115,7 +117,8 @@ loop-again c =
 hold-requires-2 : tie.Need-hold-requires-2 Inv-loop μ-loop
 hold-requires-2 c κs =
     let c4 = c .before .before .before .before in
-    rank-inside (here c4)
+    let g = here c4 in
+    (rank-inside g, itemsHoldable _ (omega (arith, tree-inside g, g .state .says .sized .small)))
 
 same-length : tie.Need-same-length Inv-loop μ-loop
 same-length c = search needs

@@ -8,6 +8,7 @@ use Rattle.rules.specs.declared.Field.the-variants.{Next}
 use Rattle.rules.specs.Forests.{Forests}
 use Rattle.rules.specs.WellFormed.{WellFormed}
 use Rattle.rules.specs.Words.{follow, look}
+use Rattle.linking_places.specs.Places.{treesOf}
 use Rattle.consolidate.specs.Consolidating.{LinksRow, linkRow}
 use Rattle.consolidate.specs.Stored.{Rowed}
 use Rattle.consolidate.proofs.LinkingRow.{
@@ -26,7 +27,7 @@ abbrev Inv-loop : tie.InvT-loop
 Inv-loop s₀ n h places₀ t₀ x₀ s places t x =
     (length s ≡ length s₀) × (t .cuts ≡ t₀ .cuts) ×
     ((m : ℕ) (u : Forests) → Rowed n h m s₀ u → WellFormed u
-    → LinkingRow n h (t₀ .links) (linkRow h u) s places x (t .links))
+    → LinkingRow n h (t₀ .links) (linkRow h u) s (treesOf places) x (t .links))
 
 -- the trees to come, read off the words
 abbrev μ-loop : tie.MeasureT-loop
@@ -40,22 +41,26 @@ returns c =
 
 get-requires : tie.Need-get-requires Inv-loop μ-loop
 get-requires c κs =
-    let p = c .before .before .pre in
+    let p = c .before .before .before .pre in
     record { sized = p .rowed .says .sized; inside = p .heap }
 
 loop-holds : tie.Need-loop-holds Inv-loop μ-loop
 loop-holds c =
-    let p = c .before .before .before .pre in
-    (refl, refl, λ m u R W. walk-starts _ _ R W (p .heap) (c .get .ensures) (p .fits))
+    let c2 = c .before .before in
+    let p = c2 .before .before .pre in (
+      refl,
+      refl,
+      λ m u R W. rw (c2 .free-places .ensures) (walk-starts _ _ R W (p .heap) (c .get .ensures) (p .fits)),
+    )
 
 -- the state at the loop's head, for the forests that the caller has
 here : (c : tie.At-loop Inv-loop μ-loop) →
-    let a = c .before .before .before .before .args in
-    let p = c .before .before .before .before .pre in
-    LinkingRow (a .n) (a .h) (a .tally .links) (linkRow (a .h) (p .forests)) (c .loop .s) (c .loop .places) (c .loop .x)
+    let a = c .before .before .before .before .before .args in
+    let p = c .before .before .before .before .before .pre in
+    LinkingRow (a .n) (a .h) (a .tally .links) (linkRow (a .h) (p .forests)) (c .loop .s) (treesOf (c .loop .places)) (c .loop .x)
     (c .loop .t .links)
 here c =
-    let p = c .before .before .before .before .pre in
+    let p = c .before .before .before .before .before .pre in
     c .loop .inv .2 (p .least) (p .forests) (p .rowed) (p .formed)
 
 get-requires-2 : tie.Need-get-requires-2 Inv-loop μ-loop
@@ -95,5 +100,5 @@ same-length c = search needs
 pub link-row-spec : {M : Type 1} → statement M
 link-row-spec =
     tie.close
-    (tie.spec Inv-loop μ-loop get-requires loop-holds get-requires-2 climb-requires loop-less loop-again same-length
-    returns)
+    (tie.spec Inv-loop μ-loop (λ c κs. search needs) get-requires loop-holds get-requires-2 climb-requires loop-less
+    loop-again same-length returns)

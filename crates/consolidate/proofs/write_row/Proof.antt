@@ -8,6 +8,7 @@ use lib.ListN.{length, drop, take}
 use Rattle.rules.specs.Consolidate.{occupied}
 use Rattle.rules.specs.Forests.{Forests, none, rowOf, setRow}
 use Rattle.rules.specs.WellFormed.{Disjoint}
+use Rattle.linking_places.specs.Places.{treesOf}
 use Rattle.consolidate.specs.Consolidating.{WritesRow}
 use Rattle.consolidate.specs.Writing.{WritingRow, WritesTree}
 use Rattle.consolidate.proofs.RowWritten.{
@@ -24,8 +25,8 @@ use Rattle.consolidate.proofs.write_row.Tie as tie
 abbrev Inv-loop : tie.InvT-loop
 Inv-loop s₀ n h places m₀ r₀ s m r =
     (length s ≡ length s₀) ×
-    ((t : Forests) → Disjoint t → rowOf t h ≡ occupied places → WritingRow n h s₀ [] none t
-    → WritingRow n h s (occupied (take r places)) m t)
+    ((t : Forests) → Disjoint t → rowOf t h ≡ occupied (treesOf places) → WritingRow n h s₀ [] none t
+    → WritingRow n h s (occupied (take r (treesOf places))) m t)
 
 abbrev μ-loop : tie.MeasureT-loop
 μ-loop s₀ n h places m₀ r₀ s m r = 17 - r
@@ -48,8 +49,8 @@ loop-holds c = (refl, λ t D e W. W)
 -- the state at the loop's head, for the forests that the caller has
 here : (c : tie.At-loop Inv-loop μ-loop) →
     let c10 = c .before .before .before .before .before .before .before .before .before .before in
-    WritingRow (c10 .args .n) (c10 .args .h) (c .loop .s) (occupied (take (c .loop .r) (c10 .args .t4))) (c .loop .m)
-    (setRow (c10 .args .h) (occupied (c10 .args .t4)) (c10 .pre .forests))
+    WritingRow (c10 .args .n) (c10 .args .h) (c .loop .s) (occupied (take (c .loop .r) (treesOf (c10 .args .t4)))) (c .loop .m)
+    (setRow (c10 .args .h) (occupied (treesOf (c10 .args .t4))) (c10 .pre .forests))
 here c =
     let c3 = c .before .before .before in
     let c7 = c3 .before .before .before .before in
@@ -65,7 +66,7 @@ write-tree-requires c κs =
     let c4 = c3 .before in
     let c14 = c4 .before .before .before .before .before .before .before .before .before .before in
     let C = c14 .pre .state in
-    let ps = c14 .args .t4 in
+    let ps = treesOf (c14 .args .t4) in
     let r = c4 .loop .r in
     let t = setRow (c14 .args .h) (occupied ps) (c14 .pre .forests) in
     record {
@@ -87,7 +88,7 @@ loop-again c =
     let c17 = c7 .before .before .before .before .before .before .before .before .before .before in
     let C = c17 .pre .state in
     let h = c17 .args .h in
-    let ps = c17 .args .t4 in
+    let ps = treesOf (c17 .args .t4) in
     let r = c7 .loop .r in (
       omega (arith, c2 .write-tree .kept .0, c7 .loop .inv .0),
       λ t D e W.
@@ -121,7 +122,7 @@ returns c =
     let c12 = c8 .before .before .before .before in
     let a = c12 .before .before .before .args in
     λ t C.
-    row-written (a .h) (a .t4) (c5 .loop .r) _ (places-formed C .disjoint) (C .heap) (places-row C) (C .long)
+    row-written (a .h) (treesOf (a .t4)) (c5 .loop .r) _ (places-formed C .disjoint) (C .heap) (places-row C) (C .long)
     (c4 .loop-test .left)
     (c5 .loop .inv .1 _ (places-formed C .disjoint) (places-row C)
     (writing-starts C (c12 .put .ensures) (c8 .put2 .ensures))) (c2 .put3 .ensures)

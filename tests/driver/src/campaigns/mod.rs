@@ -4,6 +4,7 @@ pub mod budgets;
 pub mod codes;
 pub mod feeds;
 pub mod large_stores;
+pub mod linking_places;
 pub mod map_texts;
 pub mod numbers;
 pub mod programs;
@@ -24,7 +25,7 @@ const fn campaign(part: Part, name: &'static str, run: fn(&mut Checker) -> Verdi
 }
 
 /// Quick ones first, so that a wrong engine is caught soon.
-pub const ALL: [Campaign; 39] = [
+pub const ALL: [Campaign; 40] = [
     campaign(Part::Modem, "modem: worked runs and limits", codes::modem),
     campaign(Part::Modem, "modem: zeros before every number", numbers::modem),
     campaign(Part::Modem, "modem: random sheets", runs::modem_sheets),
@@ -44,6 +45,7 @@ pub const ALL: [Campaign; 39] = [
     campaign(Part::Runs, "runs: demand 3, line by line", runs::ledger),
     campaign(Part::Runs, "runs: every cut into kept runs", runs::every_cut),
     campaign(Part::Runs, "stores: large forests, ranks to 16", large_stores::large_forests),
+    campaign(Part::Runs, "stores: items 0 and 4,095 at every rank", linking_places::first_and_last_item),
     campaign(Part::Feed, "feed: worked run", feeds::worked),
     campaign(Part::Feed, "feed: codes 14 to 20 at their limits", feeds::limits),
     campaign(Part::Feed, "feed: random maps", feeds::random_maps),

@@ -91,6 +91,10 @@ impl Mock {
                 queues.rows[heap] = row;
                 consolidate_by_row_order(queues, heap)
             }
+            Some(PlaceCutTo8Bits | PlaceCutTo11Bits | LastItemTakenForFree | FreePlaceCutTo12Bits) => {
+                queues.rows[heap] = row;
+                self.consolidate_by_numbers(queues, heap)
+            }
             Some(LinksReportedZero) => 0,
             Some(InventedCount) => links + links / 3,
             _ => links,

@@ -4,6 +4,7 @@ mod budgets;
 mod feeds;
 mod lines;
 mod numbers;
+mod places;
 mod runs;
 
 use crate::engine::{BudgetLists, Engine, FeedLists, Part};
@@ -30,6 +31,9 @@ variants! {
     // Queues: seen in store words only, since a mark on a root changes no later answer.
     [Runs]
         MarkLeftOnCutTree MarkLeftOnReleasedChild RootMarkedThatLostAChild;
+    // Queues: seen with more items than the modem has.
+    [Runs]
+        PlaceCutTo8Bits PlaceCutTo11Bits LastItemTakenForFree FreePlaceCutTo12Bits;
     // Lines and runs.
     [Modem Runs QueueProgram]
         RefusesEverySheet SixTestedAfterSeven ReturnBeforeLineEndAccepted

@@ -1,0 +1,23 @@
+-- The places of linking in 16 bits. The rules have an item or `none` at a place: this is what its number stands for.
+use Prim.Native.Nat.{ℕ, _<_}
+use mathlib.Core.Logic.{_≢_}
+use mathlib.Core.List.{List, map}
+use mathlib.Core.Bool.{cond}
+use lib.Dec.{ltb}
+use Rattle.rules.specs.Forests.{none}
+
+-- the number at a free place, the largest of 16 bits
+abbrev pub freePlace : ℕ
+freePlace = 65535
+
+-- what the number at a place stands for: below that it is an item
+unfoldable pub treeOf : ℕ → ℕ
+treeOf p = cond (ltb p freePlace) p none
+
+-- what the numbers at all places stand for
+unfoldable pub treesOf : List ℕ → List ℕ
+treesOf = map treeOf
+
+-- `none`, or an item that 16 bits tell from a free place
+abbrev pub Holdable : ℕ → Type 0
+Holdable x = x ≢ none → x < freePlace

@@ -1,0 +1,59 @@
+//! Faults in what a place of linking holds. Places hold numbers here, and a number stands for the tree with this root.
+
+use super::Mock;
+use super::Variant::*;
+use reference::queue::{link, PLACES};
+use reference::{Queues, Tree};
+
+/// The number at a free place.
+const FREE: u32 = 65535;
+
+impl Mock {
+    /// The number that is put at a place for a root, or for none.
+    fn put(&self, root: Option<u32>) -> u32 {
+        match root {
+            Some(item) if self.is(PlaceCutTo8Bits) => item & 255,
+            Some(item) if self.is(PlaceCutTo11Bits) => item & 2047,
+            Some(item) => item,
+            None if self.is(FreePlaceCutTo12Bits) => FREE & 4095,
+            None => FREE,
+        }
+    }
+
+    /// The root that the number at a place stands for. One that is in no table is taken for none.
+    fn found(&self, number: u32, capacity: u32) -> Option<u32> {
+        let taken_for_free = self.is(LastItemTakenForFree) && number == 4095;
+        (number < capacity && !taken_for_free).then_some(number)
+    }
+
+    /// Linking, with these numbers at the places.
+    pub(super) fn consolidate_by_numbers(&self, queues: &mut Queues, heap: usize) -> u32 {
+        let mut places = [FREE; PLACES];
+        let mut trees = Vec::new();
+        let mut links = 0;
+        for mut tree in std::mem::take(&mut queues.rows[heap]) {
+            let mut rank = tree.rank();
+            while let Some(root) = places.get(rank).and_then(|&number| self.found(number, queues.capacity)) {
+                tree = link(tree_of(&mut trees, root), tree);
+                places[rank] = self.put(None);
+                links += 1;
+                rank += 1;
+            }
+            if let Some(place) = places.get_mut(rank) {
+                *place = self.put(Some(tree.item));
+                trees.push(tree);
+            }
+        }
+        let roots = places.into_iter().filter_map(|number| self.found(number, queues.capacity));
+        queues.rows[heap] = roots.map(|root| tree_of(&mut trees, root)).collect();
+        links
+    }
+}
+
+/// The tree with this root. If none has it, a fault has made the number: an item alone.
+fn tree_of(trees: &mut Vec<Tree>, root: u32) -> Tree {
+    match trees.iter().position(|tree| tree.item == root) {
+        Some(at) => trees.swap_remove(at),
+        None => Tree::single(root, 0),
+    }
+}
