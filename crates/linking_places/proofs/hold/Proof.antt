@@ -1,16 +1,56 @@
 -- `linking_places::hold` meets its contract.
+use Prim.Native.Nat.{_-_}
+use mathlib.Core.Path.{_≡_, sym, ap, _∙_}
 use native.Mathlib.Omega.{arith}
 use borrow.Author.Needs.{needs}
+use Rattle.linking_places.specs.Places.{treesOf}
 use Rattle.linking_places.proofs.Places.{tree-of, tree-put}
+use Rattle.linking_places.proofs.Written.{is-set, next-written, none-written, written}
 use Rattle.linking_places.proofs.hold.Statement.{statement}
 use Rattle.linking_places.proofs.hold.Tie as tie
 
-returns : tie.Need-returns
+abbrev Inv-loop : tie.InvT-loop
+Inv-loop places₀ r x place rank i₀ places i = places ≡ written places₀ rank place i
+
+abbrev μ-loop : tie.MeasureT-loop
+μ-loop places₀ r x place rank i₀ places i = 17 - i
+
+loop-holds : tie.Need-loop-holds Inv-loop μ-loop
+loop-holds c = sym (none-written (c .args .places .now) (c .args .r) _)
+
+loop-again : tie.Need-loop-again Inv-loop μ-loop
+loop-again c =
+    let c3 = c .before .before .before in
+    let a = c3 .before .args in
+    rw (c .choose .ensures, c3 .loop .inv) (next-written (a .places .now) (a .r) _ (c3 .loop .i))
+
+returns : tie.Need-returns Inv-loop μ-loop
 returns c =
-    let a = c .args in
-    let h = c .pre .1 in
-    tree-put (a .places .now) (a .r) _ (a .x)
+    let c1 = c .before in
+    let a = c1 .before .args in
+    let h = c1 .before .pre .1 in
+    ap treesOf (c1 .loop .inv ∙ is-set (a .places .now) (a .r) _ (c1 .loop .i)
+    (omega (arith, c .loop-test .left, c1 .before .pre .0)))
+    ∙ tree-put (a .places .now) (a .r) _ (a .x)
     (tree-of _ (a .x) (λ d. (omega (arith, h d), h d)) (λ e. omega (arith, e)))
 
 pub hold-spec : {M : Type 1} → statement M
-hold-spec = tie.close (tie.spec (λ c. search needs) (λ c. search needs) (λ c. search needs) returns)
+hold-spec =
+    tie.close
+    (tie.spec
+    Inv-loop
+    μ-loop
+    (λ c. search needs)
+    (λ c. search needs)
+    loop-holds
+    (λ c. search needs)
+    (λ c. search needs)
+    (λ c. search needs)
+    (λ c κs. search needs)
+    (λ c. search needs)
+    (λ c. search needs)
+    (λ c. search needs)
+    (λ c. search needs)
+    (λ c. search needs)
+    loop-again
+    returns)

@@ -1,5 +1,6 @@
 //! Faults in the six calls and in reading lines.
 
+use super::places;
 use super::Mock;
 use super::Variant::*;
 use reference::{Answer, Call, Position, Queues};
@@ -91,7 +92,7 @@ impl Mock {
                 queues.rows[heap] = row;
                 consolidate_by_row_order(queues, heap)
             }
-            Some(PlaceCutTo8Bits | PlaceCutTo11Bits | LastItemTakenForFree | FreePlaceCutTo12Bits) => {
+            Some(fault) if places::FAULTS.contains(&fault) => {
                 queues.rows[heap] = row;
                 self.consolidate_by_numbers(queues, heap)
             }

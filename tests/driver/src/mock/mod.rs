@@ -33,7 +33,7 @@ variants! {
         MarkLeftOnCutTree MarkLeftOnReleasedChild RootMarkedThatLostAChild;
     // Queues: seen with more items than the modem has.
     [Runs]
-        PlaceCutTo8Bits PlaceCutTo11Bits LastItemTakenForFree FreePlaceCutTo12Bits;
+        PlaceCutTo8Bits PlaceCutTo11Bits LastItemTakenForFree FreePlaceCutTo12Bits LastPlaceNeverWritten;
     // Lines and runs.
     [Modem Runs QueueProgram]
         RefusesEverySheet SixTestedAfterSeven ReturnBeforeLineEndAccepted

@@ -1,9 +1,12 @@
 //! Faults in what a place of linking holds. Places hold numbers here, and a number stands for the tree with this root.
 
 use super::Mock;
-use super::Variant::*;
+use super::Variant::{self, *};
 use reference::queue::{link, PLACES};
 use reference::{Queues, Tree};
+
+pub(super) const FAULTS: [Variant; 5] =
+    [PlaceCutTo8Bits, PlaceCutTo11Bits, LastItemTakenForFree, FreePlaceCutTo12Bits, LastPlaceNeverWritten];
 
 /// The number at a free place.
 const FREE: u32 = 65535;
@@ -29,6 +32,7 @@ impl Mock {
     /// Linking, with these numbers at the places.
     pub(super) fn consolidate_by_numbers(&self, queues: &mut Queues, heap: usize) -> u32 {
         let mut places = [FREE; PLACES];
+        let written = PLACES - usize::from(self.is(LastPlaceNeverWritten));
         let mut trees = Vec::new();
         let mut links = 0;
         for mut tree in std::mem::take(&mut queues.rows[heap]) {
@@ -39,7 +43,7 @@ impl Mock {
                 links += 1;
                 rank += 1;
             }
-            if let Some(place) = places.get_mut(rank) {
+            if let Some(place) = places[..written].get_mut(rank) {
                 *place = self.put(Some(tree.item));
                 trees.push(tree);
             }
