@@ -1,5 +1,5 @@
-// The seventeen places of linking, one to a rank (the array of roots by rank). Only this crate knows that a place has 16
-// bits.
+// The seventeen places of linking, one to a rank (the array of roots by rank). Only this crate knows what the 16 bits of
+// a place stand for.
 ghost use mathlib.Core.Path.{_≡_};
 ghost use mathlib.Core.Bool.{cond};
 ghost use Prim.Native.Nat.{_<_};
@@ -35,8 +35,8 @@ fn choose(i: u16, r: u16, place: u16, held: u16) -> u16
     if i == r { place } else { held }
 }
 
-// The tree x, or NONE, put at place r. NONE cut to 16 bits is FREE. Every place is written anew: a step copies all places
-// at once, and after a store to one of them the copy would have to wait for it.
+// The tree x, or NONE, put at place r. NONE cut to 16 bits is FREE. Every place is written anew: a step copies all
+// places at once, and after a store to one of them the copy would have to wait for it.
 pub fn hold(places: &mut [u16; 17], r: u32, x: u32)
     requires { ⌜ r < 17 ⌝ }
     requires { ⌜ Holdable x ⌝ }

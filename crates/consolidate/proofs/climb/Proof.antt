@@ -30,8 +30,8 @@ abbrev μ-loop : tie.MeasureT-loop
 here : (c : tie.At-loop Inv-loop μ-loop) →
     let a = c .before .before .before .before .args in
     let p = c .before .before .before .before .pre in
-    Climbing (a .n) (p .inHeap) 0 (p .rest) (climbTree (treesOf (a .held)) (a .tally .links) (p .forests) (a .tree)) (c .loop .s)
-    (treesOf (c .loop .places)) (c .loop .x) (c .loop .r) (c .loop .t .links)
+    Climbing (a .n) (p .inHeap) 0 (p .rest) (climbTree (treesOf (a .held)) (a .tally .links) (p .forests) (a .tree))
+    (c .loop .s) (treesOf (c .loop .places)) (c .loop .x) (c .loop .r) (c .loop .t .links)
 here c =
     let p = c .before .before .before .before .pre in
     c .loop .inv .2 (p .inHeap) 0 _ (p .forests) (p .rest) (p .state) (omega arith) (p .fits)

@@ -57,8 +57,8 @@ loop-holds c =
 here : (c : tie.At-loop Inv-loop μ-loop) →
     let a = c .before .before .before .before .before .args in
     let p = c .before .before .before .before .before .pre in
-    LinkingRow (a .n) (a .h) (a .tally .links) (linkRow (a .h) (p .forests)) (c .loop .s) (treesOf (c .loop .places)) (c .loop .x)
-    (c .loop .t .links)
+    LinkingRow (a .n) (a .h) (a .tally .links) (linkRow (a .h) (p .forests)) (c .loop .s) (treesOf (c .loop .places))
+    (c .loop .x) (c .loop .t .links)
 here c =
     let p = c .before .before .before .before .before .pre in
     c .loop .inv .2 (p .least) (p .forests) (p .rowed) (p .formed)

@@ -49,8 +49,9 @@ loop-holds c = (refl, λ t D e W. W)
 -- the state at the loop's head, for the forests that the caller has
 here : (c : tie.At-loop Inv-loop μ-loop) →
     let c10 = c .before .before .before .before .before .before .before .before .before .before in
-    WritingRow (c10 .args .n) (c10 .args .h) (c .loop .s) (occupied (take (c .loop .r) (treesOf (c10 .args .t4)))) (c .loop .m)
-    (setRow (c10 .args .h) (occupied (treesOf (c10 .args .t4))) (c10 .pre .forests))
+    let ps = treesOf (c10 .args .t4) in
+    WritingRow (c10 .args .n) (c10 .args .h) (c .loop .s) (occupied (take (c .loop .r) ps)) (c .loop .m)
+    (setRow (c10 .args .h) (occupied ps) (c10 .pre .forests))
 here c =
     let c3 = c .before .before .before in
     let c7 = c3 .before .before .before .before in
