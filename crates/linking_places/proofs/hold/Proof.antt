@@ -24,6 +24,7 @@ loop-again c =
     let a = c3 .before .args in
     rw (c .choose .ensures, c3 .loop .inv) (next-written (a .places .now) (a .r) _ (c3 .loop .i))
 
+-- Not by `cutStands`: an item and none are shown apart, so that a wrong cut is refused where it is false.
 returns : tie.Need-returns Inv-loop μ-loop
 returns c =
     let c1 = c .before in

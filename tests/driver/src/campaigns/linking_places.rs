@@ -12,6 +12,9 @@ const ITEMS: u32 = 4096;
 const FIRST: u32 = 0;
 const LAST: u32 = ITEMS - 1;
 
+/// The keys of two that meet: the first wins, item numbers decide, the second wins.
+const KEYS: [(u32, u32); 3] = [(2, 3), (2, 2), (3, 2)];
+
 /// The root of a tree of a row: its item, or any other; its rank; its key, 2 or 3.
 type Root = (Option<u32>, usize, u32);
 
@@ -35,13 +38,12 @@ fn alone() -> impl Iterator<Item = Vec<Root>> {
     [FIRST, LAST].into_iter().flat_map(ranks)
 }
 
-/// Two trees of one rank, one or both with such an item: the first wins by its key, item numbers decide, the second wins.
+/// Two trees of one rank, one or both with such an item.
 fn meetings() -> impl Iterator<Item = Vec<Root>> {
     let (first, last) = (Some(FIRST), Some(LAST));
     let items = [(first, None), (None, first), (last, None), (None, last), (first, last), (last, first)];
-    let keys = [(2, 3), (2, 2), (3, 2)];
     let at_rank = move |rank| {
-        let with_keys = move |(a, b)| keys.map(|(k, l)| vec![(a, rank, k), (b, rank, l)]);
+        let with_keys = move |(a, b)| KEYS.map(|(k, l)| vec![(a, rank, k), (b, rank, l)]);
         items.into_iter().flat_map(with_keys)
     };
     (0..PLACES).flat_map(at_rank)
@@ -60,7 +62,7 @@ fn climbs() -> impl Iterator<Item = Vec<Root>> {
         let held = (0..15).map(move |rank| (named(rank), rank, keys.0));
         held.chain([(named(15), 0, keys.1)]).collect()
     };
-    let at_each = move |item| (0..16).flat_map(move |at| [(2, 3), (2, 2), (3, 2)].map(|keys| climb(item, at, keys)));
+    let at_each = move |item| (0..16).flat_map(move |at| KEYS.map(|keys| climb(item, at, keys)));
     [FIRST, LAST].into_iter().flat_map(at_each)
 }
 
