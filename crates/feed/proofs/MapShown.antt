@@ -13,12 +13,13 @@ use Rattle.text.specs.Output.{Wrote}
 use Rattle.mapfile.specs.declared.MapRead.{MapRead}
 use Rattle.mapfile.specs.Read.{Reading, Reads, readMap}
 use Rattle.mapfile.proofs.Fits.{ReadFits, read-fits}
-use Rattle.paths.specs.Map.{SpanLists, spanLists, mapOf}
+use Rattle.paths.specs.Map.{SpanLists, spanLists, Windows, windows, mapAt}
 use Rattle.paths.specs.Feed.{ResultLists, resultLists}
 use Rattle.feed.specs.Shown.{
   codeLine,
   ShowsFeed,
   takeSpans,
+  takeWindows,
   takeResults,
   mapRead,
   fedBy,
@@ -34,14 +35,22 @@ length-take-most (suc n) [] = omega arith
 length-take-most (suc n) (x ∷ l) = omega (arith, length-take-most n l)
 
 -- the spans read fit the lists
-pub spans-read : (text : List ℕ) (lent : SpanLists) {ans : MapRead} {left : SpanLists}
-    → Reads (readMap text lent) ans left → ReadFits (record { answer = ans; left = left })
-spans-read text lent R =
-    let F = read-fits text lent in
-    rw (R .answer-is, R .left-is) (record { inFrom = F .inFrom; inTo = F .inTo; inLoss = F .inLoss })
+pub spans-read : (text : List ℕ) (lent : SpanLists) (lentWindows : Windows) {ans : MapRead} {left : SpanLists}
+    {leftWindows : Windows} → Reads (readMap text lent lentWindows) ans left leftWindows
+    → ReadFits (record { answer = ans; left = left; leftWindows = leftWindows })
+spans-read text lent lentWindows R =
+    let F = read-fits text lent lentWindows in
+    rw (R .answer-is, R .left-is, R .windows-are)
+    (record {
+      inFrom = F .inFrom;
+      inTo = F .inTo;
+      inLoss = F .inLoss;
+      inOpens = F .inOpens;
+      inCloses = F .inCloses;
+    })
 
-module _ (w : Reading) (ans : MapRead) (left : SpanLists) (R : Reads w ans left) (own : ResultLists) (out : List ℕ)
-    (room : 11 ≤ length out) where
+module _ (w : Reading) (ans : MapRead) (left : SpanLists) (leftWindows : Windows) (R : Reads w ans left leftWindows)
+    (own : ResultLists) (out : List ℕ) (room : 11 ≤ length out) where
   pub map-refused : ans .code ≢ 0 → ans .code < 2 ^ 32 → (r : ℕ) (out′ : List ℕ)
       → Wrote out 0 (field (ans .code) lineFeed) out′ r → ShowsMap w own out r out′
   unfolding mapText codeLine
@@ -67,15 +76,16 @@ module _ (w : Reading) (ans : MapRead) (left : SpanLists) (R : Reads w ans left)
 
     pub map-fed : ans .places ≤ mostPlaces → {k : ℕ} → k ≡ storeSize (ans .places) → (r : ℕ) (out′ : List ℕ)
         → ShowsFeed
-        (mapOf (ans .places) (ans .start)
-        (spanLists (take (ans .spans) (left .from)) (take (ans .spans) (left .to)) (take (ans .spans) (left .loss))))
+        (mapAt (ans .places) (ans .start) (ans .minute)
+        (spanLists (take (ans .spans) (left .from)) (take (ans .spans) (left .to)) (take (ans .spans) (left .loss)))
+        (windows (take (ans .spans) (leftWindows .opens)) (take (ans .spans) (leftWindows .closes))))
         (resultLists (take (ans .places) (own .best)) (take (ans .places) (own .last)) (take k (own .store))) out r out′
         → ShowsMap w own out r out′
-    unfolding mapText mapRead fedBy takeSpans takeResults
+    unfolding mapText mapRead fedBy takeSpans takeWindows takeResults
     map-fed h q r out′ S =
         let few : w .answer .places ≤ mostPlaces = rw (R .answer-is) at h in
         let done : w .answer .code ≡ 0 = rw (R .answer-is) at z in
-        let T = rw (q, R .answer-is, R .left-is) at S in
+        let T = rw (q, R .answer-is, R .left-is, R .windows-are) at S in
         record {
           examined = T .examined;
           most = omega (arith, T .most, length-take-most (w .answer .spans) (w .left .from));

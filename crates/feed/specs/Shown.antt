@@ -11,7 +11,7 @@ use Rattle.text.specs.Fields.{comma}
 use Rattle.text.specs.Lines.{lineFeed}
 use Rattle.text.specs.Decimal.{field, row}
 use Rattle.text.specs.Output.{Wrote}
-use Rattle.paths.specs.Map.{SpanLists, spanLists, Map, mapOf, spans}
+use Rattle.paths.specs.Map.{SpanLists, spanLists, Windows, windows, Map, mapAt, spans}
 use Rattle.paths.specs.Feed.{ResultLists, resultLists, Feed, feedResult}
 use Rattle.mapfile.specs.Read.{Reading, readMap}
 
@@ -43,12 +43,17 @@ feedText n w examined =
 unfoldable pub takeSpans : ℕ → SpanLists → SpanLists
 takeSpans n l = spanLists (take n (l .from)) (take n (l .to)) (take n (l .loss))
 
+unfoldable pub takeWindows : ℕ → Windows → Windows
+takeWindows n w = windows (take n (w .opens)) (take n (w .closes))
+
 unfoldable pub takeResults : ℕ → ResultLists → ResultLists
 takeResults n l = resultLists (take n (l .best)) (take n (l .last)) (take (storeSize n) (l .store))
 
 -- the map of a reading
 unfoldable pub mapRead : Reading → Map
-mapRead w = mapOf (w .answer .places) (w .answer .start) (takeSpans (w .answer .spans) (w .left))
+mapRead w =
+    mapAt (w .answer .places) (w .answer .start) (w .answer .minute) (takeSpans (w .answer .spans) (w .left))
+    (takeWindows (w .answer .spans) (w .leftWindows))
 
 -- the feed call on it, with the first words of longer lists
 unfoldable pub fedBy : Reading → ResultLists → Feed
@@ -63,6 +68,9 @@ mostPlaces = 1024
 
 unfoldable pub ownSpans : SpanLists
 ownSpans = spanLists (replicate mostSpans 0) (replicate mostSpans 0) (replicate mostSpans 0)
+
+unfoldable pub ownWindows : Windows
+ownWindows = windows (replicate mostSpans 0) (replicate mostSpans 0)
 
 unfoldable pub ownResults : ResultLists
 ownResults = resultLists (replicate mostPlaces 0) (replicate mostPlaces 0) (replicate (storeSize mostPlaces) 0)
@@ -83,7 +91,7 @@ pub record ShowsMap (w : Reading) (own : ResultLists) (out : List ℕ) (r : ℕ)
 
 -- what the program prints of a map text
 abbrev pub ShowsText : List ℕ → List ℕ → ℕ → List ℕ → Type 0
-ShowsText text out r out′ = ShowsMap (readMap text ownSpans) ownResults out r out′
+ShowsText text out r out′ = ShowsMap (readMap text ownSpans ownWindows) ownResults out r out′
 
 -- ---- for the functions inside
 

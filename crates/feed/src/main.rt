@@ -4,7 +4,7 @@ ghost use Prim.Native.Nat.{_+_, _≤_};
 ghost use lib.ListN.{length};
 ghost use Rattle.text.specs.Decimal.{row};
 ghost use Rattle.text.specs.Output.{Wrote};
-ghost use Rattle.paths.specs.Map.{spanLists, mapOf};
+ghost use Rattle.paths.specs.Map.{spanLists, windows, mapAt};
 ghost use Rattle.paths.specs.Feed.{resultLists};
 ghost use Rattle.feed.specs.Shown.{wordField, entryRow, Roomy, WroteRow, TableReady, TableWrote, ShowsFeed};
 ghost use Rattle.feed.specs.Shown.{ShowsText};
@@ -69,9 +69,12 @@ fn put_figures(out: &mut [u8], at: usize, links: u32, cuts: u32, examined: u32) 
 fn answer_feed(
     places: u32,
     start: u32,
+    minute: u32,
     from: &[u32],
     to: &[u32],
     loss: &[u32],
+    opens: &[u32],
+    closes: &[u32],
     best: &mut [u32],
     last: &mut [u32],
     store: &mut [u32],
@@ -79,11 +82,24 @@ fn answer_feed(
 ) -> usize
     requires { ⌜ Roomy places (now out) ⌝ }
     ensures { λ r. ⌜ ShowsFeed
-        (mapOf places start (spanLists (now (from .entry)) (now (to .entry)) (now (loss .entry))))
+        (mapAt places start minute (spanLists (now (from .entry)) (now (to .entry)) (now (loss .entry)))
+        (windows (now (opens .entry)) (now (closes .entry))))
         (resultLists (now (best .entry)) (now (last .entry)) (now (store .entry)))
         (now (out .entry)) r (now (out .exit)) ⌝ }
 {
-    let fed = finder::feed(places, start, from, to, loss, best, last, store);
+    let fed = finder::feed(
+        places,
+        start,
+        minute,
+        from,
+        to,
+        loss,
+        opens,
+        closes,
+        best,
+        last,
+        store,
+    );
     let code = fed.code;
     if code != 0 {
         return put_field(out, 0, code, b'\n');
@@ -101,7 +117,9 @@ fn answer_text(text: &[u8], out: &mut [u8]) -> usize
     let mut from = [0u32; SPANS];
     let mut to = [0u32; SPANS];
     let mut loss = [0u32; SPANS];
-    let map = mapfile::read(text, &mut from, &mut to, &mut loss);
+    let mut opens = [0u32; SPANS];
+    let mut closes = [0u32; SPANS];
+    let map = mapfile::read(text, &mut from, &mut to, &mut loss, &mut opens, &mut closes);
     let code = map.code;
     if code != 0 {
         return put_field(out, 0, code, b'\n');
@@ -118,9 +136,12 @@ fn answer_text(text: &[u8], out: &mut [u8]) -> usize
     answer_feed(
         map.places,
         map.start,
+        map.minute,
         &from[..e],
         &to[..e],
         &loss[..e],
+        &opens[..e],
+        &closes[..e],
         &mut best[..n],
         &mut last[..n],
         &mut store[..words],

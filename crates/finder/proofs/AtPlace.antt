@@ -28,8 +28,8 @@ abbrev pub at : Stop → Map → ℕ → ℕ → ℕ → Search
 at stop m k u e = tried m u (bestAt (steps stop m k) u) e (extracted u (steps stop m k))
 
 module _
-    {stop : Stop} {m : Map} {index to loss : List ℕ} {u d : ℕ} {l₀ : ResultLists} {taken : Progress}
-    (K : Taken stop m index to loss u d l₀ taken) where
+    {stop : Stop} {m : Map} {minute : ℕ} {index to loss opens closes : List ℕ} {u d : ℕ} {l₀ : ResultLists}
+    {taken : Progress} (K : Taken stop m minute index to loss opens closes u d l₀ taken) where
   abbrev k : ℕ
   k = taken .visited
 

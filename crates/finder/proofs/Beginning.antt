@@ -15,7 +15,7 @@ use Rattle.rules.proofs.SoundWords.{sound-encode}
 use Rattle.rules.proofs.Sums.{sumBy-set}
 use Rattle.heap.specs.declared.Reply.{Reply}
 use Rattle.heap.specs.Performed.{Ready, Performed}
-use Rattle.paths.specs.Map.{SpanLists, noSpans, Map, mapOf, Accepted}
+use Rattle.paths.specs.Map.{noSpans, Map, mapOf, Accepted}
 use Rattle.paths.specs.Queue.{Stop}
 use Rattle.paths.specs.Search.{begin, steps}
 use Rattle.paths.specs.Feed.{linksOf, cutsOf, ResultLists, resultLists}
@@ -77,20 +77,19 @@ no-turn : (stop : Stop) (m : Map) (k : ℕ) → k ≡ 0 → (l : ResultLists) (r
 unfolding steps
 no-turn stop m k z l r H = rw z H
 
-pub begun-stands : (stop : Stop) {places start : ℕ} {lists : SpanLists} → Accepted (mapOf places start lists)
-    → {l : ResultLists} {r : Progress} → Begun places start l r
-    → Stands stop (mapOf places start lists) l r
+pub begun-stands : (stop : Stop) {m : Map} → Accepted m → {l : ResultLists} {r : Progress}
+    → Begun (m .places) (m .start) l r → Stands stop m l r
 unfolding begin
-begun-stands stop {places} {start} {lists} A {l} {r} G =
+begun-stands stop {m} A {l} {r} G =
     record {
       accepted = A;
       few = omega (arith, G .visited-is);
       tracks =
-          no-turn stop (mapOf places start lists) (r .visited) (G .visited-is) l r
+          no-turn stop m (r .visited) (G .visited-is) l r
           (same (G .tracks));
     }
   where
     -- a search begins alike whatever the spans are
-    same : Tracks places 0 (begin (mapOf places start noSpans)) l r
-        → Tracks places 0 (begin (mapOf places start lists)) l r
+    same : Tracks (m .places) 0 (begin (mapOf (m .places) (m .start) noSpans)) l r
+        → Tracks (m .places) 0 (begin m) l r
     same H = H

@@ -16,7 +16,7 @@ use Rattle.paths.specs.Codes.{feedCode}
 use Rattle.paths.specs.Feed.{ResultLists, resultLists, feedAs, codeFor, feedResult}
 use Rattle.paths.specs.Theorems.{between, Fits}
 use Rattle.finder.specs.SearchState.{BeginReady, Found}
-use Rattle.finder.specs.declared.Fed.{Fed}
+use Rattle.finder.specs.Answers.{refusedFed, doneFed}
 use Rattle.finder.specs.Promise.{FedAs, Feeds}
 use Rattle.paths.proofs.Hiding.{length-hide, hide-at}
 use Rattle.paths.proofs.Table.{none-waits}
@@ -25,12 +25,6 @@ use Rattle.paths.proofs.Examined.{examinedAtMost}
 use Rattle.paths.proofs.Accepts.{codeZero}
 
 -- ---- under any limit
-
-abbrev pub refusedFed : ℕ → Fed
-refusedFed code = record { code = code; links = 0; cuts = 0; examined = 0 }
-
-abbrev pub doneFed : Progress → Fed
-doneFed r = record { code = 0; links = r .tally .links; cuts = r .tally .cuts; examined = r .examined }
 
 module _ (limit : Limit) (m : Map) (lent : ResultLists) where
   pub fed-refused : (code : ℕ) → code ≢ 0 → FedAs m (feedAs code limit m lent) (refusedFed code) lent

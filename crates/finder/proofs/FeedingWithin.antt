@@ -8,7 +8,7 @@ use Rattle.rules.specs.Forests.{empty}
 use Rattle.rules.specs.Words.{encode}
 use Rattle.store.specs.Says.{Sized}
 use Rattle.relax.specs.declared.Progress.{Progress}
-use Rattle.paths.specs.Map.{SpanLists, Map, mapOf, Accepted}
+use Rattle.paths.specs.Map.{Map, Accepted}
 use Rattle.paths.specs.Table.{upTo}
 use Rattle.paths.specs.Search.{beyond, search}
 use Rattle.paths.specs.Feed.{ResultLists, codeFor, budgetAs, budgetResult}
@@ -16,16 +16,17 @@ use Rattle.paths.specs.Theorems.{Fits}
 use Rattle.paths.proofs.Steps.{search-between}
 use Rattle.finder.specs.SearchState.{Begun, ListReady, FoundListed}
 use Rattle.finder.specs.Hidden.{Hidden}
+use Rattle.finder.specs.Answers.{refusedFed, doneFed}
 use Rattle.finder.specs.Promise.{FedAs, FeedsWithin}
 use Rattle.finder.proofs.Ready.{logged-sized}
 use Rattle.finder.proofs.Beginning.{begun-stands}
-use Rattle.finder.proofs.Feeding.{refusedFed, doneFed, fed-refused, fed-done, code-fits}
+use Rattle.finder.proofs.Feeding.{fed-refused, fed-done, code-fits}
 use Rattle.finder.proofs.WaitsBeyond.{hidden-best, hidden-last}
 
 -- the search begins with no place listed
-pub list-ready : (budget : ℕ) {places start : ℕ} {lists : SpanLists} {bestN lastN storeN : ℕ} {listed : List ℕ}
-    → Fits (mapOf places start lists) bestN lastN (length listed) storeN → {l : ResultLists} {r : Progress}
-    → Begun places start l r → ListReady budget (mapOf places start lists) l listed r
+pub list-ready : (budget : ℕ) {m : Map} {bestN lastN storeN : ℕ} {listed : List ℕ}
+    → Fits m bestN lastN (length listed) storeN → {l : ResultLists} {r : Progress}
+    → Begun (m .places) (m .start) l r → ListReady budget m l listed r
 list-ready budget F G =
     record {
       stands = begun-stands (beyond (upTo budget)) (F .accepted) G;

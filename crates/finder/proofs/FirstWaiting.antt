@@ -11,7 +11,7 @@ use Rattle.rules.specs.Words.{forestsOf}
 use Rattle.rules.proofs.Default.{getD-any}
 use Rattle.store.proofs.Sizes.{sized-items}
 use Rattle.heap.specs.Allowed.{Allowed}
-use Rattle.paths.specs.Map.{SpanLists, Map, mapOf}
+use Rattle.paths.specs.Map.{SpanLists, Windows, Map, mapAt}
 use Rattle.paths.specs.Queue.{Stop, halts, takes, next}
 use Rattle.paths.specs.Search.{Search, steps, bestAt}
 use Rattle.paths.specs.Feed.{ResultLists}
@@ -88,8 +88,9 @@ module _ {stop : Stop} {m : Map} {l : ResultLists} {go : Progress} (S : Stands s
       first-stops e = next-is ∙ rw e
 
 -- it may be visited, on the map that has these lists
-pub first-goes : {stop : Stop} {places start : ℕ} {lists : SpanLists} {index : List ℕ} {l : ResultLists} {go : Progress}
-    → IsIndex places (lists .from) index → (S : Stands stop (mapOf places start lists) l go) (h : go .visited < go .met)
+pub first-goes : {stop : Stop} {places start minute : ℕ} {lists : SpanLists} {w : Windows} {index : List ℕ}
+    {l : ResultLists} {go : Progress} → IsIndex places (lists .from) index
+    → (S : Stands stop (mapAt places start minute lists w) l go) (h : go .visited < go .met)
     → {u : ℕ} → u ≡ minimum (forestsOf (l .store)) 0 → stop (getD (l .best) u 0) ≡ false
-    → Goes stop (mapOf places start lists) index (lists .to) (lists .loss) l go
+    → Goes stop (mapAt places start minute lists w) minute index (lists .to) (lists .loss) (w .opens) (w .closes) l go
 first-goes I S h is e = goes-on I S (_, first-taken S h is e)

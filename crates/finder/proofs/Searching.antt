@@ -11,7 +11,7 @@ use Rattle.rules.specs.Answers.{answer}
 use Rattle.rules.proofs.Sums.{sumBy-set}
 use Rattle.heap.specs.declared.Reply.{Reply}
 use Rattle.heap.specs.Performed.{Ready, Performed}
-use Rattle.paths.specs.Map.{SpanLists, Map, mapOf}
+use Rattle.paths.specs.Map.{SpanLists, Windows, Map, mapAt}
 use Rattle.paths.specs.Queue.{Stop, halts, takes, next}
 use Rattle.paths.specs.Search.{Search, steps, never, bestAt}
 use Rattle.paths.specs.Feed.{ResultLists, resultLists}
@@ -44,20 +44,21 @@ module _ {stop : Stop} {m : Map} {l : ResultLists} {go : Progress} (S : Stands s
 -- ---- a place is taken
 
 -- the map that has these lists
-pub goes-on : {stop : Stop} {places start : ℕ} {lists : SpanLists} {index : List ℕ} {l : ResultLists} {go : Progress}
-    → IsIndex places (lists .from) index → Stands stop (mapOf places start lists) l go
-    → ((u : ℕ) × (next stop ((steps stop (mapOf places start lists) (go .visited)) .queue) ≡ takes u))
-    → Goes stop (mapOf places start lists) index (lists .to) (lists .loss) l go
+pub goes-on : {stop : Stop} {places start minute : ℕ} {lists : SpanLists} {w : Windows} {index : List ℕ}
+    {l : ResultLists} {go : Progress} → IsIndex places (lists .from) index
+    → Stands stop (mapAt places start minute lists w) l go
+    → ((u : ℕ) × (next stop ((steps stop (mapAt places start minute lists w) (go .visited)) .queue) ≡ takes u))
+    → Goes stop (mapAt places start minute lists w) minute index (lists .to) (lists .loss) (w .opens) (w .closes) l go
 goes-on I S n =
     record {
-      lists = record { indexed = I; to-is = refl; loss-is = refl; free = λ _. refl };
+      lists = record { indexed = I; to-is = refl; loss-is = refl; supply-is = refl };
       stands = S;
       more = n;
     }
 
 module _
-    {stop : Stop} {m : Map} {index to loss : List ℕ} {l : ResultLists} {go : Progress}
-    (G : Goes stop m index to loss l go) where
+    {stop : Stop} {m : Map} {minute : ℕ} {index to loss opens closes : List ℕ} {l : ResultLists} {go : Progress}
+    (G : Goes stop m minute index to loss opens closes l go) where
   abbrev s : Search
   s = steps stop m (go .visited)
 
@@ -67,7 +68,8 @@ module _
 
   -- the call takes the place that comes next in the search, with its loss
   pub taken : {reply : Reply} {store′ : List ℕ} → Performed (l .store) (ExtractMin 0) (go .tally) reply store′
-      → Taken stop m index to loss (reply .item) (reply .key) (resultLists (l .best) (l .last) store′)
+      → Taken stop m minute index to loss opens closes (reply .item) (reply .key)
+      (resultLists (l .best) (l .last) store′)
       (record { visited = go .visited; met = go .met; examined = go .examined; tally = reply .tally })
   taken {reply} {store′} P =
       let A = G .stands .accepted in

@@ -1,19 +1,33 @@
 -- One span of a place that was taken, tried by code: what the code needs, and where it stands after it.
 use Prim.Native.Nat.{ℕ, suc, _+_, _<_}
-use mathlib.Core.Path.{_≡_, ap, _∙_}
+use mathlib.Core.Path.{_≡_, refl, subst, ap, _∙_}
+use mathlib.Core.Bool.{Bool, true, false}
 use mathlib.Core.List.{List}
 use native.Mathlib.Omega.{arith}
 use native.Mathlib.Numerals.{add-one}
 use lib.ListN.{length, getD}
 use borrow.Author.Tests.{eq-eqb}
 use Rattle.rules.specs.Forests.{none}
-use Rattle.paths.specs.Map.{Map, spans, fromOf, toOf}
+use Rattle.paths.specs.Map.{
+  windows,
+  usableAt,
+  usableBy,
+  Map,
+  spans,
+  fromOf,
+  toOf,
+  usable,
+  IsSpan,
+  WindowsFit,
+  SupplyFits,
+}
 use Rattle.paths.specs.Queue.{Stop}
 use Rattle.paths.specs.Search.{Search, offer, try, tried, examine, steps, bestAt}
 use Rattle.paths.specs.Feed.{ResultLists}
 use Rattle.paths.specs.Theorems.{trying}
 use Rattle.paths.proofs.Invariant.{unsettled}
-use Rattle.paths.proofs.Offers.{TryingOf, sum-fits, out-of-queue}
+use Rattle.paths.proofs.Offers.{TryingOf, out-of-queue}
+use Rattle.paths.proofs.Tried.{try-closed}
 use Rattle.paths.proofs.Examined.{examinedAtMost}
 use Rattle.relax.specs.declared.Progress.{Progress}
 use Rattle.relax.specs.Tracks.{Tracks, examineOne}
@@ -24,8 +38,8 @@ use Rattle.finder.proofs.AtPlace.{at, left, left-is, tryingAt, servedAt
 use Rattle.finder.proofs.Walking.{Walking}
 
 module _
-    {stop : Stop} {m : Map} {index to loss : List ℕ} {u d : ℕ} {l₀ : ResultLists} {taken : Progress}
-    (K : Taken stop m index to loss u d l₀ taken) where
+    {stop : Stop} {m : Map} {minute : ℕ} {index to loss opens closes : List ℕ} {u d : ℕ} {l₀ : ResultLists}
+    {taken : Progress} (K : Taken stop m minute index to loss opens closes u d l₀ taken) where
   abbrev k : ℕ
   k = taken .visited
 
@@ -63,26 +77,28 @@ module _
     pub in-loss : e < length loss
     in-loss = omega (arith, span-in, K .accepted .lossN, ap length (K .lists .loss-is))
 
+    windows-fit : WindowsFit (spans m) minute (windows opens closes)
+    windows-fit = subst (SupplyFits (spans m)) (K .lists .supply-is) (K .accepted .supplied)
+
+    pub in-opens : e < length opens
+    in-opens = omega (arith, span-in, windows-fit .opensN)
+
+    pub in-closes : e < length closes
+    in-closes = omega (arith, span-in, windows-fit .closesN)
+
+    -- the sum fits a word, also of a span that is closed
     pub loss-fits : d + getD loss e 0 < none
     loss-fits =
         rw (K .lists .loss-is)
-        (omega (
-          arith,
-          K .loss-is,
-          sum-fits m (K .accepted) u (bestAt before u) e (left K) (at stop m k u e) tryingE
-              (span-in, K .lists .free e) leaves-u,
-        ))
+        (omega (arith, K .loss-is, tryingE .takenLast .room, K .accepted .high e span-in, K .accepted .few))
 
-    offerable : Offerable (m .places) (toOf m e) (examine (at stop m k u e))
-    offerable =
-        record {
-          formed = servedAt K e (omega (arith, span-in)) .formed;
-          inside = omega (arith, tryingE .invariant .waitsN, K .accepted .toIn e span-in);
-          apart =
-              λ z.
-              out-of-queue m (K .accepted) u (bestAt before u) e (left K) (at stop m k u e) tryingE
-              (span-in, K .lists .free e) leaves-u z;
-        }
+    -- whether span e is usable is what the code finds of its window
+    abbrev found : Bool
+    found = usableAt minute (getD opens e 0) (getD closes e 0)
+
+    usable-is : usable m e ≡ found
+    unfolding usableBy
+    usable-is = rw (K .lists .supply-is)
 
     pub offer-ready : OfferReady (getD to e 0) l (examineOne go)
     unfolding examineOne unsettled
@@ -110,19 +126,49 @@ module _
           met-is = W .tracks .met-is;
         }
 
-    pub walking-on : {l′ : ResultLists} {r : Progress}
-        → Advances (getD to e 0) (offer (getD to e 0) (d + getD loss e 0) e) l (examineOne go) l′ r
-        → Walking stop m k u end (e + 1) l′ r
-    unfolding examineOne tried try
-    walking-on M₀ =
-        let M = rw (K .lists .to-is, K .lists .loss-is, K .loss-is) at M₀ in
+    -- the walk goes on where the search of the next span is tracked
+    next-span : {l′ : ResultLists} {r : Progress} → r .visited ≡ go .visited
+        → Tracks (m .places) (suc k) (at stop m k u (suc e)) l′ r → Walking stop m k u end (e + 1) l′ r
+    next-span v T =
         record {
-          visited-is = M .visited-is ∙ W .visited-is;
+          visited-is = v ∙ W .visited-is;
           ordered = omega arith;
           within = W .within;
           own = λ i a b. W .own i (omega arith) b;
           beyond = W .beyond;
-          tracks =
-              rw (add-one, eq-eqb (fromOf m e) u leaves-u, K .lists .free e)
-              (M .tracks (m .places) (suc k) (examine (at stop m k u e)) offerable examined-tracks);
+          tracks = rw add-one T;
         }
+
+    -- the span is closed: it is examined, and no more
+    pub walking-closed : found ≡ false → Walking stop m k u end (e + 1) l (examineOne go)
+    unfolding examineOne tried
+    walking-closed c =
+        next-span refl
+        (rw (eq-eqb (fromOf m e) u leaves-u, usable-is, c, try-closed m (bestAt before u) e (at stop m k u e))
+        examined-tracks)
+
+    -- the span is usable: it offers
+    module _ (o : found ≡ true) where
+      is-span : IsSpan m e
+      is-span = (span-in, usable-is ∙ o)
+
+      offerable : Offerable (m .places) (toOf m e) (examine (at stop m k u e))
+      offerable =
+          record {
+            formed = servedAt K e (omega (arith, span-in)) .formed;
+            inside = omega (arith, tryingE .invariant .waitsN, K .accepted .toIn e span-in);
+            apart =
+                λ z.
+                out-of-queue m (K .accepted) u (bestAt before u) e (left K) (at stop m k u e) tryingE is-span leaves-u
+                z;
+          }
+
+      pub walking-on : {l′ : ResultLists} {r : Progress}
+          → Advances (getD to e 0) (offer (getD to e 0) (d + getD loss e 0) e) l (examineOne go) l′ r
+          → Walking stop m k u end (e + 1) l′ r
+      unfolding examineOne tried try
+      walking-on M₀ =
+          let M = rw (K .lists .to-is, K .lists .loss-is, K .loss-is) at M₀ in
+          next-span (M .visited-is)
+          (rw (eq-eqb (fromOf m e) u leaves-u, usable-is, o)
+          (M .tracks (m .places) (suc k) (examine (at stop m k u e)) offerable examined-tracks))

@@ -29,8 +29,8 @@ pub record Walking (stop : Stop) (m : Map) (k u end e : ℕ) (l : ResultLists) (
   pub tracks : Tracks (m .places) (suc k) (at stop m k u e) l go
 
 module _
-    {stop : Stop} {m : Map} {index to loss : List ℕ} {u d : ℕ} {l₀ : ResultLists} {taken : Progress}
-    (K : Taken stop m index to loss u d l₀ taken) where
+    {stop : Stop} {m : Map} {minute : ℕ} {index to loss opens closes : List ℕ} {u d : ℕ} {l₀ : ResultLists}
+    {taken : Progress} (K : Taken stop m minute index to loss opens closes u d l₀ taken) where
   abbrev k : ℕ
   k = taken .visited
 

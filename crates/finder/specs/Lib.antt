@@ -1,3 +1,4 @@
 pub mod SearchState
 pub mod Hidden
+pub mod Answers
 pub mod Promise

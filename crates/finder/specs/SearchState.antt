@@ -2,11 +2,10 @@
 -- has a stopping rule, and the code that visits one place holds for any.
 use Prim.Native.Nat.{ℕ, suc, _+_, _<_, _≤_}
 use mathlib.Core.Path.{_≡_}
-use mathlib.Core.Bool.{true}
 use mathlib.Core.List.{List}
 use lib.ListN.{length}
 use Rattle.store.specs.Says.{Sized}
-use Rattle.paths.specs.Map.{noSpans, Map, mapOf, Accepted}
+use Rattle.paths.specs.Map.{noSpans, windows, atMinute, Map, mapOf, Accepted}
 use Rattle.paths.specs.Table.{upTo}
 use Rattle.paths.specs.Queue.{Stop, takes, next}
 use Rattle.paths.specs.Search.{extracted, begin, steps, search, beyond, placesTaken, bestAt}
@@ -17,17 +16,17 @@ use Rattle.relax.specs.Tracks.{Tracks}
 
 -- ---- one place
 
--- The lists that the code reads are those of the map, all of whose spans are usable.
-pub record ListsOf (m : Map) (index to loss : List ℕ) : Type 0 where
+-- The minute and the lists that the code reads are those of the map.
+pub record ListsOf (m : Map) (minute : ℕ) (index to loss opens closes : List ℕ) : Type 0 where
   pub indexed : IsIndex (m .places) (m .lists .from) index
   pub to-is : to ≡ m .lists .to
   pub loss-is : loss ≡ m .lists .loss
-  pub free : (e : ℕ) → m .usable e ≡ true
+  pub supply-is : m .supply ≡ atMinute minute (windows opens closes)
 
 -- Place u was taken, with loss d, and none of its spans is tried yet.
-pub record Taken (stop : Stop) (m : Map) (index to loss : List ℕ) (u d : ℕ) (l : ResultLists) (go : Progress)
-    : Type 0 where
-  pub lists : ListsOf m index to loss
+pub record Taken (stop : Stop) (m : Map) (minute : ℕ) (index to loss opens closes : List ℕ) (u d : ℕ)
+    (l : ResultLists) (go : Progress) : Type 0 where
+  pub lists : ListsOf m minute index to loss opens closes
   pub accepted : Accepted m
   pub next-is : next stop ((steps stop m (go .visited)) .queue) ≡ takes u
   pub loss-is : d ≡ bestAt (steps stop m (go .visited)) u
@@ -40,8 +39,9 @@ pub record Stands (stop : Stop) (m : Map) (l : ResultLists) (go : Progress) : Ty
   pub tracks : Tracks (m .places) (go .visited) (steps stop m (go .visited)) l go
 
 -- The search goes on: a place comes next.
-pub record Goes (stop : Stop) (m : Map) (index to loss : List ℕ) (l : ResultLists) (go : Progress) : Type 0 where
-  pub lists : ListsOf m index to loss
+pub record Goes (stop : Stop) (m : Map) (minute : ℕ) (index to loss opens closes : List ℕ) (l : ResultLists)
+    (go : Progress) : Type 0 where
+  pub lists : ListsOf m minute index to loss opens closes
   pub stands : Stands stop m l go
   pub more : (u : ℕ) × (next stop ((steps stop m (go .visited)) .queue) ≡ takes u)
 

@@ -5,13 +5,15 @@ ghost use Prim.Native.Nat.{ℕ};
 ghost use lib.ListN.{length};
 ghost use lib.Dec.{ltb};
 ghost use Rattle.rules.specs.Forests.{none};
-ghost use Rattle.paths.specs.Map.{spanLists, mapOf};
+ghost use Rattle.paths.specs.Map.{spanLists, windows, mapAt};
 ghost use Rattle.paths.specs.Feed.{resultLists};
 ghost use Rattle.finder.specs.SearchState.{ListReady, FoundListed};
 ghost use Rattle.finder.specs.Hidden.{Hidden};
 ghost use Rattle.finder.specs.Promise.{FeedsWithin};
 use super::Fed;
 use super::begin_search;
+use super::done;
+use super::refused;
 use super::visit::visit_next;
 use heap::insert::find_min;
 use relax::Progress;
@@ -30,9 +32,12 @@ pub struct FedWithin {
 // Places are visited and listed until each that was met is, or the first that waits is beyond the budget.
 fn search_within(
     places: u32,
+    minute: u32,
     from: &[u32],
     to: &[u32],
     loss: &[u32],
+    opens: &[u32],
+    closes: &[u32],
     budget: u32,
     best: &mut [u32],
     last: &mut [u32],
@@ -40,12 +45,17 @@ fn search_within(
     store: &mut [u32],
     begun: Progress,
 ) -> Progress
-    requires { ⌜ ((start : ℕ) × ListReady budget (mapOf places start (spanLists (now from) (now to) (now loss)))
+    requires { ⌜ ((start : ℕ) × ListReady budget (mapAt places start minute (spanLists (now from) (now to) (now loss))
+        (windows (now opens) (now closes)))
         (resultLists (now best) (now last) (now store)) (now listed) begun) ⌝ }
     ensures { λ r. ⌜ ((start : ℕ)
-        → ListReady budget (mapOf places start (spanLists (now (from .entry)) (now (to .entry)) (now (loss .entry))))
+        → ListReady budget
+        (mapAt places start minute (spanLists (now (from .entry)) (now (to .entry)) (now (loss .entry)))
+        (windows (now (opens .entry)) (now (closes .entry))))
         (resultLists (now (best .entry)) (now (last .entry)) (now (store .entry))) (now (listed .entry)) begun
-        → FoundListed budget (mapOf places start (spanLists (now (from .entry)) (now (to .entry)) (now (loss .entry))))
+        → FoundListed budget
+        (mapAt places start minute (spanLists (now (from .entry)) (now (to .entry)) (now (loss .entry)))
+        (windows (now (opens .entry)) (now (closes .entry))))
         (now (listed .entry)) (resultLists (now (best .exit)) (now (last .exit)) (now (store .exit)))
         (now (listed .exit)) r) ⌝ }
 {
@@ -59,7 +69,18 @@ fn search_within(
             return go;
         }
         listed[go.visited as usize] = u;
-        go = visit_next(&index, to, loss, best, last, store, go);
+        go = visit_next(
+            minute,
+            &index,
+            to,
+            loss,
+            opens,
+            closes,
+            best,
+            last,
+            store,
+            go,
+        );
     }
     go
 }
@@ -94,9 +115,12 @@ fn hide_beyond(budget: u32, best: &mut [u32], last: &mut [u32])
 pub fn feed_within(
     places: u32,
     start: u32,
+    minute: u32,
     from: &[u32],
     to: &[u32],
     loss: &[u32],
+    opens: &[u32],
+    closes: &[u32],
     budget: u32,
     best: &mut [u32],
     last: &mut [u32],
@@ -104,36 +128,38 @@ pub fn feed_within(
     store: &mut [u32],
 ) -> FedWithin
     ensures { λ r. ⌜ FeedsWithin budget
-        (mapOf places start (spanLists (now (from .entry)) (now (to .entry)) (now (loss .entry))))
+        (mapAt places start minute (spanLists (now (from .entry)) (now (to .entry)) (now (loss .entry)))
+        (windows (now (opens .entry)) (now (closes .entry))))
         (resultLists (now (best .entry)) (now (last .entry)) (now (store .entry))) (now (listed .entry))
         r (resultLists (now (best .exit)) (now (last .exit)) (now (store .exit))) (now (listed .exit)) ⌝ }
 {
     let code = feed_code(
         places,
         start,
+        minute,
         from,
         to,
         loss,
+        opens,
+        closes,
         best.len(),
         last.len(),
         listed.len(),
         store.len(),
     );
     if code != 0 {
-        let fed = Fed {
-            code,
-            links: 0,
-            cuts: 0,
-            examined: 0,
-        };
+        let fed = refused(code);
         return FedWithin { fed, listed: 0 };
     }
     let begun = begin_search(places, start, best, last, store);
     let found = search_within(
         places,
+        minute,
         from,
         to,
         loss,
+        opens,
+        closes,
         budget,
         best,
         last,
@@ -143,15 +169,10 @@ pub fn feed_within(
     );
     hide_beyond(budget, best, last);
     make_empty(store, places as usize);
-    let tally = found.tally;
-    let fed = Fed {
-        code: 0,
-        links: tally.links,
-        cuts: tally.cuts,
-        examined: found.examined,
-    };
+    let listed_places = found.visited;
+    let fed = done(found);
     FedWithin {
         fed,
-        listed: found.visited,
+        listed: listed_places,
     }
 }

@@ -2,10 +2,11 @@
 ghost use mathlib.Core.Path.{_≡_};
 ghost use Prim.Native.Nat.{ℕ};
 ghost use lib.ListN.{length, replicate};
-ghost use Rattle.paths.specs.Map.{spanLists, mapOf};
+ghost use Rattle.paths.specs.Map.{spanLists, windows, mapAt};
 ghost use Rattle.paths.specs.Search.{never};
 ghost use Rattle.paths.specs.Feed.{resultLists};
 ghost use Rattle.finder.specs.SearchState.{BeginReady, Begun, Stands, Found};
+ghost use Rattle.finder.specs.Answers.{refusedFed, doneFed};
 ghost use Rattle.finder.specs.Promise.{Feeds};
 use heap::perform::perform;
 use relax::Progress;
@@ -27,6 +28,31 @@ pub struct Fed {
     pub links: u32,
     pub cuts: u32,
     pub examined: u32,
+}
+
+// The answer of a call that is refused.
+fn refused(code: u32) -> Fed
+    ensures { λ r. ⌜ r ≡ refusedFed code ⌝ }
+{
+    Fed {
+        code,
+        links: 0,
+        cuts: 0,
+        examined: 0,
+    }
+}
+
+// The answer of a call that is done, by its search.
+fn done(found: Progress) -> Fed
+    ensures { λ r. ⌜ r ≡ doneFed found ⌝ }
+{
+    let tally = found.tally;
+    Fed {
+        code: 0,
+        links: tally.links,
+        cuts: tally.cuts,
+        examined: found.examined,
+    }
 }
 
 fn fill(list: &mut [u32], word: u32)
@@ -77,27 +103,44 @@ fn begin_search(
 // Places are visited until each that was met is.
 fn search(
     places: u32,
+    minute: u32,
     from: &[u32],
     to: &[u32],
     loss: &[u32],
+    opens: &[u32],
+    closes: &[u32],
     best: &mut [u32],
     last: &mut [u32],
     store: &mut [u32],
     begun: Progress,
 ) -> Progress
-    requires { ⌜ ((start : ℕ) × Stands never (mapOf places start (spanLists (now from) (now to) (now loss)))
+    requires { ⌜ ((start : ℕ) × Stands never (mapAt places start minute (spanLists (now from) (now to) (now loss))
+        (windows (now opens) (now closes)))
         (resultLists (now best) (now last) (now store)) begun) ⌝ }
     ensures { λ r. ⌜ ((start : ℕ)
-        → Stands never (mapOf places start (spanLists (now (from .entry)) (now (to .entry)) (now (loss .entry))))
+        → Stands never (mapAt places start minute (spanLists (now (from .entry)) (now (to .entry)) (now (loss .entry)))
+        (windows (now (opens .entry)) (now (closes .entry))))
         (resultLists (now (best .entry)) (now (last .entry)) (now (store .entry))) begun
-        → Found never (mapOf places start (spanLists (now (from .entry)) (now (to .entry)) (now (loss .entry))))
+        → Found never (mapAt places start minute (spanLists (now (from .entry)) (now (to .entry)) (now (loss .entry)))
+        (windows (now (opens .entry)) (now (closes .entry))))
         (resultLists (now (best .exit)) (now (last .exit)) (now (store .exit))) r) ⌝ }
 {
     let mut index: Index = [0; 4097];
     index_spans(places, from, &mut index);
     let mut go = begun;
     while go.visited < go.met {
-        go = visit_next(&index, to, loss, best, last, store, go);
+        go = visit_next(
+            minute,
+            &index,
+            to,
+            loss,
+            opens,
+            closes,
+            best,
+            last,
+            store,
+            go,
+        );
     }
     go
 }
@@ -107,44 +150,52 @@ fn search(
 pub fn feed(
     places: u32,
     start: u32,
+    minute: u32,
     from: &[u32],
     to: &[u32],
     loss: &[u32],
+    opens: &[u32],
+    closes: &[u32],
     best: &mut [u32],
     last: &mut [u32],
     store: &mut [u32],
 ) -> Fed
     ensures { λ r. ⌜ Feeds
-        (mapOf places start (spanLists (now (from .entry)) (now (to .entry)) (now (loss .entry))))
+        (mapAt places start minute (spanLists (now (from .entry)) (now (to .entry)) (now (loss .entry)))
+        (windows (now (opens .entry)) (now (closes .entry))))
         (resultLists (now (best .entry)) (now (last .entry)) (now (store .entry)))
         r (resultLists (now (best .exit)) (now (last .exit)) (now (store .exit))) ⌝ }
 {
     let code = feed_code(
         places,
         start,
+        minute,
         from,
         to,
         loss,
+        opens,
+        closes,
         best.len(),
         last.len(),
         places as usize,
         store.len(),
     );
     if code != 0 {
-        return Fed {
-            code,
-            links: 0,
-            cuts: 0,
-            examined: 0,
-        };
+        return refused(code);
     }
     let begun = begin_search(places, start, best, last, store);
-    let found = search(places, from, to, loss, best, last, store, begun);
-    let tally = found.tally;
-    Fed {
-        code: 0,
-        links: tally.links,
-        cuts: tally.cuts,
-        examined: found.examined,
-    }
+    let found = search(
+        places,
+        minute,
+        from,
+        to,
+        loss,
+        opens,
+        closes,
+        best,
+        last,
+        store,
+        begun,
+    );
+    done(found)
 }

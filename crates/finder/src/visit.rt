@@ -9,12 +9,16 @@ use relax::Progress;
 use relax::offered;
 use rules::Call;
 use spans::index::Index;
+use spans::window::usable_at;
 
-// The spans of place u, which was taken with loss d, are tried in list order.
+// The spans of place u, which was taken with loss d, are tried in list order. One that is closed is examined only.
 fn try_spans(
+    minute: u32,
     index: &Index,
     to: &[u32],
     loss: &[u32],
+    opens: &[u32],
+    closes: &[u32],
     best: &mut [u32],
     last: &mut [u32],
     store: &mut [u32],
@@ -22,10 +26,12 @@ fn try_spans(
     d: u32,
     taken: Progress,
 ) -> Progress
-    requires { ⌜ ((stop : Stop) × (m : Map) × Taken stop m (now index) (now to) (now loss) u d
+    requires { ⌜ ((stop : Stop) × (m : Map)
+        × Taken stop m minute (now index) (now to) (now loss) (now opens) (now closes) u d
         (resultLists (now best) (now last) (now store)) taken) ⌝ }
     ensures { λ r. ⌜ ((stop : Stop) (m : Map)
-        → Taken stop m (now (index .entry)) (now (to .entry)) (now (loss .entry)) u d
+        → Taken stop m minute (now (index .entry)) (now (to .entry)) (now (loss .entry)) (now (opens .entry))
+        (now (closes .entry)) u d
         (resultLists (now (best .entry)) (now (last .entry)) (now (store .entry))) taken
         → Visits stop m taken (resultLists (now (best .exit)) (now (last .exit)) (now (store .exit))) r) ⌝ }
 {
@@ -35,8 +41,12 @@ fn try_spans(
     let mut go = taken;
     while e < end {
         let seen = go.examine();
-        let l = d + loss[e];
-        go = offered(best, last, store, to[e], l, e as u32, seen);
+        if usable_at(minute, opens[e], closes[e]) {
+            let l = d + loss[e];
+            go = offered(best, last, store, to[e], l, e as u32, seen);
+        } else {
+            go = seen;
+        }
         e += 1;
     }
     go.visit()
@@ -44,18 +54,23 @@ fn try_spans(
 
 // The place that comes next is taken, and its spans are tried.
 pub fn visit_next(
+    minute: u32,
     index: &Index,
     to: &[u32],
     loss: &[u32],
+    opens: &[u32],
+    closes: &[u32],
     best: &mut [u32],
     last: &mut [u32],
     store: &mut [u32],
     go: Progress,
 ) -> Progress
-    requires { ⌜ ((stop : Stop) × (m : Map) × Goes stop m (now index) (now to) (now loss)
+    requires { ⌜ ((stop : Stop) × (m : Map)
+        × Goes stop m minute (now index) (now to) (now loss) (now opens) (now closes)
         (resultLists (now best) (now last) (now store)) go) ⌝ }
     ensures { λ r. ⌜ ((stop : Stop) (m : Map)
-        → Goes stop m (now (index .entry)) (now (to .entry)) (now (loss .entry))
+        → Goes stop m minute (now (index .entry)) (now (to .entry)) (now (loss .entry)) (now (opens .entry))
+        (now (closes .entry))
         (resultLists (now (best .entry)) (now (last .entry)) (now (store .entry))) go
         → Visits stop m go (resultLists (now (best .exit)) (now (last .exit)) (now (store .exit))) r) ⌝ }
 {
@@ -69,9 +84,12 @@ pub fn visit_next(
         tally,
     };
     try_spans(
+        minute,
         index,
         to,
         loss,
+        opens,
+        closes,
         best,
         last,
         store,

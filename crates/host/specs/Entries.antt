@@ -8,7 +8,7 @@ use Rattle.soundness.specs.Check.{soundWords}
 use Rattle.sheet.specs.Runs.{Run}
 use Rattle.finder.specs.declared.Fed.{Fed}
 use Rattle.finder.specs.declared.budget.FedWithin.{FedWithin}
-use Rattle.paths.specs.Map.{SpanLists, Map}
+use Rattle.paths.specs.Map.{SpanLists, Windows, Map}
 use Rattle.paths.specs.Feed.{ResultLists}
 use Rattle.finder.specs.Promise.{Feeds, FeedsWithin}
 use Rattle.mapfile.specs.Read.{Reading}
@@ -42,7 +42,9 @@ pub record BudgetReturns (budget : ℕ) (m : Map) (lent : ResultLists) (lentList
   pub feeds : FeedsWithin budget m lent lentList within left listed
 
 -- code, figures and lists are those of the reading
-pub record ReadReturns (w : Reading) (r : ℕ) (left : SpanLists) (figures : List ℕ) : Type 0 where
+pub record ReadReturns (w : Reading) (r : ℕ) (left : SpanLists) (leftWindows : Windows) (figures : List ℕ)
+    : Type 0 where
   pub sameCode : r ≡ w .answer .code
-  pub sameFigures : figures ≡ w .answer .places ∷ w .answer .start ∷ w .answer .spans ∷ []
+  pub sameFigures : figures ≡ w .answer .places ∷ w .answer .start ∷ w .answer .minute ∷ w .answer .spans ∷ []
   pub sameLists : left ≡ w .left
+  pub sameWindows : leftWindows ≡ w .leftWindows

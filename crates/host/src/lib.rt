@@ -1,7 +1,7 @@
 // The entries for hosts in C, all but the modem's own run.
 ghost use mathlib.Core.Path.{_≡_};
 ghost use Rattle.sheet.specs.Runs.{freshRun, keptRun};
-ghost use Rattle.paths.specs.Map.{spanLists, mapOf};
+ghost use Rattle.paths.specs.Map.{spanLists, windows, mapAt};
 ghost use Rattle.paths.specs.Feed.{resultLists};
 ghost use Rattle.mapfile.specs.Read.{readMap};
 ghost use Rattle.host.specs.Entries.{RunReturns, soundNumber, FeedReturns, BudgetReturns, ReadReturns};
@@ -54,20 +54,36 @@ pub extern "C" fn store_sound(store: &[u32]) -> u32
 pub extern "C" fn feed_table(
     places: u32,
     start: u32,
+    minute: u32,
     from: &[u32],
     to: &[u32],
     loss: &[u32],
+    opens: &[u32],
+    closes: &[u32],
     best: &mut [u32],
     last: &mut [u32],
     store: &mut [u32],
     figures: &mut [u32; 3],
 ) -> u32
     ensures { λ r. ⌜ FeedReturns
-        (mapOf places start (spanLists (now (from .entry)) (now (to .entry)) (now (loss .entry))))
+        (mapAt places start minute (spanLists (now (from .entry)) (now (to .entry)) (now (loss .entry)))
+        (windows (now (opens .entry)) (now (closes .entry))))
         (resultLists (now (best .entry)) (now (last .entry)) (now (store .entry)))
         r (resultLists (now (best .exit)) (now (last .exit)) (now (store .exit))) (now (figures .exit)) ⌝ }
 {
-    let fed = finder::feed(places, start, from, to, loss, best, last, store);
+    let fed = finder::feed(
+        places,
+        start,
+        minute,
+        from,
+        to,
+        loss,
+        opens,
+        closes,
+        best,
+        last,
+        store,
+    );
     *figures = [fed.links, fed.cuts, fed.examined];
     fed.code
 }
@@ -78,9 +94,12 @@ pub extern "C" fn feed_table(
 pub extern "C" fn feed_budget(
     places: u32,
     start: u32,
+    minute: u32,
     from: &[u32],
     to: &[u32],
     loss: &[u32],
+    opens: &[u32],
+    closes: &[u32],
     budget: u32,
     best: &mut [u32],
     last: &mut [u32],
@@ -89,7 +108,8 @@ pub extern "C" fn feed_budget(
     figures: &mut [u32; 4],
 ) -> u32
     ensures { λ r. ⌜ BudgetReturns budget
-        (mapOf places start (spanLists (now (from .entry)) (now (to .entry)) (now (loss .entry))))
+        (mapAt places start minute (spanLists (now (from .entry)) (now (to .entry)) (now (loss .entry)))
+        (windows (now (opens .entry)) (now (closes .entry))))
         (resultLists (now (best .entry)) (now (last .entry)) (now (store .entry))) (now (listed .entry))
         r (resultLists (now (best .exit)) (now (last .exit)) (now (store .exit))) (now (listed .exit))
         (now (figures .exit)) ⌝ }
@@ -97,9 +117,12 @@ pub extern "C" fn feed_budget(
     let within = finder::budget::feed_within(
         places,
         start,
+        minute,
         from,
         to,
         loss,
+        opens,
+        closes,
         budget,
         best,
         last,
@@ -111,20 +134,25 @@ pub extern "C" fn feed_budget(
     fed.code
 }
 
-// Reads a map text into span lists. Returns the code; the figures are places, start and number of spans.
+// Reads a map text into span and window lists. Returns the code; the figures are places, start, minute and number of
+// spans.
 #[no_mangle]
 pub extern "C" fn read_map(
     text: &[u8],
     from: &mut [u32],
     to: &mut [u32],
     loss: &mut [u32],
-    figures: &mut [u32; 3],
+    opens: &mut [u32],
+    closes: &mut [u32],
+    figures: &mut [u32; 4],
 ) -> u32
     ensures { λ r. ⌜ ReadReturns
-        (readMap (now (text .entry)) (spanLists (now (from .entry)) (now (to .entry)) (now (loss .entry))))
-        r (spanLists (now (from .exit)) (now (to .exit)) (now (loss .exit))) (now (figures .exit)) ⌝ }
+        (readMap (now (text .entry)) (spanLists (now (from .entry)) (now (to .entry)) (now (loss .entry)))
+        (windows (now (opens .entry)) (now (closes .entry))))
+        r (spanLists (now (from .exit)) (now (to .exit)) (now (loss .exit)))
+        (windows (now (opens .exit)) (now (closes .exit))) (now (figures .exit)) ⌝ }
 {
-    let map = mapfile::read(text, from, to, loss);
-    *figures = [map.places, map.start, map.spans];
+    let map = mapfile::read(text, from, to, loss, opens, closes);
+    *figures = [map.places, map.start, map.minute, map.spans];
     map.code
 }

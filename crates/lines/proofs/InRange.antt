@@ -8,13 +8,11 @@ use Rattle.rules.specs.declared.Line.{Line}
 use Rattle.rules.specs.declared.Line.the-variants.{NoCall}
 use Rattle.rules.specs.Theorems.{InRange}
 use Rattle.rules.proofs.Answers.{AllInRange}
-use Rattle.text.specs.declared.Numbers.{Numbers}
-use Rattle.text.specs.declared.Numbers.the-variants.{One, Other, Three, Two}
-use Rattle.text.specs.Fields.{NumbersFit, fieldAt, numbersFrom}
+use Rattle.text.specs.Fields.{RowFits, fieldAt, named, numbersFrom, rowFrom}
 use Rattle.text.specs.Lines.{lines}
 use Rattle.text.specs.Numbers.{largest}
 use Rattle.text.proofs.Cases.{by-cond}
-use Rattle.text.proofs.Range.{field-in-range, numbers-in-range}
+use Rattle.text.proofs.Range.{field-in-range, row-in-range}
 use Rattle.lines.specs.Parse.{
   callOf,
   letterD,
@@ -45,18 +43,19 @@ three-range : (letter x y z : ℕ) → z ≤ largest → InRange (ofThree letter
 unfolding InRange ofThree
 three-range letter x y z k = by-cond InRange (eqb letter letterI) (omega arith) tt
 
-call-range : (letter : ℕ) (n : Numbers) → NumbersFit n → InRange (callOf letter n)
-unfolding callOf InRange NumbersFit
-call-range letter (One x) r = one-range letter x
-call-range letter (Two x y) r = two-range letter x y
-call-range letter (Three x y z) r = three-range letter x y z (r .2)
-call-range letter Other r = tt
+call-range : (letter : ℕ) (row : List ℕ) → RowFits row → InRange (callOf letter (named row))
+unfolding callOf named InRange RowFits
+call-range letter [] r = tt
+call-range letter (x ∷ []) r = one-range letter x
+call-range letter (x ∷ y ∷ []) r = two-range letter x y
+call-range letter (x ∷ y ∷ z ∷ []) r = three-range letter x y z (r .1 .1 .0)
+call-range letter (x ∷ y ∷ z ∷ t ∷ row) r = tt
 
 pub line-range : (bytes : List ℕ) → InRange (lineOf bytes)
-unfolding lineOf
+unfolding lineOf numbersFrom RowFits
 line-range bytes =
-    call-range (getD bytes 0 0) (numbersFrom bytes (fieldAt bytes 1))
-    (numbers-in-range bytes (fieldAt bytes 1) (field-in-range bytes 1))
+    call-range (getD bytes 0 0) (rowFrom 3 bytes [] (fieldAt bytes 1))
+    (row-in-range 3 bytes [] (fieldAt bytes 1) tt (field-in-range bytes 1))
 
 all-range : (ls : List (List ℕ)) → AllInRange (map lineOf ls)
 all-range [] = tt

@@ -16,7 +16,7 @@ use Rattle.text.specs.declared.LineRead.{LineRead}
 use Rattle.text.specs.declared.Number.{Number}
 use Rattle.text.specs.declared.Numbers.{Numbers}
 use Rattle.text.specs.declared.Numbers.the-variants.{One, Other, Three, Two}
-use Rattle.text.specs.Fields.{FieldsRead, InLine, fieldAt, numbersFrom}
+use Rattle.text.specs.Fields.{FieldsRead, InLine, fieldAt, named, numbersFrom, rowFrom}
 use Rattle.text.specs.Lines.{lineEnd, lineFeed, lineLength}
 use Rattle.text.proofs.Fields.{field-in-line}
 use Rattle.text.proofs.OneLine.{fields-same}
@@ -31,7 +31,7 @@ length-at-start s = omega arith
 -- ---- a line without a byte
 
 empty-first : (s : List ℕ) → lineLength s ≡ 0 → firstCall s ≡ NoCall
-unfolding firstCall lineOf callOf fieldAt numbersFrom
+unfolding firstCall lineOf callOf fieldAt rowFrom named numbersFrom
 empty-first s e = rw e
 
 no-bytes : (s : List ℕ) → length s ≡ 0 → lineLength s ≡ 0

@@ -6,7 +6,7 @@ use mathlib.Core.List.{List, _∷_}
 use lib.ListN.{getD}
 use Rattle.rules.specs.declared.Line.the-variants.{NoCall}
 use Rattle.rules.specs.Theorems.{InRange}
-use Rattle.text.specs.Fields.{comma}
+use Rattle.text.specs.Fields.{comma, named}
 use Rattle.text.specs.Padding.{Padded, paddedRow, rowNumbers, AllStand}
 use Rattle.lines.specs.Parse.{callOf, lineOf, linesOf}
 
@@ -18,4 +18,4 @@ LinesInRange = (sheet : List ℕ) (i : ℕ) → InRange (getD (linesOf sheet) i 
 abbrev pub PaddedLine : Type 0
 PaddedLine =
     (letter : ℕ) (p : Padded) (ps : List Padded) → AllStand (p ∷ ps)
-    → lineOf (letter ∷ comma ∷ paddedRow p ps) ≡ callOf letter (rowNumbers p ps)
+    → lineOf (letter ∷ comma ∷ paddedRow p ps) ≡ callOf letter (named (rowNumbers (p ∷ ps)))

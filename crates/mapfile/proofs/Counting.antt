@@ -8,7 +8,7 @@ use lib.ListN.{length, take, drop}
 use Rattle.text.specs.Lines.{lines, lineEnd}
 use Rattle.text.proofs.Lines.{lines-end}
 use Rattle.mapfile.specs.declared.Spans.the-variants.{Count, Malformed}
-use Rattle.mapfile.specs.Lines.{numbersOf, isThree, allSpans, countOf}
+use Rattle.mapfile.specs.Lines.{hasNumbers, allSpans, countOf}
 use Rattle.mapfile.proofs.LineAt.{line-within, at-line}
 
 pub record Counting (text : List ℕ) (first at n : ℕ) : Type 0 where
@@ -29,7 +29,7 @@ module _ {text : List ℕ} {first at n : ℕ} (C : Counting text first at n) whe
 
   -- the line that ends at `end`
   module _ (end : ℕ) (q : end ≡ lineEnd text at) (h : at < length text) where
-    pub one-counted : true ≡ isThree (numbersOf (take (end - at) (drop at text)))
+    pub one-counted : true ≡ hasNumbers 5 (take (end - at) (drop at text))
         → Counting text first (end + 1) (n + 1)
     unfolding allSpans
     one-counted t =
@@ -39,7 +39,7 @@ module _ {text : List ℕ} {first at n : ℕ} (C : Counting text first at n) whe
           low = omega (arith, C .low, line-within text at end q (omega arith));
         }
 
-    pub bad-line : false ≡ isThree (numbersOf (take (end - at) (drop at text)))
+    pub bad-line : false ≡ hasNumbers 5 (take (end - at) (drop at text))
         → Malformed ≡ countOf (lines (drop first text))
     unfolding countOf allSpans
     bad-line t = rw (C .spans, at-line text at end q h, ← t)

@@ -1,29 +1,27 @@
 -- The ways through the map reader: one law for each, in the order of its tests.
 use Prim.Native.Nat.{ℕ, _+_, _-_, _<_, _≤_}
-use mathlib.Core.Path.{_≡_, refl, ap, _∙_}
+use mathlib.Core.Path.{_≡_, refl, sym, ap, _∙_}
 use mathlib.Core.Logic.{_≢_}
 use mathlib.Core.Bool.{Bool, true, false, cond, _||_}
 use mathlib.Core.List.{List, [], _∷_}
 use native.Mathlib.Omega.{arith}
-use lib.ListN.{length, take, drop}
+use lib.ListN.{length, getD, take, drop}
 use lib.Dec.{ltb}
-use borrow.Author.Tests.{eq-eqb, ne-eqb, lt-ltb, le-ltb}
-use types.Run.{OneOf}
-use denote.Enum.Declared.{tagOf}
-use Rattle.text.proofs.Numbers.{the-type}
+use borrow.Author.Tests.{ne-eqb, lt-ltb, le-ltb}
 use Rattle.text.specs.Lines.{lines, lineEnd, lineLength}
-use Rattle.text.specs.declared.Numbers.{Numbers}
-use Rattle.text.specs.declared.Numbers.the-variants.{Two}
+use Rattle.text.specs.Fields.{RowRead}
+use Rattle.text.specs.declared.NumberRow.{NumberRow}
 use Rattle.mapfile.specs.declared.MapRead.{MapRead}
 use Rattle.mapfile.specs.declared.Spans.the-variants.{Count, Malformed}
-use Rattle.paths.specs.Map.{SpanLists}
-use Rattle.mapfile.specs.Lines.{numbersOf, isTwo, allSpans, countOf}
+use Rattle.paths.specs.Map.{SpanLists, Windows}
+use Rattle.mapfile.specs.Lines.{rowOf, hasNumbers, allSpans, countOf}
 use Rattle.mapfile.specs.Read.{
   firstLine,
   spanLines,
   isMap,
   runOut,
   withSpans,
+  withWindows,
   refusedAnswer,
   refusedReading,
   readAnswer,
@@ -33,8 +31,8 @@ use Rattle.mapfile.specs.Read.{
   HeadRead,
   SpansFit,
 }
-use Rattle.mapfile.proofs.Variants.{not-two}
 use Rattle.mapfile.proofs.LineAt.{at-line}
+use Rattle.mapfile.proofs.Room.{spans-fit}
 
 -- the first line of a text, and the lines after it, also if it is empty
 module _ (text : List ℕ) (end : ℕ) (q : end ≡ lineEnd text 0) where
@@ -57,10 +55,10 @@ module _ (text : List ℕ) (end : ℕ) (q : end ≡ lineEnd text 0) where
 -- ---- a refusal
 
 -- A refusal leaves the lists as they are.
-pub refuses : {w : Reading} {r : MapRead} {lent : SpanLists} (code : ℕ) → w ≡ refusedReading code lent
-    → r ≡ refusedAnswer code → Reads w r lent
+pub refuses : {w : Reading} {r : MapRead} {lent : SpanLists} {lentWindows : Windows} (code : ℕ)
+    → w ≡ refusedReading code lent lentWindows → r ≡ refusedAnswer code → Reads w r lent lentWindows
 unfolding refusedReading
-refuses code e q = rw e (record { answer-is = q; left-is = refl })
+refuses code e q = rw e (record { answer-is = q; left-is = refl; windows-are = refl })
 
 -- ---- the first line
 
@@ -68,21 +66,40 @@ or-true : (t : Bool) → (t || true) ≡ true
 or-true true = refl
 or-true false = refl
 
-module _ (text : List ℕ) (lent : SpanLists) where
-  pub too-long : 60000 < length text → readMap text lent ≡ refusedReading 21 lent
+-- a row of three numbers
+three : (row : List ℕ) → length row ≡ 3 → row ≡ getD row 0 0 ∷ getD row 1 0 ∷ getD row 2 0 ∷ []
+three [] e = absurd (omega arith)
+three (x ∷ []) e = absurd (omega arith)
+three (x ∷ y ∷ []) e = absurd (omega arith)
+three (x ∷ y ∷ z ∷ []) e = refl
+three (x ∷ y ∷ z ∷ t ∷ row) e = absurd (omega arith)
+
+module _ (text : List ℕ) (lent : SpanLists) (lentWindows : Windows) where
+  pub too-long : 60000 < length text → readMap text lent lentWindows ≡ refusedReading 21 lent lentWindows
   unfolding readMap
   too-long h = rw (lt-ltb 60000 (length text) h)
 
-  pub bad-head : (end : ℕ) → end ≡ lineEnd text 0 → (n : Numbers) → n ≡ numbersOf (take (end - 0) (drop 0 text))
-      → OneOf (0 ∷ 2 ∷ 3 ∷ []) (tagOf the-type n) → readMap text lent ≡ refusedReading 21 lent
-  unfolding readMap isMap
-  bad-head end q n e h = rw (first-line text end q, ← e, not-two n h, or-true (ltb 60000 (length text)))
+  pub bad-head : (end : ℕ) → end ≡ lineEnd text 0 → {r : NumberRow}
+      → RowRead (rowOf (take (end - 0) (drop 0 text))) r → r .count ≢ 3
+      → readMap text lent lentWindows ≡ refusedReading 21 lent lentWindows
+  unfolding readMap isMap hasNumbers
+  bad-head end q R h =
+      rw (
+        first-line text end q,
+        ne-eqb (length (rowOf (take (end - 0) (drop 0 text)))) 3 (λ e. h (R .counted ∙ e)),
+        or-true (ltb 60000 (length text)),
+      )
 
-pub good-head : (text : List ℕ) → length text ≤ 60000 → (end : ℕ) → end ≡ lineEnd text 0 → (places start : ℕ)
-    (n : Numbers) → n ≡ numbersOf (take (end - 0) (drop 0 text)) → n ≡ Two places start
-    → HeadRead text (end + 1) places start
-good-head text short end q places start n e h =
-    record { short = short; head = rw (first-line text end q, ← e) h; rest = later-lines text end q }
+pub good-head : (text : List ℕ) → length text ≤ 60000 → (end : ℕ) → end ≡ lineEnd text 0 → {r : NumberRow}
+    → RowRead (rowOf (take (end - 0) (drop 0 text))) r → r .count ≡ 3
+    → HeadRead text (end + 1) (getD (r .numbers) 0 0) (getD (r .numbers) 1 0) (getD (r .numbers) 2 0)
+good-head text short end q R h =
+    record {
+      short = short;
+      head = rw (first-line text end q, R .each 0, R .each 1, R .each 2)
+          (three (rowOf (take (end - 0) (drop 0 text))) (sym (R .counted) ∙ h));
+      rest = later-lines text end q;
+    }
 
 -- ---- the spans
 
@@ -103,63 +120,44 @@ uncounted ls e = go (allSpans ls) e
     go true e = let z : _≡_ {A = ℕ} 0 1 = cc in absurd (omega arith)
     go false e = refl
 
-module _ {text : List ℕ} {first places start : ℕ} (H : HeadRead text first places start) (lent : SpanLists) where
+module _ {text : List ℕ} {first places start minute : ℕ} (H : HeadRead text first places start minute)
+    (lent : SpanLists) (lentWindows : Windows) where
   abbrev ls : List (List ℕ)
   ls = lines (drop first text)
 
-  pub bad-spans : Malformed ≡ countOf ls → readMap text lent ≡ refusedReading 21 lent
-  unfolding readMap isMap isTwo
+  pub bad-spans : Malformed ≡ countOf ls → readMap text lent lentWindows ≡ refusedReading 21 lent lentWindows
+  unfolding readMap isMap hasNumbers
   bad-spans e = rw (le-ltb 60000 (length text) (H .short), H .head, H .rest, uncounted ls e)
 
   module _ (n : ℕ) (e : Count n ≡ countOf ls) where
     filled : Reading
     filled =
         record {
-          answer = record { code = 0; places = places; start = start; spans = n };
+          answer = record { code = 0; places = places; start = start; minute = minute; spans = n };
           left = withSpans ls lent;
+          leftWindows = withWindows ls lentWindows;
         }
 
-    past-21 : readMap text lent ≡ cond (runOut lent n) (refusedReading 16 lent) filled
-    unfolding readMap isMap isTwo readAnswer filled
+    past-21 : readMap text lent lentWindows
+        ≡ cond (runOut lent lentWindows n) (refusedReading 16 lent lentWindows) filled
+    unfolding readMap isMap hasNumbers readAnswer filled
     past-21 =
         let c = counted ls n e in
         rw (le-ltb 60000 (length text) (H .short), H .head, H .rest, c .0, c .1)
 
-    pub to-differs : length (lent .to) ≢ length (lent .from) → readMap text lent ≡ refusedReading 16 lent
-    unfolding runOut
-    to-differs x = past-21 ∙ rw (ne-eqb (length (lent .to)) (length (lent .from)) x)
+    -- what the test of the lists answers
+    module _ {t : Bool} (out : t ≡ runOut lent lentWindows n) where
+      pub no-room : t ≡ true → readMap text lent lentWindows ≡ refusedReading 16 lent lentWindows
+      no-room y = past-21 ∙ rw (← out, y)
 
-    module _ (et : length (lent .to) ≡ length (lent .from)) where
-      pub loss-differs : length (lent .loss) ≢ length (lent .from) → readMap text lent ≡ refusedReading 16 lent
-      unfolding runOut
-      loss-differs x =
-          past-21
-          ∙ rw (
-            eq-eqb (length (lent .to)) (length (lent .from)) et,
-            ne-eqb (length (lent .loss)) (length (lent .from)) x,
-          )
+      module _ (f : t ≡ false) where
+        pub has-room : SpansFit ls lent lentWindows
+        has-room = spans-fit ls lent lentWindows (rw (counted ls n e .1, ← out) f)
 
-      module _ (el : length (lent .loss) ≡ length (lent .from)) where
-        equal-lists : runOut lent n ≡ ltb (length (lent .from)) n
-        unfolding runOut
-        equal-lists =
-            rw (
-              eq-eqb (length (lent .to)) (length (lent .from)) et,
-              eq-eqb (length (lent .loss)) (length (lent .from)) el,
-            )
-
-        pub no-room : length (lent .from) < n → readMap text lent ≡ refusedReading 16 lent
-        no-room h = past-21 ∙ rw (equal-lists, lt-ltb (length (lent .from)) n h)
-
-        module _ (h : n ≤ length (lent .from)) where
-          pub has-room : SpansFit ls lent
-          has-room =
-              let c = counted ls n e in
-              record { inFrom = omega (arith, c .1); inTo = omega (arith, c .1); inLoss = omega (arith, c .1) }
-
-          pub all-filled : (left : SpanLists) → left ≡ withSpans ls lent
-              → Reads (readMap text lent) (record { code = 0; places = places; start = start; spans = n }) left
-          unfolding filled
-          all-filled left F =
-              rw (past-21, equal-lists, le-ltb (length (lent .from)) n h)
-              (record { answer-is = refl; left-is = F })
+        pub all-filled : (left : SpanLists) (leftWindows : Windows) → left ≡ withSpans ls lent
+            → leftWindows ≡ withWindows ls lentWindows
+            → Reads (readMap text lent lentWindows)
+            (record { code = 0; places = places; start = start; minute = minute; spans = n }) left leftWindows
+        unfolding filled
+        all-filled left leftWindows F G =
+            rw (past-21, ← out, f) (record { answer-is = refl; left-is = F; windows-are = G })

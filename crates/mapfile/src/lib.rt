@@ -1,28 +1,25 @@
-// Map text to span lists.
+// Map text to span and window lists.
 ghost use mathlib.Core.Path.{_≡_};
 ghost use Prim.Native.Nat.{_≤_};
 ghost use lib.ListN.{length, drop};
+ghost use Rattle.text.specs.Fields.{RowRead};
 ghost use Rattle.text.specs.Lines.{lines};
-ghost use Rattle.paths.specs.Map.{spanLists};
-ghost use Rattle.mapfile.specs.Lines.{numbersOf, isThree, spanFrom, countOf};
-ghost use Rattle.mapfile.specs.Read.{withSpans, refusedAnswer, readMap, Reads, HeadRead, SpansFit};
-use text::Numbers;
+ghost use Rattle.paths.specs.Map.{spanLists, windows};
+ghost use Rattle.mapfile.specs.Lines.{rowOf, hasNumbers, countOf};
+ghost use Rattle.mapfile.specs.Read.{runOut, withSpans, withWindows, refusedAnswer, readMap};
+ghost use Rattle.mapfile.specs.Read.{Reads, HeadRead, SpansFit};
+use text::NumberRow;
 use text::line_end;
 use text::number_at;
-use text::numbers_from;
+use text::row_from;
 
-// What reading a map answers: its code, and places, start and number of spans, or three zeros after a refusal.
+// What reading a map answers: its code, and places, start, minute and number of spans, or four zeros after a refusal.
 pub struct MapRead {
     pub code: u32,
     pub places: u32,
     pub start: u32,
+    pub minute: u32,
     pub spans: u32,
-}
-
-pub struct Span {
-    pub from: u32,
-    pub to: u32,
-    pub loss: u32,
 }
 
 // How many spans some lines hold, if each line is a span.
@@ -32,40 +29,17 @@ pub enum Spans {
 }
 
 // The numbers of a line.
-fn line_numbers(line: &[u8]) -> Numbers
-    ensures { λ r. ⌜ r ≡ numbersOf (now (line .entry)) ⌝ }
+fn line_numbers(line: &[u8]) -> NumberRow
+    ensures { λ r. ⌜ RowRead (rowOf (now (line .entry))) r ⌝ }
 {
-    let read = numbers_from(line, number_at(line, 0));
-    read.numbers
+    row_from(line, number_at(line, 0))
 }
 
 fn is_span(line: &[u8]) -> bool
-    ensures { λ r. ⌜ r ≡ isThree (numbersOf (now (line .entry))) ⌝ }
+    ensures { λ r. ⌜ r ≡ hasNumbers 5 (now (line .entry)) ⌝ }
 {
-    let numbers = line_numbers(line);
-    let Numbers::Three(_, _, _) = numbers else {
-        return false;
-    };
-    true
-}
-
-// The span of a line, zeros if it is none.
-fn span_of(line: &[u8]) -> Span
-    ensures { λ r. ⌜ r ≡ spanFrom (numbersOf (now (line .entry))) ⌝ }
-{
-    let numbers = line_numbers(line);
-    let Numbers::Three(from, to, loss) = numbers else {
-        return Span {
-            from: 0,
-            to: 0,
-            loss: 0,
-        };
-    };
-    Span {
-        from: from,
-        to: to,
-        loss: loss,
-    }
+    let row = line_numbers(line);
+    row.count == 5
 }
 
 // How many spans the lines from a position on hold.
@@ -87,21 +61,45 @@ fn count_spans(text: &[u8], first: usize) -> Spans
     Spans::Count(n)
 }
 
-// The spans of the lines from a position on go to the beginning of the three lists.
-fn fill(text: &[u8], first: usize, from: &mut [u32], to: &mut [u32], loss: &mut [u32])
-    requires { ⌜ SpansFit (lines (drop first (now text))) (spanLists (now from) (now to) (now loss)) ⌝ }
+// Whether the five lists differ in length, or have no word for each of n spans.
+fn run_out(from: &[u32], to: &[u32], loss: &[u32], opens: &[u32], closes: &[u32], n: u32) -> bool
+    ensures { λ r. ⌜ r ≡ runOut (spanLists (now (from .entry)) (now (to .entry)) (now (loss .entry)))
+        (windows (now (opens .entry)) (now (closes .entry))) n ⌝ }
+{
+    let words = from.len();
+    let uneven = (to.len() != words) | (loss.len() != words);
+    uneven | (opens.len() != words) | (closes.len() != words) | (words < n as usize)
+}
+
+// The spans of the lines from a position on go to the beginning of the five lists.
+fn fill(
+    text: &[u8],
+    first: usize,
+    from: &mut [u32],
+    to: &mut [u32],
+    loss: &mut [u32],
+    opens: &mut [u32],
+    closes: &mut [u32],
+)
+    requires { ⌜ SpansFit (lines (drop first (now text))) (spanLists (now from) (now to) (now loss))
+        (windows (now opens) (now closes)) ⌝ }
     ensures { λ _. ⌜ spanLists (now (from .exit)) (now (to .exit)) (now (loss .exit))
         ≡ withSpans (lines (drop first (now (text .entry))))
         (spanLists (now (from .entry)) (now (to .entry)) (now (loss .entry))) ⌝ }
+    ensures { λ _. ⌜ windows (now (opens .exit)) (now (closes .exit))
+        ≡ withWindows (lines (drop first (now (text .entry)))) (windows (now (opens .entry)) (now (closes .entry))) ⌝ }
 {
     let mut at = first;
     let mut n = 0;
     while at < text.len() {
         let end = line_end(text, at);
-        let span = span_of(&text[at..end]);
-        from[n] = span.from;
-        to[n] = span.to;
-        loss[n] = span.loss;
+        let row = line_numbers(&text[at..end]);
+        let numbers = row.numbers;
+        from[n] = numbers[0];
+        to[n] = numbers[1];
+        loss[n] = numbers[2];
+        opens[n] = numbers[3];
+        closes[n] = numbers[4];
         n += 1;
         at = end + 1;
     }
@@ -114,6 +112,7 @@ fn refuse(code: u32) -> MapRead
         code: code,
         places: 0,
         start: 0,
+        minute: 0,
         spans: 0,
     }
 }
@@ -124,50 +123,74 @@ fn read_spans(
     first: usize,
     places: u32,
     start: u32,
+    minute: u32,
     from: &mut [u32],
     to: &mut [u32],
     loss: &mut [u32],
+    opens: &mut [u32],
+    closes: &mut [u32],
 ) -> MapRead
-    requires { ⌜ HeadRead (now text) first places start ⌝ }
+    requires { ⌜ HeadRead (now text) first places start minute ⌝ }
     ensures { λ r. ⌜ Reads
-        (readMap (now (text .entry)) (spanLists (now (from .entry)) (now (to .entry)) (now (loss .entry))))
-        r (spanLists (now (from .exit)) (now (to .exit)) (now (loss .exit))) ⌝ }
+        (readMap (now (text .entry)) (spanLists (now (from .entry)) (now (to .entry)) (now (loss .entry)))
+        (windows (now (opens .entry)) (now (closes .entry))))
+        r (spanLists (now (from .exit)) (now (to .exit)) (now (loss .exit)))
+        (windows (now (opens .exit)) (now (closes .exit))) ⌝ }
 {
     let spans = count_spans(text, first);
     let Spans::Count(n) = spans else {
         return refuse(21);
     };
-    if to.len() != from.len() {
+    if run_out(from, to, loss, opens, closes, n) {
         return refuse(16);
     }
-    if loss.len() != from.len() {
-        return refuse(16);
-    }
-    if from.len() < n as usize {
-        return refuse(16);
-    }
-    fill(text, first, from, to, loss);
+    fill(text, first, from, to, loss, opens, closes);
     MapRead {
         code: 0,
         places: places,
         start: start,
+        minute: minute,
         spans: n,
     }
 }
 
-// Reads a map text into three span lists.
-pub fn read(text: &[u8], from: &mut [u32], to: &mut [u32], loss: &mut [u32]) -> MapRead
+// Reads a map text into three span lists and two window lists.
+pub fn read(
+    text: &[u8],
+    from: &mut [u32],
+    to: &mut [u32],
+    loss: &mut [u32],
+    opens: &mut [u32],
+    closes: &mut [u32],
+) -> MapRead
     ensures { λ r. ⌜ Reads
-        (readMap (now (text .entry)) (spanLists (now (from .entry)) (now (to .entry)) (now (loss .entry))))
-        r (spanLists (now (from .exit)) (now (to .exit)) (now (loss .exit))) ⌝ }
+        (readMap (now (text .entry)) (spanLists (now (from .entry)) (now (to .entry)) (now (loss .entry)))
+        (windows (now (opens .entry)) (now (closes .entry))))
+        r (spanLists (now (from .exit)) (now (to .exit)) (now (loss .exit)))
+        (windows (now (opens .exit)) (now (closes .exit))) ⌝ }
 {
     if text.len() > 60000 {
         return refuse(21);
     }
     let end = line_end(text, 0);
     let head = line_numbers(&text[0..end]);
-    let Numbers::Two(places, start) = head else {
+    if head.count != 3 {
         return refuse(21);
-    };
-    read_spans(text, end + 1, places, start, from, to, loss)
+    }
+    let numbers = head.numbers;
+    let places = numbers[0];
+    let start = numbers[1];
+    let minute = numbers[2];
+    read_spans(
+        text,
+        end + 1,
+        places,
+        start,
+        minute,
+        from,
+        to,
+        loss,
+        opens,
+        closes,
+    )
 }

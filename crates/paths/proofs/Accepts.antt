@@ -1,8 +1,8 @@
 -- Code 0 is given exactly to accepted maps with lists and a store of the right sizes.
 use Prim.Native.Nat.{ℕ, zero, suc, _≤_, _<_}
-use mathlib.Core.Path.{_≡_, refl, sym}
+use mathlib.Core.Path.{_≡_, sym}
 use mathlib.Core.Logic.{_≢_}
-use mathlib.Core.Bool.{Bool, true, false, cond, not, _||_, true≢false}
+use mathlib.Core.Bool.{not, _&&_, _||_}
 use native.Mathlib.Omega.{arith}
 use lib.ListN.{length}
 use lib.Dec.{eqb, ltb, leb}
@@ -22,17 +22,20 @@ use borrow.Author.Tests.{
 use Rattle.rules.specs.Words.{storeSize}
 use Rattle.rules.proofs.Occurs.{and-split}
 use Rattle.paths.specs.Map.{Map, spans, fromOf, toOf, lossOf, Accepted}
-use Rattle.paths.specs.Codes.{fault, previous, spanCode, spanListsFit, resultListsFit, feedCode}
+use Rattle.paths.specs.Codes.{
+  fault,
+  previous,
+  supplyFault,
+  spanCode,
+  minuteFits,
+  spanListsFit,
+  windowListsFit,
+  resultListsFit,
+  feedCode,
+}
 use Rattle.paths.specs.Theorems.{Fits, CodeZero}
-use Rattle.paths.proofs.Codes.{fault-none, each-none, all-none}
-
-no-cond : (t : Bool) (c x : ℕ) → c ≢ 0 → _≡_ {A = ℕ} (cond t c x) 0 → (t ≡ false) × (x ≡ 0)
-no-cond true c x n e = absurd (n e)
-no-cond false c x n e = (refl, e)
-
-pub no-or : (a b : Bool) → (a || b) ≡ false → (a ≡ false) × (b ≡ false)
-no-or true b e = absurd (true≢false e)
-no-or false b e = (refl, e)
+use Rattle.paths.proofs.Codes.{no-cond, no-or, both-zero, fault-none, each-none, all-none}
+use Rattle.paths.proofs.Supply.{supply-fits, supply-minute, supply-lists, supply-faultless}
 
 module _ (m : Map) where
   -- what a span without a fault is
@@ -42,10 +45,13 @@ module _ (m : Map) where
     low : 1 ≤ lossOf m e
     high : lossOf m e ≤ 1000000
     level : previous (m .lists .from) e ≤ fromOf m e
+    window : supplyFault (m .supply) e ≡ 0
 
-  faultless : (e : ℕ) → spanCode (m .places) (m .lists) e ≡ 0 → Faultless e
+  faultless : (e : ℕ) → spanCode (m .places) (m .lists) (m .supply) e ≡ 0 → Faultless e
   unfolding spanCode fault
-  faultless e z =
+  faultless e z₀ =
+      let both = both-zero _ (supplyFault (m .supply) e) z₀ in
+      let z = both .0 in
       let a = no-cond (leb (m .places) (fromOf m e) || leb (m .places) (toOf m e)) 18 _ (λ q. omega arith) z in
       let b = no-cond (eqb (lossOf m e) 0 || ltb 1000000 (lossOf m e)) 19 _ (λ q. omega arith) (a .1) in
       let c = no-cond (ltb (fromOf m e) (previous (m .lists .from) e)) 20 0 (λ q. omega arith) (b .1) in
@@ -58,13 +64,16 @@ module _ (m : Map) where
         low = omega (arith, n);
         high = ltb-false 1000000 (lossOf m e) (g .1);
         level = ltb-false (fromOf m e) (previous (m .lists .from) e) (c .0);
+        window = both .1;
       }
 
-  no-fault : Accepted m → (e : ℕ) → e < spans m → spanCode (m .places) (m .lists) e ≡ 0
+  no-fault : Accepted m → (e : ℕ) → e < spans m → spanCode (m .places) (m .lists) (m .supply) e ≡ 0
   unfolding spanCode previous
   no-fault A e h =
-      sym (fault-none (m .places) (fromOf m e) (toOf m e) (lossOf m e) (previous (m .lists .from) e) (A .fromIn e h)
-      (A .toIn e h) (λ q. omega (arith, A .low e h)) (A .high e h) (level e h))
+      rw (sym
+      (fault-none (m .places) (fromOf m e) (toOf m e) (lossOf m e) (previous (m .lists .from) e) (A .fromIn e h)
+      (A .toIn e h) (λ q. omega (arith, A .low e h)) (A .high e h) (level e h)))
+      (supply-faultless (spans m) (m .supply) (A .supplied) e h)
     where
       level : (e : ℕ) → e < spans m → previous (m .lists .from) e ≤ fromOf m e
       level zero h = omega arith
@@ -76,17 +85,22 @@ module _ (m : Map) where
     fits z =
         let c₁ = no-cond (eqb (m .places) 0 || ltb 4096 (m .places)) 14 _ (λ q. omega arith) z in
         let c₂ = no-cond (leb (m .places) (m .start)) 15 _ (λ q. omega arith) (c₁ .1) in
-        let c₃ = no-cond (not (spanListsFit (m .lists))) 16 _ (λ q. omega arith) (c₂ .1) in
+        let c₀ = no-cond (not (minuteFits (m .supply))) 24 _ (λ q. omega arith) (c₂ .1) in
+        let c₃ =
+        no-cond (not (spanListsFit (m .lists) && windowListsFit (spans m) (m .supply))) 16 _ (λ q. omega arith)
+        (c₀ .1) in
         let c₄ = no-cond (not (resultListsFit (m .places) bestN lastN storeN)) 17 _ (λ q. omega arith) (c₃ .1) in
         let c₅ = no-cond (ltb listedN (m .places)) 22 _ (λ q. omega arith) (c₄ .1) in
         let f = no-or (eqb (m .places) 0) (ltb 4096 (m .places)) (c₁ .0) in
-        let g = and-split _ (leb (spans m) 16384) (not-false _ (c₃ .0)) in
+        let k =
+        and-split (spanListsFit (m .lists)) (windowListsFit (spans m) (m .supply)) (not-false _ (c₃ .0)) in
+        let g = and-split _ (leb (spans m) 16384) (k .0) in
         let g′ = and-split (eqb (length (m .lists .to)) (spans m)) (eqb (length (m .lists .loss)) (spans m)) (g .0) in
         let h = and-split _ (eqb storeN (storeSize (m .places))) (not-false _ (c₄ .0)) in
         let h′ = and-split (eqb bestN (m .places)) (eqb lastN (m .places)) (h .0) in
         let n : m .places ≢ 0 = eqb-false (m .places) 0 (f .0) in
         let s : (e : ℕ) → e < spans m → Faultless e =
-        λ e k. faultless e (each-none (m .places) (m .lists) (spans m) (c₅ .1) e k) in
+        λ e k. faultless e (each-none (m .places) (m .lists) (m .supply) (spans m) (c₅ .1) e k) in
         record {
           accepted =
               record {
@@ -101,6 +115,8 @@ module _ (m : Map) where
                 low = λ e k. s e k .low;
                 high = λ e k. s e k .high;
                 rising = λ e k. s (suc e) k .level;
+                supplied =
+                    supply-fits (spans m) (m .supply) (not-false _ (c₀ .0)) (k .1) (λ e h. s e h .window);
               };
           best = eqb-true bestN (m .places) (h′ .0);
           last = eqb-true lastN (m .places) (h′ .1);
@@ -119,12 +135,14 @@ module _ (m : Map) where
           eq-eqb (length (m .lists .to)) (spans m) (A .toN),
           eq-eqb (length (m .lists .loss)) (spans m) (A .lossN),
           le-leb (spans m) 16384 (A .short),
+          supply-minute (spans m) (m .supply) (A .supplied),
+          supply-lists (spans m) (m .supply) (A .supplied),
           eq-eqb bestN (m .places) (F .best),
           eq-eqb lastN (m .places) (F .last),
           eq-eqb storeN (storeSize (m .places)) (F .store),
           le-ltb listedN (m .places) (F .listed),
         )
-        (all-none (m .places) (m .lists) (spans m) (no-fault A))
+        (all-none (m .places) (m .lists) (m .supply) (spans m) (no-fault A))
 
 pub codeZero : CodeZero
 codeZero = record { accepts = accepts; only = fits }

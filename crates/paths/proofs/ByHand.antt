@@ -7,6 +7,7 @@ use Rattle.rules.specs.Consolidate.{link, isFree, climb, linkTrees, occupied, c
 use Rattle.rules.specs.Calls.{insert, release, setFree, removeRoot, extract, hasParent, decreaseKey, perform}
 use Rattle.rules.specs.Words.{storeSize}
 use Rattle.rules.specs.Answers.{isEmpty, refusal, refused, unlessRefused, answer, answers}
+use Rattle.paths.specs.Map.{usableBy}
 use Rattle.paths.specs.Queue.{waiting, nextOf, next}
 use Rattle.paths.specs.Search.{
   judge,
@@ -22,7 +23,16 @@ use Rattle.paths.specs.Search.{
   hideWaiting,
   takings,
 }
-use Rattle.paths.specs.Codes.{fault, previous, spanCode, codeBelow, feedCode}
+use Rattle.paths.specs.Codes.{
+  fault,
+  supplyFault,
+  previous,
+  spanCode,
+  codeBelow,
+  minuteFits,
+  windowListsFit,
+  feedCode,
+}
 use Rattle.paths.specs.Feed.{linksOf, cutsOf, feedAs, feedResult, budgetAs, budgetResult}
 use Rattle.paths.specs.ByHand.{
   ninesThree,
@@ -47,9 +57,10 @@ use Rattle.paths.specs.ByHand.{
 pub workedMaps : WorkedMaps
 unfolding ninesThree onThree doneThree refusedThree paperMap tieMap refusedMaps onFour doneFour equalMap unreachedMap
     budgetRows starMap starLinks onTwo refusedTwo budgetResult budgetAs feedResult feedAs hideWaiting takings linksOf
-    cutsOf feedCode storeSize codeBelow spanCode previous fault search steps begin step visit tried try offer update
-    judge next nextOf waiting answers answer unlessRefused refused refusal isEmpty perform decreaseKey hasParent extract
-    removeRoot setFree release insert consolidate consolidateWithin occupied linkTrees climb isFree link cutIf
-    cutOut cutWithin cascadingCut nodeKind cut minimum leastIn leastOf comesBefore setAll without sumBy
+    cutsOf feedCode minuteFits windowListsFit storeSize codeBelow spanCode previous supplyFault fault usableBy search
+    steps begin step visit tried try offer update judge next nextOf waiting answers answer unlessRefused refused
+    refusal isEmpty perform decreaseKey hasParent extract removeRoot setFree release insert consolidate
+    consolidateWithin occupied linkTrees climb isFree link cutIf cutOut cutWithin cascadingCut nodeKind cut minimum
+    leastIn leastOf comesBefore setAll without sumBy
 workedMaps =
     record { calls = refl; paper = refl; tie = refl; refusals = refl; budgets = refl; links = refl; placeList = refl }

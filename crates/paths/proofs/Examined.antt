@@ -12,7 +12,7 @@ use borrow.Author.Tests.{eqb-true, eqb-false}
 use Rattle.rules.specs.Lists.{sumTo, delta}
 use Rattle.rules.proofs.Occurs.{byItem, delta-self, delta-other}
 use Rattle.rules.proofs.SumTo.{sumTo-le, sumTo-cong, sumTo-add, sumTo-zero}
-use Rattle.paths.specs.Map.{Map, spans, fromOf, toOf, lossOf, Accepted}
+use Rattle.paths.specs.Map.{Map, spans, fromOf, toOf, lossOf, usable, Accepted}
 use Rattle.paths.specs.Queue.{Stop, NextPlace, halts, takes, next}
 use Rattle.paths.specs.Search.{
   Search,
@@ -80,7 +80,7 @@ tried-examined : (m : Map) (u d : ℕ) (s : Search) (k : ℕ)
     → (tried m u d k s) .examined ≡ s .examined + sumTo k (λ e. delta u (fromOf m e))
 unfolding tried try offer sumTo delta
 tried-examined m u d s zero = omega arith
-tried-examined m u d s (suc k) = go (eqb (fromOf m k) u) (m .usable k) (tried-examined m u d s k)
+tried-examined m u d s (suc k) = go (eqb (fromOf m k) u) (usable m k) (tried-examined m u d s k)
   where
     t : Search
     t = tried m u d k s

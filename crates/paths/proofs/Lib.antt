@@ -1,5 +1,6 @@
 -- The proofs about the search, bottom to top.
 pub mod ByHand
+pub mod WindowsByHand
 pub mod Waiting
 pub mod Stopping
 pub mod Invariant
@@ -30,6 +31,9 @@ pub mod Listing
 pub mod Costs
 pub mod Counts
 pub mod Codes
+pub mod Supply
 pub mod Accepts
 pub mod FeedDone
+pub mod ChainsOpen
+pub mod AllDay
 pub mod BudgetDone

@@ -5,17 +5,22 @@ use mathlib.Core.Bool.{Bool, true, false, false≢true}
 use native.Mathlib.Omega.{arith}
 use lib.Dec.{eqb}
 use borrow.Author.Tests.{eqb-true, eqb-false}
-use Rattle.paths.specs.Map.{Map, spans, fromOf, toOf, lossOf, IsSpan, Accepted}
+use Rattle.paths.specs.Map.{Map, spans, fromOf, toOf, lossOf, usable, IsSpan, Accepted}
 use Rattle.paths.specs.Search.{Search, Verdict, judge, update, offer, try, tried, examine, bestAt, lastAt}
 use Rattle.paths.proofs.Pass.{pass}
 use Rattle.paths.proofs.Offers.{TryingOf, Case, judged, update-trying}
+
+-- a closed span is examined, and no more
+pub try-closed : (m : Map) (d e : ℕ) (s : Search) → try true false m d e s ≡ examine s
+unfolding try
+try-closed m d e s = refl
 
 pub tried-trying : (m : Map) → Accepted m → (u d r : ℕ) (s : Search) → TryingOf m u d 0 r s → (k : ℕ) → k ≤ spans m
     → TryingOf m u d k r (tried m u d k s)
 unfolding tried try offer
 tried-trying m A u d r s T zero h = T
 tried-trying m A u d r s T (suc k) h =
-    go (eqb (fromOf m k) u) (m .usable k) refl refl (tried-trying m A u d r s T k (omega arith))
+    go (eqb (fromOf m k) u) (usable m k) refl refl (tried-trying m A u d r s T k (omega arith))
   where
     t : Search
     t = tried m u d k s
@@ -29,7 +34,7 @@ tried-trying m A u d r s T (suc k) h =
           left = T .left;
         }
 
-    go : (a b : Bool) → eqb (fromOf m k) u ≡ a → m .usable k ≡ b → TryingOf m u d k r t
+    go : (a b : Bool) → eqb (fromOf m k) u ≡ a → usable m k ≡ b → TryingOf m u d k r t
         → TryingOf m u d (suc k) r (try a b m d k t)
     go false b ea eb T = skip T (λ _ f. eqb-false (fromOf m k) u ea f)
     go true false ea eb T = skip T (λ i _. false≢true (sym eb ∙ i .1))
@@ -51,15 +56,15 @@ pub tried-keeps : (m : Map) → Accepted m → (P : Search → Type 0) → KeptB
 unfolding tried try offer
 tried-keeps m A P K u d r s T h zero j = h
 tried-keeps m A P K u d r s T h (suc k) j =
-    go (eqb (fromOf m k) u) (m .usable k) refl refl (tried-trying m A u d r s T k (omega arith))
+    go (eqb (fromOf m k) u) (usable m k) refl refl (tried-trying m A u d r s T k (omega arith))
     (tried-keeps m A P K u d r s T h k (omega arith))
   where
     t : Search
     t = tried m u d k s
 
-    go : (a b : Bool) → eqb (fromOf m k) u ≡ a → m .usable k ≡ b → TryingOf m u d k r t → P t → P (try a b m d k t)
+    go : (a b : Bool) → eqb (fromOf m k) u ≡ a → usable m k ≡ b → TryingOf m u d k r t → P t → P (try a b m d k t)
     go false b ea eb T h = h
-    go true false ea eb T h = K .examined u d k r t T h
+    go true false ea eb T h = rw (try-closed m d k t) (K .examined u d k r t T h)
     go true true ea eb T h =
         let i : IsSpan m k = (omega arith, eb) in
         let f : fromOf m k ≡ u = eqb-true (fromOf m k) u ea in

@@ -7,4 +7,5 @@ pub mod Search
 pub mod Codes
 pub mod Feed
 pub mod ByHand
+pub mod WindowsByHand
 pub mod Theorems

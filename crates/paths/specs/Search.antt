@@ -8,7 +8,7 @@ use Rattle.rules.specs.declared.Call.the-variants.{Insert, ExtractMin, Decrease
 use Rattle.rules.specs.declared.Line.{Line}
 use Rattle.rules.specs.declared.Line.the-variants.{Yields}
 use Rattle.rules.specs.Forests.{none}
-use Rattle.paths.specs.Map.{Map, spans, fromOf, toOf, lossOf}
+use Rattle.paths.specs.Map.{Map, spans, fromOf, toOf, lossOf, usable}
 use Rattle.paths.specs.Table.{Limit, unlimited, upTo}
 use Rattle.paths.specs.Queue.{Queue, Stop, NextPlace, halts, takes, noneWait, enter, lower, leave, next}
 
@@ -93,7 +93,7 @@ try true true m d e s = offer (toOf m e) (d + lossOf m e) e (examine s)
 -- The spans of place u below number e are tried in list order.
 unfoldable pub tried : Map → ℕ → ℕ → ℕ → Search → Search
 tried m u d zero s = s
-tried m u d (suc e) s = try (eqb (fromOf m e) u) (m .usable e) m d e (tried m u d e s)
+tried m u d (suc e) s = try (eqb (fromOf m e) u) (usable m e) m d e (tried m u d e s)
 
 -- Place u is taken from the queue.
 abbrev pub extracted : ℕ → Search → Search

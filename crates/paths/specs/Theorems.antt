@@ -14,7 +14,18 @@ use Rattle.rules.specs.Forests.{Forests, none, empty}
 use Rattle.rules.specs.Answers.{answer, answers, after}
 use Rattle.rules.specs.Fibonacci.{R}
 use Rattle.rules.specs.Words.{storeSize, encode}
-use Rattle.paths.specs.Map.{Map, spans, fromOf, Accepted}
+use Rattle.paths.specs.Map.{
+  SpanLists,
+  Windows,
+  Map,
+  mapOf,
+  mapAt,
+  spans,
+  fromOf,
+  lastMinute,
+  dayEnd,
+  Accepted,
+}
 use Rattle.paths.specs.Chains.{Chain, chainLoss}
 use Rattle.paths.specs.Table.{Limit, unlimited, upTo, WithinLimit, Table, isReached, Listing}
 use Rattle.paths.specs.Queue.{Stop, halts, takes, next}
@@ -35,8 +46,8 @@ use Rattle.paths.specs.Feed.{linksOf, cutsOf, ResultLists, Feed, feedRes
 
 -- ---- the table
 
--- The search finds the table of every accepted map under every limit; there is no other; and none is shown as a loss
--- only where no chain within the limit leads.
+-- The search finds the table of every accepted map under every limit: the least loss over all chains of usable spans.
+-- There is no other, and none is shown as a loss only where no such chain within the limit leads.
 abbrev pub FinderTable : Type 0
 FinderTable =
     (limit : Limit) (m : Map) → Accepted m
@@ -59,6 +70,38 @@ BudgetTable =
     → Table unlimited m best last → Table (upTo budget) m best′ last′ → (p : ℕ) → p < m .places
     → (getD best′ p none ≡ cond (leb (getD best p none) budget) (getD best p none) none)
     × (getD last′ p none ≡ cond (leb (getD best p none) budget) (getD last p none) none)
+
+-- ---- supply windows
+
+-- The minute is in the window of each span of a chain: not before its opening minute, and before its closing one.
+abbrev pub AllOpen : ℕ → Windows → List ℕ → Type 0
+AllOpen minute w [] = Unit {0}
+AllOpen minute w (e ∷ c) = (getD (w .opens) e 0 ≤ minute) × (minute < getD (w .closes) e 0) × AllOpen minute w c
+
+-- The chains of a map at a minute are those of the same spans, all of them usable, in whose windows the minute is.
+pub record ChainsOpen : Type 0 where
+  pub within : (places start minute : ℕ) (lists : SpanLists) (w : Windows) (c : List ℕ) (p : ℕ)
+      → Chain (mapAt places start minute lists w) c p → Chain (mapOf places start lists) c p × AllOpen minute w c
+  pub only : (places start minute : ℕ) (lists : SpanLists) (w : Windows) (c : List ℕ) (p : ℕ)
+      → Chain (mapOf places start lists) c p → AllOpen minute w c → Chain (mapAt places start minute lists w) c p
+
+-- windows of n spans that last from 0 to 1,440
+pub record AllDay (n : ℕ) (w : Windows) : Type 0 where
+  pub opensN : length (w .opens) ≡ n
+  pub closesN : length (w .closes) ≡ n
+  pub opens : (e : ℕ) → e < n → getD (w .opens) e 0 ≡ 0
+  pub closes : (e : ℕ) → e < n → getD (w .closes) e 0 ≡ dayEnd
+
+-- With such windows both calls give at every minute what they give on the same lists with every span usable, where
+-- neither 23 nor 24 is tested: code, figures, lists and store.
+pub record AllDayFeeds : Type 0 where
+  pub full : (places start minute : ℕ) (lists : SpanLists) (w : Windows) (lent : ResultLists)
+      → minute ≤ lastMinute → AllDay (length (lists .from)) w
+      → feedResult (mapAt places start minute lists w) lent ≡ feedResult (mapOf places start lists) lent
+  pub budget : (budget places start minute : ℕ) (lists : SpanLists) (w : Windows) (lent : ResultLists)
+      (listed : List ℕ) → minute ≤ lastMinute → AllDay (length (lists .from)) w
+      → budgetResult budget (mapAt places start minute lists w) lent listed
+      ≡ budgetResult budget (mapOf places start lists) lent listed
 
 -- ---- the place list
 

@@ -7,12 +7,12 @@ use native.Mathlib.Omega.{arith}
 use native.Mathlib.Numerals.{add-one}
 use lib.ListN.{getD}
 use borrow.Author.Tests.{ne-eqb}
-use Rattle.paths.specs.Map.{SpanLists}
-use Rattle.paths.specs.Codes.{fault, previous, spanCode, codeBelow}
+use Rattle.paths.specs.Map.{SpanLists, Windows, atMinute}
+use Rattle.paths.specs.Codes.{firstCode, fault, windowFault, supplyFault, previous, spanCode, codeBelow}
 
-module _ (places : ℕ) (l : SpanLists) where
+module _ (places : ℕ) (l : SpanLists) (w : Windows) (minute : ℕ) where
   abbrev code : ℕ → ℕ
-  code k = codeBelow places l k
+  code k = codeBelow places l (atMinute minute w) k
 
   -- a fault once met stays the answer
   code-stays : (k d j : ℕ) → j ≡ k + d → code k ≢ 0 → code j ≡ code k
@@ -25,11 +25,12 @@ module _ (places : ℕ) (l : SpanLists) where
 
   -- One turn of a loop: the spans below e are not faulty, and c is the code of span e.
   module _
-      (e before to loss c : ℕ) (z : code e ≡ 0) (qb : before ≡ previous (l .from) e) (qt : to ≡ getD (l .to) e 0)
-      (ql : loss ≡ getD (l .loss) e 0) (r : c ≡ fault places (getD (l .from) e 0) to loss before) where
+      (e before ends window c : ℕ) (z : code e ≡ 0) (qb : before ≡ previous (l .from) e)
+      (qe : ends ≡ fault places (getD (l .from) e 0) (getD (l .to) e 0) (getD (l .loss) e 0) before)
+      (qw : window ≡ windowFault (getD (w .opens) e 0) (getD (w .closes) e 0)) (r : c ≡ firstCode ends window) where
     turn-code : code (suc e) ≡ c
-    unfolding codeBelow spanCode
-    turn-code = rw (z, sym qb, sym qt, sym ql) (sym r)
+    unfolding codeBelow spanCode supplyFault
+    turn-code = rw (z, sym qb, sym qe, sym qw) (sym r)
 
     pub loop-on : c ≡ 0 → code (e + 1) ≡ 0
     loop-on w = rw add-one (turn-code ∙ w)

@@ -2,3 +2,4 @@
 // place.
 pub mod index;
 pub mod refusal;
+pub mod window;

@@ -1,21 +1,13 @@
 // The codes of a feed call, in the order in which they are tested.
 ghost use mathlib.Core.Path.{_≡_};
-ghost use mathlib.Core.Bool.{cond};
-ghost use lib.ListN.{getD};
-ghost use lib.Dec.{ltb};
-ghost use Rattle.paths.specs.Map.{spanLists, mapOf};
-ghost use Rattle.paths.specs.Codes.{fault, firstCode, spansCode, feedCode};
+ghost use mathlib.Core.Bool.{cond, not, _&&_, _||_};
+ghost use Prim.Native.Nat.{ℕ, _≤_};
+ghost use lib.Dec.{eqb, ltb, leb};
+ghost use Rattle.paths.specs.Map.{spanLists, windows, atMinute, mapAt, lastMinute};
+ghost use Rattle.paths.specs.Codes.{fault, firstCode, spansCode, resultListsFit, feedCode};
+ghost use Rattle.spans.specs.Lists.{OneLength};
+use super::window::window_fault;
 use store::size_for;
-
-// The word of a list at place i, 0 beyond its end.
-fn word_or_zero(list: &[u32], i: usize) -> u32
-    ensures { λ r. ⌜ r ≡ getD (now (list .entry)) i 0 ⌝ }
-{
-    if i < list.len() {
-        return list[i];
-    }
-    0
-}
 
 // The fault of a span, 18, 19, 20, or 0; `before` is the from of the span before it.
 fn fault_of(places: u32, from: u32, to: u32, loss: u32, before: u32) -> u32
@@ -39,27 +31,108 @@ fn fault_of(places: u32, from: u32, to: u32, loss: u32, before: u32) -> u32
     0
 }
 
-// The code of the lowest-numbered faulty span, or 0.
-fn spans_code(places: u32, from: &[u32], to: &[u32], loss: &[u32]) -> u32
-    ensures { λ r. ⌜ r ≡ spansCode places
-        (spanLists (now (from .entry)) (now (to .entry)) (now (loss .entry))) ⌝ }
+// The first of two codes that is not 0.
+fn first_code(code: u32, next: u32) -> u32
+    ensures { λ r. ⌜ r ≡ firstCode code next ⌝ }
+{
+    if code == 0 {
+        return next;
+    }
+    code
+}
+
+// The code of the lowest-numbered faulty span, or 0. Faults are the same at every minute.
+fn spans_code(
+    places: u32,
+    from: &[u32],
+    to: &[u32],
+    loss: &[u32],
+    opens: &[u32],
+    closes: &[u32],
+) -> u32
+    requires { ⌜ OneLength (spanLists (now from) (now to) (now loss)) (windows (now opens) (now closes)) ⌝ }
+    ensures { λ r. ⌜ ((minute : ℕ) → r ≡ spansCode places
+        (spanLists (now (from .entry)) (now (to .entry)) (now (loss .entry)))
+        (atMinute minute (windows (now (opens .entry)) (now (closes .entry))))) ⌝ }
 {
     let mut e = 0;
     let mut before = 0;
     while e < from.len() {
         let span_from = from[e];
-        let code = fault_of(
-            places,
-            span_from,
-            word_or_zero(to, e),
-            word_or_zero(loss, e),
-            before,
-        );
+        let ends = fault_of(places, span_from, to[e], loss[e], before);
+        let window = window_fault(opens[e], closes[e]);
+        let code = first_code(ends, window);
         if code != 0 {
             return code;
         }
         before = span_from;
         e += 1;
+    }
+    0
+}
+
+// 14 for no place or too many, 15 for a start that is none of them, or 0.
+fn places_code(places: u32, start: u32) -> u32
+    ensures { λ r. ⌜ r ≡ cond (eqb places 0 || ltb 4096 places) 14 (cond (leb places start) 15 0) ⌝ }
+{
+    if places == 0 {
+        return 14;
+    }
+    if 4096 < places {
+        return 14;
+    }
+    if places <= start {
+        return 15;
+    }
+    0
+}
+
+// 24 for a minute that is not of the day, or 0.
+fn minute_code(minute: u32) -> u32
+    ensures { λ r. ⌜ r ≡ cond (not (leb minute lastMinute)) 24 0 ⌝ }
+{
+    if 1439 < minute {
+        return 24;
+    }
+    0
+}
+
+// 16 for span lists that differ in length or are too long, or 0, by their lengths.
+fn span_lists_code(from: usize, to: usize, loss: usize, opens: usize, closes: usize) -> u32
+    ensures { λ r. ⌜ r ≡ cond
+        (not (eqb to from && eqb loss from && leb from 16384 && (eqb opens from && eqb closes from))) 16 0 ⌝ }
+{
+    if to != from {
+        return 16;
+    }
+    if loss != from {
+        return 16;
+    }
+    if 16384 < from {
+        return 16;
+    }
+    if opens != from {
+        return 16;
+    }
+    if closes != from {
+        return 16;
+    }
+    0
+}
+
+// 17 for result lists or a store of another size than that for the places, or 0.
+fn result_lists_code(places: usize, best: usize, last: usize, store: usize) -> u32
+    requires { ⌜ places ≤ 4096 ⌝ }
+    ensures { λ r. ⌜ r ≡ cond (not (resultListsFit places best last store)) 17 0 ⌝ }
+{
+    if best != places {
+        return 17;
+    }
+    if last != places {
+        return 17;
+    }
+    if store != size_for(places) {
+        return 17;
     }
     0
 }
@@ -74,62 +147,38 @@ fn place_list_code(listed: usize, places: usize) -> u32
     0
 }
 
-// The first of two codes that is not 0.
-fn first_code(code: u32, next: u32) -> u32
-    ensures { λ r. ⌜ r ≡ firstCode code next ⌝ }
-{
-    if code == 0 {
-        return next;
-    }
-    code
-}
-
 // The first condition that a feed call meets, by its code, or 0; best, last, listed and store are the lengths of what
 // is lent.
 pub fn feed_code(
     places: u32,
     start: u32,
+    minute: u32,
     from: &[u32],
     to: &[u32],
     loss: &[u32],
+    opens: &[u32],
+    closes: &[u32],
     best: usize,
     last: usize,
     listed: usize,
     store: usize,
 ) -> u32
     ensures { λ r. ⌜ r ≡ feedCode
-        (mapOf places start (spanLists (now (from .entry)) (now (to .entry)) (now (loss .entry))))
+        (mapAt places start minute (spanLists (now (from .entry)) (now (to .entry)) (now (loss .entry)))
+        (windows (now (opens .entry)) (now (closes .entry))))
         best last listed store ⌝ }
 {
-    if places == 0 {
-        return 14;
-    }
-    if 4096 < places {
-        return 14;
-    }
-    if places <= start {
-        return 15;
-    }
-    if to.len() != from.len() {
-        return 16;
-    }
-    if loss.len() != from.len() {
-        return 16;
-    }
-    if 16384 < from.len() {
-        return 16;
+    let place = places_code(places, start);
+    let day = minute_code(minute);
+    let lists = span_lists_code(from.len(), to.len(), loss.len(), opens.len(), closes.len());
+    let early = first_code(place, first_code(day, lists));
+    if early != 0 {
+        return early;
     }
     let n = places as usize;
-    if best != n {
-        return 17;
-    }
-    if last != n {
-        return 17;
-    }
-    if store != size_for(n) {
-        return 17;
-    }
+    let results = result_lists_code(n, best, last, store);
     let list = place_list_code(listed, n);
-    let spans = spans_code(places, from, to, loss);
-    first_code(list, spans)
+    let lent = first_code(results, list);
+    let spans = spans_code(places, from, to, loss, opens, closes);
+    first_code(lent, spans)
 }

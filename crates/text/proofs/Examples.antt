@@ -2,26 +2,26 @@
 use mathlib.Core.Path.{_≡_, refl}
 use mathlib.Core.List.{[], _∷_}
 use Rattle.text.specs.Numbers.{isDigit, digitRun, valueFrom, wellFormed, numberOf, numberAt}
-use Rattle.text.specs.Fields.{endsAt, fieldAt, numbersFrom, twoFrom, threeFrom}
+use Rattle.text.specs.Fields.{endsAt, fieldAt, rowFrom, named, numbersFrom}
 use Rattle.text.specs.Lines.{ahead, lineLength, lines}
 use Rattle.text.specs.Decimal.{digitsOf, decimal, field, row}
 use Rattle.text.specs.declared.Numbers.the-variants.{Two, Three, Other}
 
 -- `3,0` from its first number on, `I,0,1,57` from its first comma on, and `3,` with no number after the comma
 reads-two : numbersFrom (51 ∷ 44 ∷ 48 ∷ []) (numberAt (51 ∷ 44 ∷ 48 ∷ []) 0) ≡ Two 3 0
-unfolding numbersFrom twoFrom threeFrom fieldAt numberAt numberOf digitRun isDigit wellFormed valueFrom
+unfolding numbersFrom named rowFrom fieldAt numberAt numberOf digitRun isDigit wellFormed valueFrom
     endsAt lineLength
 reads-two = refl
 
 reads-three :
     numbersFrom (73 ∷ 44 ∷ 48 ∷ 44 ∷ 49 ∷ 44 ∷ 53 ∷ 55 ∷ []) (fieldAt (73 ∷ 44 ∷ 48 ∷ 44 ∷ 49 ∷ 44 ∷ 53 ∷ 55 ∷ []) 1)
     ≡ Three 0 1 57
-unfolding numbersFrom twoFrom threeFrom fieldAt numberAt numberOf digitRun isDigit wellFormed valueFrom
+unfolding numbersFrom named rowFrom fieldAt numberAt numberOf digitRun isDigit wellFormed valueFrom
     endsAt lineLength
 reads-three = refl
 
 refuses-comma : numbersFrom (51 ∷ 44 ∷ []) (numberAt (51 ∷ 44 ∷ []) 0) ≡ Other
-unfolding numbersFrom twoFrom threeFrom fieldAt numberAt numberOf digitRun isDigit wellFormed valueFrom
+unfolding numbersFrom named rowFrom fieldAt numberAt numberOf digitRun isDigit wellFormed valueFrom
     endsAt lineLength
 refuses-comma = refl
 

@@ -11,6 +11,7 @@ pub mod LineCount
 pub mod Decimal
 pub mod Wrote
 pub mod Fields
+pub mod ReadingRow
 pub mod OneLine
 pub mod Range
 pub mod Writing

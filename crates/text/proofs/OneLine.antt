@@ -1,8 +1,8 @@
 -- What is read within the first line of a text is what is read of that line alone.
-use Prim.Native.Nat.{ℕ, _+_, _≤_}
+use Prim.Native.Nat.{ℕ, zero, suc, _+_, _≤_}
 use mathlib.Core.Path.{_≡_, refl, sym, _∙_}
 use mathlib.Core.Bool.{Bool, true, false, cond}
-use mathlib.Core.List.{List}
+use mathlib.Core.List.{List, [], _∷_, _++_}
 use native.Mathlib.Omega.{arith}
 use lib.ListN.{getD, drop, take}
 use lib.Seq.{getD-drop}
@@ -10,7 +10,7 @@ use lib.Dec.{eqb}
 use borrow.Author.Tests.{eqb-true}
 use Rattle.text.specs.Lines.{lineLength}
 use Rattle.text.specs.Numbers.{numberAt}
-use Rattle.text.specs.Fields.{comma, endsAt, fieldAt, threeFrom, twoFrom, numbersFrom, InLine}
+use Rattle.text.specs.Fields.{comma, endsAt, fieldAt, rowFrom, numbersFrom, InLine}
 use Rattle.text.specs.declared.Number.{Number}
 use Rattle.text.specs.declared.Number.the-variants.{Value, Nothing}
 use Rattle.text.proofs.Fields.{field-in-line}
@@ -47,23 +47,14 @@ module _ (s : List ℕ) where
       (field-cond (eqb (getD s at 0) comma) (numberAt line (at + 1)) (numberAt s (at + 1))
       (λ t. number-same (at + 1) (omega (arith, comma-inside s at h (eqb-true _ _ t)))))
 
-  three-same : (x y : ℕ) (n : Number) → InLine s n → threeFrom line x y n ≡ threeFrom s x y n
-  unfolding threeFrom InLine
-  three-same x y (Value z at) h = rw (ends-same at h)
-  three-same x y Nothing h = refl
-
-  two-same : (x : ℕ) (n : Number) → InLine s n → twoFrom line x n ≡ twoFrom s x n
-  unfolding twoFrom InLine
-  two-same x (Value y at) h =
-      rw (ends-same at h, field-same at h, three-same x y (fieldAt s at) (field-in-line s at h))
-  two-same x Nothing h = refl
-
-  numbers-same : (n : Number) → InLine s n → numbersFrom line n ≡ numbersFrom s n
-  unfolding numbersFrom InLine
-  numbers-same (Value x at) h =
-      rw (ends-same at h, field-same at h, two-same x (fieldAt s at) (field-in-line s at h))
-  numbers-same Nothing h = refl
+  row-same : (most : ℕ) (read : List ℕ) (n : Number) → InLine s n → rowFrom most line read n ≡ rowFrom most s read n
+  unfolding rowFrom InLine
+  row-same zero read n h = refl
+  row-same (suc most) read Nothing h = refl
+  row-same (suc most) read (Value x at) h =
+      rw (ends-same at h, field-same at h, row-same most (read ++ x ∷ []) (fieldAt s at) (field-in-line s at h))
 
   -- the numbers that follow the byte at a position
   pub fields-same : (at : ℕ) → at ≤ lineLength s → numbersFrom line (fieldAt line at) ≡ numbersFrom s (fieldAt s at)
-  fields-same at h = rw (field-same at h) (numbers-same (fieldAt s at) (field-in-line s at h))
+  unfolding numbersFrom
+  fields-same at h = rw (field-same at h, row-same 3 [] (fieldAt s at) (field-in-line s at h))

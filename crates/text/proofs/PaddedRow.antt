@@ -1,20 +1,30 @@
 -- A line of numbers is read as these numbers, whatever zeros stand before them.
-use Prim.Native.Nat.{ℕ, suc, _+_}
-use mathlib.Core.Path.{_≡_, sym, ap, _∙_}
-use mathlib.Core.Bool.{true, false}
+use Prim.Native.Nat.{ℕ, zero, suc, _+_}
+use mathlib.Core.Path.{_≡_, refl, sym, ap, _∙_}
+use mathlib.Core.Bool.{true, false, cond}
 use mathlib.Core.List.{List, [], _∷_, _++_, append-nil}
 use native.Mathlib.Nat.{add-zero}
 use native.Mathlib.Omega.{arith}
 use lib.ListN.{length, getD, drop}
-use lib.Seq.{getD-drop, drop-drop, drop-append-seam}
-use borrow.Author.Tests.{ne-eqb}
+use lib.Seq.{getD-drop, drop-drop, drop-append-seam, append-snoc}
+use lib.Dec.{leb, leb·zero, leb·suc-zero, leb·suc-suc}
+use borrow.Author.Tests.{ne-eqb, lt-leb}
 use Rattle.text.specs.Numbers.{numberAt}
-use Rattle.text.specs.Fields.{comma, endsAt, fieldAt, twoFrom, threeFrom}
+use Rattle.text.specs.Fields.{comma, endsAt, fieldAt, rowFrom, named}
 use Rattle.text.specs.Lines.{lineLength}
-use Rattle.text.specs.Padding.{Padded, paddedDigits, MayStand, paddedRow, rowNumbers, AllStand, ReadsRow}
+use Rattle.text.specs.Padding.{
+  Padded,
+  paddedDigits,
+  MayStand,
+  paddedRow,
+  rowNumbers,
+  atMost,
+  AllStand,
+  ReadsRow,
+}
 use Rattle.text.specs.declared.Number.the-variants.{Value}
 use Rattle.text.proofs.Digits.{run-nil, run-low}
-use Rattle.text.proofs.Fields.{field-comma, end-numbers, end-two, end-three, on-numbers, on-two, on-three}
+use Rattle.text.proofs.Fields.{field-comma, full-row, end-row, on-row}
 use Rattle.text.proofs.RoundTrip.{reads-padded}
 
 -- the position after a number that stands at `at`
@@ -55,28 +65,35 @@ module _ (s : List ℕ) (at : ℕ) (p : Padded) (m : MayStand p) where
     then-left : drop (after at p + 1) s ≡ rest
     then-left = sym (drop-drop 1 (after at p) s) ∙ rw (left (comma ∷ rest) d)
 
--- the rest of a row, from its third number on, and from its second on
-module _ (s : List ℕ) (p : Padded) where
-  third : (at : ℕ) (q r : Padded) (ps : List Padded) → AllStand (r ∷ ps) → drop at s ≡ paddedRow r ps
-      → threeFrom s (p .number) (q .number) (numberAt s at) ≡ rowNumbers p (q ∷ r ∷ ps)
-  unfolding paddedRow rowNumbers AllStand
-  third at q r [] (m, a) d = end-three s (read-last s at r m d) (ends s at r m d) (p .number) (q .number)
-  third at q r (t ∷ ps) (m, a) d =
-      on-three s (read-on s at r m (paddedRow t ps) d) (goes-on s at r m (paddedRow t ps) d) (p .number) (q .number)
-
-  second : (at : ℕ) (q : Padded) (ps : List Padded) → AllStand (q ∷ ps) → drop at s ≡ paddedRow q ps
-      → twoFrom s (p .number) (numberAt s at) ≡ rowNumbers p (q ∷ ps)
-  unfolding paddedRow rowNumbers AllStand
-  second at q [] (m, a) d = end-two s (read-last s at q m d) (ends s at q m d) (p .number)
-  second at q (r ∷ ps) (m, a) d =
-      let rest = paddedRow r ps in
-      on-two s (read-on s at q m rest d) (goes-on s at q m rest d) (p .number)
-      ∙ rw (then-field s at q m rest d) (third (after at q + 1) q r ps a (then-left s at q m rest d))
+-- the rest of a row after the numbers in `read`
+row-after : (most : ℕ) (s read : List ℕ) (at : ℕ) (p : Padded) (ps : List Padded) → AllStand (p ∷ ps)
+    → drop at s ≡ paddedRow p ps
+    → rowFrom most s read (numberAt s at)
+    ≡ cond (leb (length (rowNumbers (p ∷ ps))) most) (read ++ rowNumbers (p ∷ ps)) []
+unfolding paddedRow rowNumbers AllStand
+row-after zero s read at p ps a d =
+    full-row s read (numberAt s at) ∙ rw (leb·suc-zero (length (rowNumbers ps)))
+row-after (suc most) s read at p [] (m, a) d =
+    end-row most s read (read-last s at p m d) (ends s at p m d) ∙ rw (leb·suc-suc 0 most, leb·zero most)
+row-after (suc most) s read at p (q ∷ ps) (m, a) d =
+    let rest = paddedRow q ps in
+    on-row most s read (read-on s at p m rest d) (goes-on s at p m rest d)
+    ∙ rw (
+      then-field s at p m rest d,
+      row-after most s (read ++ p .number ∷ []) (after at p + 1) q ps a (then-left s at p m rest d),
+      append-snoc read (p .number) (rowNumbers (q ∷ ps)),
+      leb·suc-suc (length (rowNumbers (q ∷ ps))) most,
+    )
 
 pub reads-row : ReadsRow
-unfolding paddedRow rowNumbers AllStand
-reads-row s at p [] (m, a) d = end-numbers s (read-last s at p m d) (ends s at p m d)
-reads-row s at p (q ∷ ps) (m, a) d =
-    let rest = paddedRow q ps in
-    on-numbers s (read-on s at p m rest d) (goes-on s at p m rest d)
-    ∙ rw (then-field s at p m rest d) (second s p (after at p + 1) q ps a (then-left s at p m rest d))
+unfolding atMost
+reads-row most s at p ps a d = row-after most s [] at p ps a d
+
+-- more than three numbers have no name
+pub named-few : (row : List ℕ) → named (atMost 3 row) ≡ named row
+unfolding atMost named
+named-few [] = refl
+named-few (x ∷ []) = refl
+named-few (x ∷ y ∷ []) = refl
+named-few (x ∷ y ∷ z ∷ []) = refl
+named-few (x ∷ y ∷ z ∷ t ∷ row) = rw (lt-leb (length (x ∷ y ∷ z ∷ t ∷ row)) 3 (omega arith))

@@ -1,12 +1,12 @@
 -- No number that is read is above the largest.
-use Prim.Native.Nat.{ℕ, _+_, _<_, _≤_}
+use Prim.Native.Nat.{ℕ, zero, suc, _+_, _<_, _≤_}
 use mathlib.Core.Bool.{_&&_}
 use mathlib.Core.Logic.{⊎-elim}
-use mathlib.Core.List.{List}
+use mathlib.Core.List.{List, [], _∷_, _++_}
 use lib.ListN.{length, getD, drop}
 use lib.Dec.{leb, eqb}
 use Rattle.text.specs.Numbers.{largest, digitRun, valueFrom, wellFormed, numberOf, numberAt, NumberFits}
-use Rattle.text.specs.Fields.{comma, endsAt, fieldAt, threeFrom, twoFrom, numbersFrom, NumbersFit}
+use Rattle.text.specs.Fields.{comma, endsAt, fieldAt, rowFrom, RowFits}
 use Rattle.text.specs.declared.Number.{Number}
 use Rattle.text.specs.declared.Number.the-variants.{Value, Nothing}
 use Rattle.text.proofs.Cases.{le-or-lt, by-cond}
@@ -35,24 +35,17 @@ pub field-in-range : (s : List ℕ) (at : ℕ) → NumberFits (fieldAt s at)
 unfolding fieldAt NumberFits
 field-in-range s at = by-cond NumberFits (eqb (getD s at 0) comma) (number-in-range s (at + 1)) tt
 
-three-in-range :
-    (s : List ℕ) (x y : ℕ) → x ≤ largest → y ≤ largest → (n : Number) → NumberFits n → NumbersFit (threeFrom s x y n)
-unfolding threeFrom NumbersFit NumberFits
-three-in-range s x y p q (Value z at) r = by-cond NumbersFit (endsAt s at) (p, q, r) tt
-three-in-range s x y p q Nothing r = tt
+fits-snoc : (row : List ℕ) (x : ℕ) → RowFits row → x ≤ largest → RowFits (row ++ x ∷ [])
+unfolding RowFits
+fits-snoc [] x r h = (h, tt)
+fits-snoc (y ∷ row) x (k, r) h = (k, fits-snoc row x r h)
 
-two-in-range : (s : List ℕ) (x : ℕ) → x ≤ largest → (n : Number) → NumberFits n → NumbersFit (twoFrom s x n)
-unfolding twoFrom NumbersFit NumberFits
-two-in-range s x p (Value y at) q =
-    by-cond
-    NumbersFit
-    (endsAt s at)
-    (p, q)
-    (three-in-range s x y p q (fieldAt s at) (field-in-range s at))
-two-in-range s x p Nothing q = tt
-
-pub numbers-in-range : (s : List ℕ) (n : Number) → NumberFits n → NumbersFit (numbersFrom s n)
-unfolding numbersFrom NumbersFit NumberFits
-numbers-in-range s (Value x at) p =
-    by-cond NumbersFit (endsAt s at) p (two-in-range s x p (fieldAt s at) (field-in-range s at))
-numbers-in-range s Nothing p = tt
+pub row-in-range :
+    (most : ℕ) (s read : List ℕ) (n : Number) → RowFits read → NumberFits n → RowFits (rowFrom most s read n)
+unfolding rowFrom RowFits NumberFits
+row-in-range zero s read n r h = tt
+row-in-range (suc most) s read Nothing r h = tt
+row-in-range (suc most) s read (Value x at) r h =
+    let with-x = fits-snoc read x r h in
+    by-cond RowFits (endsAt s at) with-x
+    (row-in-range most s (read ++ x ∷ []) (fieldAt s at) with-x (field-in-range s at))

@@ -1,9 +1,10 @@
--- Numbers worked by hand: what is read at the beginning of a text.
+-- Numbers and rows worked by hand: what is read at the beginning of a text.
 use Prim.Native.Nat.{ℕ}
 use mathlib.Core.Path.{_≡_}
 use mathlib.Core.List.{List, [], _∷_, _++_, map}
 use lib.ListN.{replicate}
 use Rattle.text.specs.Numbers.{numberAt}
+use Rattle.text.specs.Fields.{rowFrom}
 use Rattle.text.specs.declared.Number.{Number}
 use Rattle.text.specs.declared.Number.the-variants.{Value, Nothing}
 
@@ -36,3 +37,24 @@ pub record WorkedNumbers : Type 0 where
       map firstNumber numberTexts
       ≡ Value 0 1 ∷ Value 7 1 ∷ Value 7 2 ∷ Value 0 10 ∷ Value 12 10 ∷ Value 4294967295 10 ∷ []
   pub others : map firstNumber noNumberTexts ≡ replicate 6 Nothing
+
+-- ---- rows
+
+unfoldable pub firstRow : List ℕ → List ℕ
+firstRow s = rowFrom 5 s [] (firstNumber s)
+
+-- `3,0,0`, `0,1,7,0,1440`, `1,2,3,4`
+unfoldable pub rowTexts : List (List ℕ)
+rowTexts =
+    (51 ∷ 44 ∷ 48 ∷ 44 ∷ 48 ∷ []) ∷ (48 ∷ 44 ∷ 49 ∷ 44 ∷ 55 ∷ 44 ∷ 48 ∷ 44 ∷ 49 ∷ 52 ∷ 52 ∷ 48 ∷ []) ∷
+    (49 ∷ 44 ∷ 50 ∷ 44 ∷ 51 ∷ 44 ∷ 52 ∷ []) ∷ []
+
+-- `1,2,3,4,5,6`, `1,,2`, `1,2,`
+unfoldable pub noRowTexts : List (List ℕ)
+noRowTexts =
+    (49 ∷ 44 ∷ 50 ∷ 44 ∷ 51 ∷ 44 ∷ 52 ∷ 44 ∷ 53 ∷ 44 ∷ 54 ∷ []) ∷ (49 ∷ 44 ∷ 44 ∷ 50 ∷ []) ∷
+    (49 ∷ 44 ∷ 50 ∷ 44 ∷ []) ∷ []
+
+pub record WorkedRows : Type 0 where
+  pub rows : map firstRow rowTexts ≡ (3 ∷ 0 ∷ 0 ∷ []) ∷ (0 ∷ 1 ∷ 7 ∷ 0 ∷ 1440 ∷ []) ∷ (1 ∷ 2 ∷ 3 ∷ 4 ∷ []) ∷ []
+  pub others : map firstRow noRowTexts ≡ replicate 3 []

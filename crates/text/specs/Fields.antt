@@ -1,16 +1,17 @@
 -- Numbers separated by commas, up to the end of a line.
-use Prim.Native.Nat.{ℕ, _+_, _≤_}
+use Prim.Native.Nat.{ℕ, zero, suc, _+_, _≤_}
 use mathlib.Core.Path.{_≡_}
 use mathlib.Core.Logic.{_≢_}
-use mathlib.Core.List.{List}
+use mathlib.Core.List.{List, [], _∷_, _++_}
 use mathlib.Core.Bool.{Bool, cond}
-use lib.ListN.{getD, drop}
+use lib.ListN.{length, getD, drop}
 use lib.Dec.{eqb}
 use Rattle.text.specs.Numbers.{largest, numberAt}
 use Rattle.text.specs.Lines.{lineLength}
 use Rattle.text.specs.declared.LineRead.{LineRead}
 use Rattle.text.specs.declared.Number.{Number}
 use Rattle.text.specs.declared.Number.the-variants.{Value, Nothing}
+use Rattle.text.specs.declared.NumberRow.{NumberRow}
 use Rattle.text.specs.declared.Numbers.{Numbers}
 use Rattle.text.specs.declared.Numbers.the-variants.{One, Two, Three, Other}
 
@@ -25,21 +26,26 @@ fieldAt s at = cond (eqb (getD s at 0) comma) (numberAt s (at + 1)) Nothing
 unfoldable pub endsAt : List ℕ → ℕ → Bool
 endsAt s at = eqb (lineLength (drop at s)) 0
 
--- the numbers of a line of which x and y are read, and z if there was a third
-unfoldable pub threeFrom : List ℕ → ℕ → ℕ → Number → Numbers
-threeFrom s x y (Value z at) = cond (endsAt s at) (Three x y z) Other
-threeFrom s x y Nothing = Other
+-- The numbers of a line up to its end; an empty row if it is no such line. `read` holds those that are read, the last
+-- argument is what was read next, and at most `most` stand after those in `read`.
+unfoldable pub rowFrom : ℕ → List ℕ → List ℕ → Number → List ℕ
+rowFrom zero s read next = []
+rowFrom (suc most) s read Nothing = []
+rowFrom (suc most) s read (Value x at) =
+    cond (endsAt s at) (read ++ x ∷ []) (rowFrom most s (read ++ x ∷ []) (fieldAt s at))
 
--- the numbers of a line of which x is read, and y if there was a second
-unfoldable pub twoFrom : List ℕ → ℕ → Number → Numbers
-twoFrom s x (Value y at) = cond (endsAt s at) (Two x y) (threeFrom s x y (fieldAt s at))
-twoFrom s x Nothing = Other
+-- a row of one to three numbers by name
+unfoldable pub named : List ℕ → Numbers
+named [] = Other
+named (x ∷ []) = One x
+named (x ∷ y ∷ []) = Two x y
+named (x ∷ y ∷ z ∷ []) = Three x y z
+named (x ∷ y ∷ z ∷ t ∷ row) = Other
 
 -- One to three numbers up to the end of the line. The first is the caller's to read: `numberAt s 0` where the line
 -- begins with it, `fieldAt s at` where a comma stands before it.
 unfoldable pub numbersFrom : List ℕ → Number → Numbers
-numbersFrom s (Value x at) = cond (endsAt s at) (One x) (twoFrom s x (fieldAt s at))
-numbersFrom s Nothing = Other
+numbersFrom s first = named (rowFrom 3 s [] first)
 
 -- a number that was read within the first line
 unfoldable pub InLine : List ℕ → Number → Type 0
@@ -51,9 +57,12 @@ pub record FieldsRead (s : List ℕ) (first : Number) (numbers : Numbers) (r : L
   pub same : r .numbers ≡ numbers
   pub ends : InLine s first → r .numbers ≢ Other → r .end ≡ lineLength s
 
--- the numbers of a line are at most the largest
-unfoldable pub NumbersFit : Numbers → Type 0
-NumbersFit (One x) = x ≤ largest
-NumbersFit (Two x y) = (x ≤ largest) × (y ≤ largest)
-NumbersFit (Three x y z) = (x ≤ largest) × (y ≤ largest) × (z ≤ largest)
-NumbersFit Other = Unit {0}
+-- What the reader of a row answers: how many numbers it has, and each of them; zeros stand after the last.
+pub record RowRead (row : List ℕ) (r : NumberRow) : Type 0 where
+  pub counted : r .count ≡ length row
+  pub each : (i : ℕ) → getD (r .numbers) i 0 ≡ getD row i 0
+
+-- the numbers of a row are at most the largest
+unfoldable pub RowFits : List ℕ → Type 0
+RowFits [] = Unit {0}
+RowFits (x ∷ row) = (x ≤ largest) × RowFits row

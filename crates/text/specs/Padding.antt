@@ -2,14 +2,14 @@
 -- under the same words.
 use Prim.Native.Nat.{ℕ, _+_, _≤_}
 use mathlib.Core.Path.{_≡_}
-use mathlib.Core.List.{List, [], _∷_, _++_}
+use mathlib.Core.Bool.{cond}
+use mathlib.Core.List.{List, [], _∷_, _++_, map}
 use lib.ListN.{length, drop, replicate}
+use lib.Dec.{leb}
 use Rattle.text.specs.Numbers.{largest, digitRun, mostDigits, numberAt}
-use Rattle.text.specs.Fields.{comma, numbersFrom}
+use Rattle.text.specs.Fields.{comma, rowFrom}
 use Rattle.text.specs.Decimal.{decimal}
 use Rattle.text.specs.declared.Number.the-variants.{Value}
-use Rattle.text.specs.declared.Numbers.{Numbers}
-use Rattle.text.specs.declared.Numbers.the-variants.{One, Two, Three, Other}
 
 -- a number, and how many zeros stand before it
 pub record Padded : Type 0 where
@@ -50,12 +50,13 @@ unfoldable pub paddedRow : Padded → List Padded → List ℕ
 paddedRow p [] = paddedDigits p
 paddedRow p (q ∷ ps) = paddedDigits p ++ comma ∷ paddedRow q ps
 
--- what a row is read as: its numbers, without their zeros
-unfoldable pub rowNumbers : Padded → List Padded → Numbers
-rowNumbers p [] = One (p .number)
-rowNumbers p (q ∷ []) = Two (p .number) (q .number)
-rowNumbers p (q ∷ r ∷ []) = Three (p .number) (q .number) (r .number)
-rowNumbers p (q ∷ r ∷ t ∷ ps) = Other
+-- its numbers, without their zeros
+unfoldable pub rowNumbers : List Padded → List ℕ
+rowNumbers ps = map (λ p. p .number) ps
+
+-- a row if it has at most `most` numbers, else the empty row
+unfoldable pub atMost : ℕ → List ℕ → List ℕ
+atMost most row = cond (leb (length row) most) row []
 
 unfoldable pub AllStand : List Padded → Type 0
 AllStand [] = Unit {0}
@@ -64,5 +65,5 @@ AllStand (p ∷ ps) = MayStand p × AllStand ps
 -- A row up to the end of a line. A map's line is read so from its first byte on, a sheet's from after its first comma.
 abbrev pub ReadsRow : Type 0
 ReadsRow =
-    (s : List ℕ) (at : ℕ) (p : Padded) (ps : List Padded) → AllStand (p ∷ ps) → drop at s ≡ paddedRow p ps
-    → numbersFrom s (numberAt s at) ≡ rowNumbers p ps
+    (most : ℕ) (s : List ℕ) (at : ℕ) (p : Padded) (ps : List Padded) → AllStand (p ∷ ps) → drop at s ≡ paddedRow p ps
+    → rowFrom most s [] (numberAt s at) ≡ atMost most (rowNumbers (p ∷ ps))

@@ -1,10 +1,11 @@
 // Text as bytes: numbers, fields and lines are read here, numbers are written in `output`.
 ghost use mathlib.Core.Path.{_≡_};
 ghost use Prim.Native.Nat.{suc, _+_, _≤_, min};
+ghost use mathlib.Core.List.{[], _∷_};
 ghost use lib.ListN.{length};
 ghost use Rattle.text.specs.Numbers.{mostDigits, numberAt, firstDigits, DigitsRead};
 ghost use Rattle.text.specs.declared.Numbers.the-variants.{Other};
-ghost use Rattle.text.specs.Fields.{fieldAt, endsAt, numbersFrom, twoFrom, threeFrom, FieldsRead};
+ghost use Rattle.text.specs.Fields.{fieldAt, endsAt, rowFrom, named, numbersFrom, FieldsRead, RowRead};
 ghost use Rattle.text.specs.Lines.{lines, lineEnd, lineFeeds};
 
 pub mod output;
@@ -126,7 +127,7 @@ fn no_fields() -> LineRead
 }
 
 fn three_from(s: &[u8], x: u32, y: u32, third: Number) -> LineRead
-    ensures { λ r. ⌜ FieldsRead (now (s .entry)) third (threeFrom (now (s .entry)) x y third) r ⌝ }
+    ensures { λ r. ⌜ FieldsRead (now (s .entry)) third (named (rowFrom 1 (now (s .entry)) (x ∷ y ∷ []) third)) r ⌝ }
 {
     let Number::Value(z, at) = third else {
         return no_fields();
@@ -141,7 +142,7 @@ fn three_from(s: &[u8], x: u32, y: u32, third: Number) -> LineRead
 }
 
 fn two_from(s: &[u8], x: u32, second: Number) -> LineRead
-    ensures { λ r. ⌜ FieldsRead (now (s .entry)) second (twoFrom (now (s .entry)) x second) r ⌝ }
+    ensures { λ r. ⌜ FieldsRead (now (s .entry)) second (named (rowFrom 2 (now (s .entry)) (x ∷ []) second)) r ⌝ }
 {
     let Number::Value(y, at) = second else {
         return no_fields();
@@ -170,6 +171,47 @@ pub fn numbers_from(s: &[u8], first: Number) -> LineRead
         };
     }
     two_from(s, x, field_at(s, at))
+}
+
+// The numbers of a line, first to last, and zeros after them: `count` of them, or 0 where it is no line of one to five
+// numbers.
+pub struct NumberRow {
+    pub count: usize,
+    pub numbers: [u32; 5],
+}
+
+// No line of one to five numbers.
+fn no_row() -> NumberRow
+    ensures { λ r. ⌜ RowRead [] r ⌝ }
+{
+    NumberRow {
+        count: 0,
+        numbers: [0; 5],
+    }
+}
+
+// One to five numbers up to the end of the first line of s, the first of which the caller has read.
+pub fn row_from(s: &[u8], first: Number) -> NumberRow
+    ensures { λ r. ⌜ RowRead (rowFrom 5 (now (s .entry)) [] first) r ⌝ }
+{
+    let mut numbers: [u32; 5] = [0; 5];
+    let mut count = 0;
+    let mut next = first;
+    while count < 5 {
+        let Number::Value(x, at) = next else {
+            return no_row();
+        };
+        numbers[count] = x;
+        count += 1;
+        if ends_at(s, at) {
+            return NumberRow {
+                count: count,
+                numbers: numbers,
+            };
+        }
+        next = field_at(s, at);
+    }
+    no_row()
 }
 
 // ---- lines

@@ -1,6 +1,6 @@
 -- `answer_feed` meets its contract.
 use native.Mathlib.Omega.{arith}
-use Rattle.paths.specs.Map.{spanLists, mapOf}
+use Rattle.paths.specs.Map.{spanLists, windows, mapAt}
 use Rattle.paths.specs.Feed.{resultLists}
 use Rattle.feed.proofs.Fields.{field-11}
 use Rattle.feed.proofs.FeedShown.{shows-refused, table-ready, figures-room, shows-done}
@@ -14,7 +14,8 @@ feed-requires c κs = search needs
 put-field-requires : tie.Need-put-field-requires
 put-field-requires c κs =
     let at-feed = c .before .before .before .before .before .before .before .before in
-    let start = at-feed .before .before .before .before .before .before .before .before .before .before .before in
+    let start =
+    at-feed .before .before .before .before .before .before .before .before .before .before .before .before .before in
     omega (arith, field-11 (at-feed .feed .result .code) 10 (search needs), start .pre)
 
 same-length : tie.Need-same-length
@@ -34,16 +35,20 @@ returns c =
     let at-put-field = c .before .before in
     let at-if1 = at-put-field .before .before in
     let at-feed = at-if1 .before .before .before .before .before .before .before in
-    let start = at-feed .before .before .before .before .before .before .before .before .before .before .before in
-    shows-refused (mapOf _ _ (spanLists _ _ _)) (resultLists _ _ _) _ (resultLists _ _ _) (at-feed .feed .ensures)
+    let start =
+    at-feed .before .before .before .before .before .before .before .before .before .before .before .before .before in
+    shows-refused (mapAt _ _ _ (spanLists _ _ _) (windows _ _)) (resultLists _ _ _) _ (resultLists _ _ _)
+    (at-feed .feed .ensures)
     (at-if1 .if1 .taken) (search needs) _ (start .pre) _ _ (at-put-field .put-field .ensures)
 
 put-table-requires : tie.Need-put-table-requires
 put-table-requires c κs =
     let at-if1 = c .before .before .before in
     let at-feed = at-if1 .before .before .before .before .before .before .before in
-    let start = at-feed .before .before .before .before .before .before .before .before .before .before .before in
-    table-ready (mapOf _ _ (spanLists _ _ _)) (resultLists _ _ _) _ (resultLists _ _ _) (at-feed .feed .ensures)
+    let start =
+    at-feed .before .before .before .before .before .before .before .before .before .before .before .before .before in
+    table-ready (mapAt _ _ _ (spanLists _ _ _) (windows _ _)) (resultLists _ _ _) _ (resultLists _ _ _)
+    (at-feed .feed .ensures)
     (at-if1 .if1 .left) (search needs) _ (start .pre)
 
 put-figures-requires : tie.Need-put-figures-requires
@@ -51,8 +56,10 @@ put-figures-requires c κs =
     let at-put-table = c .before .before .before in
     let at-if1 = at-put-table .before .before .before .before in
     let at-feed = at-if1 .before .before .before .before .before .before .before in
-    let start = at-feed .before .before .before .before .before .before .before .before .before .before .before in
-    figures-room (mapOf _ _ (spanLists _ _ _)) (resultLists _ _ _) _ (resultLists _ _ _) (at-feed .feed .ensures)
+    let start =
+    at-feed .before .before .before .before .before .before .before .before .before .before .before .before .before in
+    figures-room (mapAt _ _ _ (spanLists _ _ _) (windows _ _)) (resultLists _ _ _) _ (resultLists _ _ _)
+    (at-feed .feed .ensures)
     (at-if1 .if1 .left) (search needs) _ (start .pre) _ _ (at-put-table .put-table .ensures)
 
 same-length-5 : tie.Need-same-length-5
@@ -73,8 +80,10 @@ returns-2 c =
     let at-put-table = at-put-figures .before .before .before .before in
     let at-if1 = at-put-table .before .before .before .before in
     let at-feed = at-if1 .before .before .before .before .before .before .before in
-    let start = at-feed .before .before .before .before .before .before .before .before .before .before .before in
-    shows-done (mapOf _ _ (spanLists _ _ _)) (resultLists _ _ _) _ (resultLists _ _ _) (at-feed .feed .ensures)
+    let start =
+    at-feed .before .before .before .before .before .before .before .before .before .before .before .before .before in
+    shows-done (mapAt _ _ _ (spanLists _ _ _) (windows _ _)) (resultLists _ _ _) _ (resultLists _ _ _)
+    (at-feed .feed .ensures)
     (at-if1 .if1 .left) (search needs) _ (start .pre) _ _ (at-put-table .put-table .ensures) _ _
     (at-put-figures .put-figures .ensures)
 

@@ -4,7 +4,7 @@ use mathlib.Core.Path.{_≡_, refl}
 use native.Mathlib.Omega.{arith}
 use borrow.Author.Needs.{needs}
 use lib.ListN.{length}
-use Rattle.paths.specs.Map.{spanLists, mapOf}
+use Rattle.paths.specs.Map.{spanLists, windows, mapAt}
 use Rattle.paths.specs.Search.{never}
 use Rattle.paths.specs.Feed.{resultLists}
 use Rattle.finder.specs.SearchState.{Stands}
@@ -14,24 +14,32 @@ use Rattle.finder.proofs.search.Statement.{statement}
 use Rattle.finder.proofs.search.Tie as tie
 
 abbrev Inv-loop : tie.InvT-loop
-Inv-loop places from to loss best₀ last₀ store₀ index go₀ best last store go =
-    ((start : ℕ) → Stands never (mapOf places start (spanLists from to loss)) (resultLists best₀ last₀ store₀) go₀
-    → Stands never (mapOf places start (spanLists from to loss)) (resultLists best last store) go)
+Inv-loop places minute from to loss opens closes best₀ last₀ store₀ index go₀ best last store go =
+    ((start : ℕ)
+    → Stands never (mapAt places start minute (spanLists from to loss) (windows opens closes))
+    (resultLists best₀ last₀ store₀) go₀
+    → Stands never (mapAt places start minute (spanLists from to loss) (windows opens closes))
+    (resultLists best last store) go)
     × (length best ≡ length best₀) × (length last ≡ length last₀) × (length store ≡ length store₀)
 
 abbrev μ-loop : tie.MeasureT-loop
-μ-loop places from to loss best₀ last₀ store₀ index go₀ best last store go = places - go .visited
+μ-loop places minute from to loss opens closes best₀ last₀ store₀ index go₀ best last store go = places - go .visited
 
 index-spans-requires : tie.Need-index-spans-requires Inv-loop μ-loop
 index-spans-requires c κs =
-    let A = c .before .before .before .before .before .before .before .pre .1 .accepted in
-    record { sorted = sorted (mapOf _ _ (spanLists _ _ _)) A; short = A .short; few = A .few; long = refl }
+    let A = c .before .before .before .before .before .before .before .before .before .pre .1 .accepted in
+    record {
+      sorted = sorted (mapAt _ _ _ (spanLists _ _ _) (windows _ _)) A;
+      short = A .short;
+      few = A .few;
+      long = refl;
+    }
 
 loop-holds : tie.Need-loop-holds Inv-loop μ-loop
 loop-holds c = (λ start S. S, refl, refl, refl)
 
 abbrev start : tie.At-loop Inv-loop μ-loop → tie.Start Inv-loop μ-loop
-start c = c .before .before .before .before .before .before .before .before .before
+start c = c .before .before .before .before .before .before .before .before .before .before .before
 
 visit-next-requires : tie.Need-visit-next-requires Inv-loop μ-loop
 visit-next-requires c κs =

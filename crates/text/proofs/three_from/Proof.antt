@@ -1,6 +1,8 @@
 -- `three_from` meets its contract.
 use mathlib.Core.Path.{refl, sym, _∙_}
-use Rattle.text.proofs.Fields.{three-none, three-end, three-on}
+use mathlib.Core.List.{[], _∷_}
+use Rattle.text.specs.Fields.{named}
+use Rattle.text.proofs.Fields.{none-read, end-read, full-read}
 use borrow.Author.Needs.{needs}
 use Rattle.text.proofs.three_from.Statement.{statement}
 use Rattle.text.proofs.three_from.Tie as tie
@@ -15,14 +17,15 @@ no-fields-requires : tie.Need-no-fields-requires
 no-fields-requires c κs = search needs
 
 returns : tie.Need-returns
-returns c = three-none _ _ _ (c .before .enum-told .given .1) (c .no-fields .ensures)
+returns c = none-read _ (_ ∷ _ ∷ []) 1 (c .before .enum-told .given .1) (c .no-fields .ensures)
 
 ends-at-requires : tie.Need-ends-at-requires
 ends-at-requires c κs = search needs
 
 returns-2 : tie.Need-returns-2
+unfolding named
 returns-2 c =
-    three-end _ (c .before .before .before .third .given .1) _ _
+    end-read _ (_ ∷ _ ∷ []) 0 (c .before .before .before .third .given .1)
     (sym (c .before .ends-at .ensures) ∙ c .if1 .taken) refl refl
 
 no-fields-requires-2 : tie.Need-no-fields-requires-2
@@ -31,7 +34,7 @@ no-fields-requires-2 c κs = search needs
 returns-3 : tie.Need-returns-3
 returns-3 c =
     let tested = c .before .before in
-    three-on _ (tested .before .before .third .given .1) _ _
+    full-read _ (_ ∷ _ ∷ []) (tested .before .before .third .given .1)
     (sym (tested .ends-at .ensures) ∙ c .before .if1 .left)
     (c .no-fields2 .ensures)
 

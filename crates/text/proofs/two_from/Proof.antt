@@ -1,6 +1,8 @@
 -- `two_from` meets its contract.
 use mathlib.Core.Path.{refl, sym, _∙_}
-use Rattle.text.proofs.Fields.{two-none, two-end, two-on}
+use mathlib.Core.List.{[], _∷_}
+use Rattle.text.specs.Fields.{named}
+use Rattle.text.proofs.Fields.{none-read, end-read, on-read}
 use borrow.Author.Needs.{needs}
 use Rattle.text.proofs.two_from.Statement.{statement}
 use Rattle.text.proofs.two_from.Tie as tie
@@ -15,14 +17,15 @@ no-fields-requires : tie.Need-no-fields-requires
 no-fields-requires c κs = search needs
 
 returns : tie.Need-returns
-returns c = two-none _ _ (c .before .enum-told .given .1) (c .no-fields .ensures)
+returns c = none-read _ (_ ∷ []) 2 (c .before .enum-told .given .1) (c .no-fields .ensures)
 
 ends-at-requires : tie.Need-ends-at-requires
 ends-at-requires c κs = search needs
 
 returns-2 : tie.Need-returns-2
+unfolding named
 returns-2 c =
-    two-end _ (c .before .before .before .second .given .1) _
+    end-read _ (_ ∷ []) 1 (c .before .before .before .second .given .1)
     (sym (c .before .ends-at .ensures) ∙ c .if1 .taken) refl refl
 
 field-at-requires : tie.Need-field-at-requires
@@ -34,7 +37,7 @@ three-from-requires c κs = search needs
 returns-3 : tie.Need-returns-3
 returns-3 c =
     let tested = c .before .before .before in
-    two-on _ (tested .before .before .second .given .1) _
+    on-read _ (_ ∷ []) 1 (tested .before .before .second .given .1)
     (sym (tested .ends-at .ensures) ∙ c .before .before .if1 .left)
     (rw (← c .before .field-at .ensures) (c .three-from .ensures))
 

@@ -1,12 +1,12 @@
 -- `finder::budget::search_within` meets its contract. The invariant: as many steps are made as places were visited, and
 -- the places taken are listed.
 use Prim.Native.Nat.{ℕ, _-_, _<_}
-use mathlib.Core.Path.{_≡_, refl}
+use mathlib.Core.Path.{_≡_, refl, _∙_}
 use native.Mathlib.Omega.{arith}
 use borrow.Author.Needs.{needs}
 use borrow.Author.Tests.{lt-ltb, le-ltb}
 use lib.ListN.{length}
-use Rattle.paths.specs.Map.{spanLists, mapOf}
+use Rattle.paths.specs.Map.{spanLists, windows, mapAt}
 use Rattle.paths.specs.Table.{upTo}
 use Rattle.paths.specs.Search.{beyond}
 use Rattle.paths.specs.Feed.{resultLists}
@@ -27,28 +27,37 @@ use Rattle.finder.proofs.budget.search_within.Statement.{statement}
 use Rattle.finder.proofs.budget.search_within.Tie as tie
 
 abbrev Inv-loop : tie.InvT-loop
-Inv-loop places from to loss budget best₀ last₀ listed₀ store₀ index n go₀ best last listed store go =
+Inv-loop places minute from to loss opens closes budget best₀ last₀ listed₀ store₀ index n go₀ best last listed store
+    go =
     ((start : ℕ)
-    → ListReady budget (mapOf places start (spanLists from to loss)) (resultLists best₀ last₀ store₀) listed₀ go₀
-    → ListsTaken (beyond (upTo budget)) (mapOf places start (spanLists from to loss)) listed₀
+    → ListReady budget (mapAt places start minute (spanLists from to loss) (windows opens closes))
+    (resultLists best₀ last₀ store₀) listed₀ go₀
+    → ListsTaken (beyond (upTo budget))
+    (mapAt places start minute (spanLists from to loss) (windows opens closes)) listed₀
     (resultLists best last store) listed go)
     × (length best ≡ length best₀) × (length last ≡ length last₀) × (length listed ≡ length listed₀)
     × (length store ≡ length store₀)
 
 abbrev μ-loop : tie.MeasureT-loop
-μ-loop places from to loss budget best₀ last₀ listed₀ store₀ index n go₀ best last listed store go =
+μ-loop places minute from to loss opens closes budget best₀ last₀ listed₀ store₀ index n go₀ best last listed store go =
     places - go .visited
 
 index-spans-requires : tie.Need-index-spans-requires Inv-loop μ-loop
 index-spans-requires c κs =
-    let A = c .before .before .before .before .before .before .before .before .pre .1 .stands .accepted in
-    record { sorted = sorted (mapOf _ _ (spanLists _ _ _)) A; short = A .short; few = A .few; long = refl }
+    let A =
+    c .before .before .before .before .before .before .before .before .before .before .pre .1 .stands .accepted in
+    record {
+      sorted = sorted (mapAt _ _ _ (spanLists _ _ _) (windows _ _)) A;
+      short = A .short;
+      few = A .few;
+      long = refl;
+    }
 
 loop-holds : tie.Need-loop-holds Inv-loop μ-loop
 loop-holds c = (λ start R. lists-begins _ R, refl, refl, refl, refl)
 
 abbrev start : tie.At-loop Inv-loop μ-loop → tie.Start Inv-loop μ-loop
-start c = c .before .before .before .before .before .before .before .before .before .before
+start c = c .before .before .before .before .before .before .before .before .before .before .before .before
 
 find-min-requires : tie.Need-find-min-requires Inv-loop μ-loop
 find-min-requires c κs =
@@ -158,10 +167,10 @@ loop-again c =
           first-goes (l .before .index-spans .ensures) (L .stands) (t .if1 .taken) (f .find-min .ensures) w in
           lists-more L (first-taken (L .stands) (t .if1 .taken) (f .find-min .ensures) w) (goes-below G)
           {l′ = resultLists _ _ _} (v .visit-next .ensures _ _ G),
+      c .before .before .before .before .before .best .given ∙ l .loop .inv .1,
+      c .before .before .before .last .given ∙ l .loop .inv .2,
       search needs,
-      search needs,
-      search needs,
-      search needs,
+      c .before .store .given ∙ l .loop .inv .4,
     )
 
 same-length-5 : tie.Need-same-length-5 Inv-loop μ-loop

@@ -1,7 +1,9 @@
 -- `finder::visit::try_spans` meets its contract. The invariant: the spans of u below e are tried.
 use Prim.Native.Nat.{_+_, _-_, _<_}
-use mathlib.Core.Path.{_≡_, refl, _∙_}
+use mathlib.Core.Path.{_≡_, refl, sym, _∙_}
+use mathlib.Core.Logic.{⊎-elim}
 use native.Mathlib.Omega.{arith}
+use borrow.Author.Needs.{needs}
 use lib.ListN.{length, getD}
 use Rattle.paths.specs.Map.{Map}
 use Rattle.paths.specs.Queue.{Stop}
@@ -21,24 +23,27 @@ use Rattle.finder.proofs.Visiting.{
   span-small,
   in-to,
   in-loss,
+  in-opens,
+  in-closes,
   loss-fits,
   offer-ready,
+  walking-closed,
   walking-on,
 }
 use Rattle.finder.proofs.visit.try_spans.Statement.{statement}
 use Rattle.finder.proofs.visit.try_spans.Tie as tie
 
 abbrev Inv-loop : tie.InvT-loop
-Inv-loop index to loss best₀ last₀ store₀ u d i end e₀ go₀ best last store e go =
-    ((stop : Stop) (m : Map) → Taken stop m index to loss u d (resultLists best₀ last₀ store₀) go₀
+Inv-loop minute index to loss opens closes best₀ last₀ store₀ u d i end e₀ go₀ best last store e go =
+    ((stop : Stop) (m : Map) → Taken stop m minute index to loss opens closes u d (resultLists best₀ last₀ store₀) go₀
     → Walking stop m (go₀ .visited) u end e (resultLists best last store) go)
     × (length best ≡ length best₀) × (length last ≡ length last₀) × (length store ≡ length store₀)
 
 abbrev μ-loop : tie.MeasureT-loop
-μ-loop index to loss best₀ last₀ store₀ u d i end e₀ go₀ best last store e go = end - e
+μ-loop minute index to loss opens closes best₀ last₀ store₀ u d i end e₀ go₀ best last store e go = end - e
 
 abbrev start : tie.At-loop Inv-loop μ-loop → tie.Start Inv-loop μ-loop
-start c = c .before .before .before .before .before .before .before .before
+start c = c .before .before .before .before .before .before .before .before .before .before
 
 -- the walk at the loop's head, on the map that the caller has
 here : (c : tie.At-loop Inv-loop μ-loop) →
@@ -48,25 +53,27 @@ here : (c : tie.At-loop Inv-loop μ-loop) →
 here c = c .loop .inv .0 _ _ (start c .pre .2)
 
 add-end : tie.Need-add-end Inv-loop μ-loop
-add-end c = omega (arith, place-small (c .before .before .before .before .before .pre .2))
+add-end c = omega (arith, place-small (c .before .before .before .before .before .before .before .pre .2))
 
 mul-end : tie.Need-mul-end Inv-loop μ-loop
-mul-end c = omega (arith, place-small (c .before .before .before .before .before .pre .2))
+mul-end c = omega (arith, place-small (c .before .before .before .before .before .before .before .pre .2))
 
 element-copy-out-end : tie.Need-element-copy-out-end Inv-loop μ-loop
-element-copy-out-end c = omega (arith, place-small (c .before .before .before .before .before .pre .2))
+element-copy-out-end c = omega (arith, place-small (c .before .before .before .before .before .before .before .pre .2))
 
 cast-end : tie.Need-cast-end Inv-loop μ-loop
-cast-end c = omega (arith, end-small (c .before .before .before .before .before .before .pre .2))
+cast-end c = omega (arith, end-small (c .before .before .before .before .before .before .before .before .pre .2))
 
 mul-e : tie.Need-mul-e Inv-loop μ-loop
-mul-e c = omega (arith, place-small (c .before .before .before .before .before .before .pre .2))
+mul-e c = omega (arith, place-small (c .before .before .before .before .before .before .before .before .pre .2))
 
 element-copy-out-e : tie.Need-element-copy-out-e Inv-loop μ-loop
-element-copy-out-e c = omega (arith, place-small (c .before .before .before .before .before .before .pre .2))
+element-copy-out-e c =
+    omega (arith, place-small (c .before .before .before .before .before .before .before .before .pre .2))
 
 cast-e : tie.Need-cast-e Inv-loop μ-loop
-cast-e c = omega (arith, first-small (c .before .before .before .before .before .before .before .pre .2))
+cast-e c =
+    omega (arith, first-small (c .before .before .before .before .before .before .before .before .before .pre .2))
 
 loop-holds : tie.Need-loop-holds Inv-loop μ-loop
 loop-holds c = (λ _ _ K. walking-begins K, refl, refl, refl)
@@ -78,59 +85,100 @@ small c = span-small (start (c .before) .pre .2) (here (c .before)) (c .loop-tes
 examine-requires : tie.Need-examine-requires Inv-loop μ-loop
 examine-requires c κs = examined-small (start (c .before) .pre .2) (here (c .before)) (c .loop-test .taken)
 
+-- a span that is looked at is in both window lists
+mul-usable-at : tie.Need-mul-usable-at Inv-loop μ-loop
+mul-usable-at c = omega (arith, small (c .before))
+
+shared-slice-read-usable-at : tie.Need-shared-slice-read-usable-at Inv-loop μ-loop
+shared-slice-read-usable-at c =
+    let t = c .before .before in
+    omega (
+      arith,
+      in-opens (start (t .before) .pre .2) (here (t .before)) (t .loop-test .taken),
+      in-closes (start (t .before) .pre .2) (here (t .before)) (t .loop-test .taken),
+    )
+
+mul-usable-at-2 : tie.Need-mul-usable-at-2 Inv-loop μ-loop
+mul-usable-at-2 c = omega (arith, small (c .before .before))
+
+shared-slice-read-usable-at-2 : tie.Need-shared-slice-read-usable-at-2 Inv-loop μ-loop
+shared-slice-read-usable-at-2 c =
+    let t = c .before .before .before in
+    omega (
+      arith,
+      in-opens (start (t .before) .pre .2) (here (t .before)) (t .loop-test .taken),
+      in-closes (start (t .before) .pre .2) (here (t .before)) (t .loop-test .taken),
+    )
+
+usable-at-requires : tie.Need-usable-at-requires Inv-loop μ-loop
+usable-at-requires c κs = search needs
+
+-- after `usable_at`, back in the loop
+abbrev tested : tie.After-usable-at Inv-loop μ-loop → tie.In-loop Inv-loop μ-loop
+tested c = c .before .before .before .before
+
 mul-l : tie.Need-mul-l Inv-loop μ-loop
-mul-l c = omega (arith, small (c .before))
+mul-l c = omega (arith, small (tested (c .before)))
 
 shared-slice-read-l : tie.Need-shared-slice-read-l Inv-loop μ-loop
 shared-slice-read-l c =
-    let t = c .before .before in
+    let t = tested (c .before .before) in
     in-loss (start (t .before) .pre .2) (here (t .before)) (t .loop-test .taken)
 
 add-l : tie.Need-add-l Inv-loop μ-loop
 add-l c =
-    let t = c .before .before in
+    let t = tested (c .before .before) in
     omega (arith, loss-fits (start (t .before) .pre .2) (here (t .before)) (t .loop-test .taken))
 
 mul-offered : tie.Need-mul-offered Inv-loop μ-loop
-mul-offered c = omega (arith, small (c .before .before .before .before .before))
+mul-offered c = omega (arith, small (tested (c .before .before .before .before .before)))
 
 shared-slice-read-offered : tie.Need-shared-slice-read-offered Inv-loop μ-loop
 shared-slice-read-offered c =
-    let t = c .before .before .before .before .before .before in
+    let t = tested (c .before .before .before .before .before .before) in
     in-to (start (t .before) .pre .2) (here (t .before)) (t .loop-test .taken)
 
 cast-offered : tie.Need-cast-offered Inv-loop μ-loop
-cast-offered c = omega (arith, small (c .before .before .before .before .before .before))
+cast-offered c = omega (arith, small (tested (c .before .before .before .before .before .before)))
 
 offered-requires : tie.Need-offered-requires Inv-loop μ-loop
 offered-requires c κs =
-    let x = c .before .before .before .before .before in
-    let t = x .before in
-    rw (x .examine .ensures)
+    let u = c .before .before .before .before .before .before in
+    let t = tested u in
+    rw (u .before .before .before .examine .ensures)
     (offer-ready (start (t .before) .pre .2) (here (t .before)) (t .loop-test .taken))
 
 add-e : tie.Need-add-e Inv-loop μ-loop
-add-e c =
-    let x = c .before .before .before .before .before .before .before .before .before .before .before in
-    omega (arith, small (x .before .before))
+add-e c = omega (arith, small (tested (c .before)))
 
 loop-less : tie.Need-loop-less Inv-loop μ-loop
-loop-less c =
-    let x = c .before .before .before .before .before .before .before .before .before .before .before in
-    omega (arith, x .before .before .loop-test .taken)
+loop-less c = omega (arith, tested (c .before) .loop-test .taken)
 
+-- A usable span offers; a closed one leaves all as it is but the count.
 loop-again : tie.Need-loop-again Inv-loop μ-loop
 loop-again c =
-    let o = c .before .before .before .before .before .before in
-    let x = o .before .before .before .before .before .before in
-    let t = x .before in
-    let i = t .before .loop .inv in (
+    let u = c .before in
+    let x = u .before .before .before in
+    let t = tested u in
+    let i = t .before .loop .inv in
+    ⊎-elim
+    (λ w. rw (w .13, w .14, w .15, w .16) (
       λ stop m K.
-          walking-on K (i .0 stop m K) (t .loop-test .taken) (rw (x .examine .ensures) at (o .offered .ensures)),
-      c .before .before .before .before .before .best .given ∙ i .1,
-      c .before .before .before .last .given ∙ i .2,
-      c .before .store .given ∙ i .3,
-    )
+          walking-on K (i .0 stop m K) (t .loop-test .taken) (sym (u .usable-at .ensures) ∙ w .0 .taken)
+          (rw (x .examine .ensures) at (w .6 .ensures)),
+      w .7 .given ∙ i .1,
+      w .9 .given ∙ i .2,
+      w .11 .given ∙ i .3,
+    ))
+    (λ w. rw (w .1, w .2, w .3, w .4) (
+      λ stop m K.
+          rw (x .examine .ensures)
+          (walking-closed K (i .0 stop m K) (t .loop-test .taken) (sym (u .usable-at .ensures) ∙ w .0 .left)),
+      i .1,
+      i .2,
+      i .3,
+    ))
+    (c .if1 .came)
 
 visit-requires : tie.Need-visit-requires Inv-loop μ-loop
 visit-requires c κs = visited-small (start (c .before) .pre .2) (here (c .before))
@@ -163,6 +211,11 @@ try-spans-spec =
     cast-e
     loop-holds
     examine-requires
+    mul-usable-at
+    shared-slice-read-usable-at
+    mul-usable-at-2
+    shared-slice-read-usable-at-2
+    usable-at-requires
     mul-l
     shared-slice-read-l
     add-l

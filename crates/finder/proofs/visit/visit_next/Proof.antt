@@ -5,12 +5,13 @@ use Rattle.finder.proofs.visit.visit_next.Statement.{statement}
 use Rattle.finder.proofs.visit.visit_next.Tie as tie
 
 perform-requires : tie.Need-perform-requires
-perform-requires c κs = extract-ready (c .before .before .before .before .before .before .before .pre .2)
+perform-requires c κs =
+    extract-ready (c .before .before .before .before .before .before .before .before .before .pre .2)
 
 try-spans-requires : tie.Need-try-spans-requires
 try-spans-requires c κs =
     let p = c .before .before .before .before .before .before in
-    let start = p .before .before .before .before .before .before .before .before in
+    let start = p .before .before .before .before .before .before .before .before .before .before in
     (_, _, taken (start .pre .2) (p .perform .ensures))
 
 same-length : tie.Need-same-length
