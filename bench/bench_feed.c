@@ -10,7 +10,7 @@
 #include <stdlib.h>
 #include <string.h>
 
-enum { PLACES = MAX_PLACES, SPANS = MAX_SPANS, WORDS = HEAP_WORDS + ITEM_WORDS * PLACES };
+enum { PLACES = MAX_PLACES, SPANS = MAX_SPANS, WORDS = HEAP_WORDS + ITEM_WORDS * PLACES, NOON = MINUTES / 2 };
 
 /* Plain C and product work in the same buffers: where they lie decides which of their words share a cache set, and that
    alone can change the time by half. */
@@ -18,12 +18,12 @@ typedef struct {
     uint32_t best[PLACES], last[PLACES], words[WORDS], figures[3], code;
 } feed_result;
 
-static uint32_t from[SPANS], to[SPANS], loss[SPANS];
+static uint32_t from[SPANS], to[SPANS], loss[SPANS], opens[SPANS], closes[SPANS];
 static feed_result result, plain;
 
-#define FEED_ARGUMENTS                                                                                             \
-    PLACES, 0, from, SPANS, to, SPANS, loss, SPANS, result.best, PLACES, result.last, PLACES, result.words, WORDS, \
-        result.figures
+#define SPAN_LISTS from, SPANS, to, SPANS, loss, SPANS, opens, SPANS, closes, SPANS
+#define FEED_ARGUMENTS \
+    PLACES, 0, NOON, SPAN_LISTS, result.best, PLACES, result.last, PLACES, result.words, WORDS, result.figures
 
 static void run_plain(void) { result.code = plain_feed_table(FEED_ARGUMENTS); }
 
@@ -56,7 +56,7 @@ enum { SIDES = sizeof sides / sizeof *sides };
 
 static void run_side(int side) { sides[side].run(); }
 
-/* Four spans from each place; the first one leads on, so that every place is reached. */
+/* Four spans from each place, all of them always open; the first one leads on, so that every place is reached. */
 static void make_map(void)
 {
     start_draws(21);
@@ -64,6 +64,8 @@ static void make_map(void)
         from[span] = span / 4;
         to[span] = span % 4 == 0 ? (span / 4 + 1) % PLACES : draw(PLACES);
         loss[span] = 1 + draw(MAX_LOSS);
+        opens[span] = 0;
+        closes[span] = MINUTES;
     }
 #ifdef HAVE_LEMON
     lemon_build_map(PLACES, from, to, loss, SPANS);
@@ -109,9 +111,9 @@ static const char *const budget_names[BUDGETS] = { "largest", "one in a hundred"
 static uint32_t budgets[BUDGETS] = { 4294967295, 0, 0 };
 static uint32_t listed[PLACES], budget_figures[4];
 
-#define BUDGET_ARGUMENTS(budget)                                                                                     \
-    PLACES, 0, from, SPANS, to, SPANS, loss, SPANS, budget, result.best, PLACES, result.last, PLACES, listed, PLACES, \
-        result.words, WORDS, budget_figures
+#define BUDGET_ARGUMENTS(budget)                                                                                        \
+    PLACES, 0, NOON, SPAN_LISTS, budget, result.best, PLACES, result.last, PLACES, listed, PLACES, result.words, WORDS, \
+        budget_figures
 
 static int plain_call(int budget) { return 1 + 2 * budget; }
 static int product_call(int budget) { return 2 + 2 * budget; }

@@ -16,23 +16,30 @@ uint32_t plain_queue_run(const uint8_t *sheet, size_t sheet_len, uint8_t *out, s
     return run_lines(&s, sheet, sheet_len, out);
 }
 
-/* The lists of a feed call; first_span has one more entry, which ends the last place's spans. */
+/* The five span lists of a feed call, all of one length once that is tested. */
 typedef struct {
-    const uint32_t *first_span, *to, *loss;
-    uint32_t *best, *last;
-} feed_lists;
+    const uint32_t *from, *to, *loss, *opens, *closes;
+} span_lists;
+
+/* What a search reads and writes; first_span has one more entry, which ends the last place's spans. */
+typedef struct {
+    const uint32_t *first_span;
+    span_lists spans;
+    uint32_t minute, *best, *last;
+} search;
 
 /* The code of the first faulty span, or 0. */
-static uint32_t span_fault(uint32_t places, const uint32_t *from, const uint32_t *to, const uint32_t *loss,
-                           size_t spans)
+static uint32_t span_fault(uint32_t places, const span_lists *s, size_t spans)
 {
     for (size_t i = 0; i < spans; i++) {
-        if (from[i] >= places || to[i] >= places)
+        if (s->from[i] >= places || s->to[i] >= places)
             return 18;
-        if (loss[i] < 1 || loss[i] > MAX_LOSS)
+        if (s->loss[i] < 1 || s->loss[i] > MAX_LOSS)
             return 19;
-        if (i > 0 && from[i] < from[i - 1])
+        if (i > 0 && s->from[i] < s->from[i - 1])
             return 20;
+        if (s->closes[i] <= s->opens[i] || s->closes[i] > MINUTES)
+            return 23;
     }
     return 0;
 }
@@ -48,12 +55,20 @@ static void index_spans(uint32_t places, const uint32_t *from, size_t spans, uin
     first_span[places] = (uint32_t)spans;
 }
 
-/* Tries the spans of a place just taken; returns the cuts made. */
-static inline uint32_t try_spans(const store *s, const feed_lists *lists, uint32_t place)
+/* Open from its opening minute until just before its closing one. */
+static inline int is_usable(const span_lists *spans, uint32_t span, uint32_t minute)
 {
-    uint32_t *best = lists->best, *last = lists->last, cuts = 0;
-    for (uint32_t span = lists->first_span[place]; span < lists->first_span[place + 1]; span++) {
-        uint32_t next = lists->to[span], sum = best[place] + lists->loss[span];
+    return spans->opens[span] <= minute && minute < spans->closes[span];
+}
+
+/* Tries the spans of a place just taken; returns the cuts made. */
+static inline uint32_t try_spans(const store *s, const search *run, uint32_t place)
+{
+    uint32_t *best = run->best, *last = run->last, cuts = 0;
+    for (uint32_t span = run->first_span[place]; span < run->first_span[place + 1]; span++) {
+        if (!is_usable(&run->spans, span, run->minute))
+            continue;
+        uint32_t next = run->spans.to[span], sum = best[place] + run->spans.loss[span];
         if (sum < best[next]) {
             if (best[next] == NONE)
                 insert(s, 0, next, sum);
@@ -68,29 +83,28 @@ static inline uint32_t try_spans(const store *s, const feed_lists *lists, uint32
     return cuts;
 }
 
-/* Takes the first place and tries its spans. */
-static inline void visit_next(const store *s, const feed_lists *lists, uint32_t *figures)
+/* Takes the first place and tries its spans, of which the closed ones count as examined too. */
+static inline void visit_next(const store *s, const search *run, uint32_t *figures)
 {
     uint32_t place = s->heap[0].minimum;
     figures[0] += extract_min(s, 0);
-    figures[1] += try_spans(s, lists, place);
-    figures[2] += lists->first_span[place + 1] - lists->first_span[place];
+    figures[1] += try_spans(s, run, place);
+    figures[2] += run->first_span[place + 1] - run->first_span[place];
 }
 
-static void find_feeds(const store *s, const feed_lists *lists, uint32_t *figures)
+static void find_feeds(const store *s, const search *run, uint32_t *figures)
 {
     while (s->heap[0].count > 0)
-        visit_next(s, lists, figures);
+        visit_next(s, run, figures);
 }
 
 /* Lists the places as they are taken; returns how many are. */
-static uint32_t find_within(const store *s, const feed_lists *lists, uint32_t budget, uint32_t *listed,
-                            uint32_t *figures)
+static uint32_t find_within(const store *s, const search *run, uint32_t budget, uint32_t *listed, uint32_t *figures)
 {
     uint32_t count = 0;
-    while (s->heap[0].count > 0 && lists->best[s->heap[0].minimum] <= budget) {
+    while (s->heap[0].count > 0 && run->best[s->heap[0].minimum] <= budget) {
         listed[count++] = s->heap[0].minimum;
-        visit_next(s, lists, figures);
+        visit_next(s, run, figures);
     }
     return count;
 }
@@ -103,59 +117,72 @@ static void hide_beyond(uint32_t places, uint32_t budget, uint32_t *best, uint32
             best[place] = last[place] = NONE;
 }
 
-/* Codes 14 to 17, or 0. */
-static uint32_t size_fault(uint32_t places, uint32_t start, size_t from_len, size_t to_len, size_t loss_len,
-                           size_t best_len, size_t last_len, size_t words_len)
+/* The lengths of what a feed call is lent. */
+typedef struct {
+    size_t from, to, loss, opens, closes, best, last, words;
+} lengths;
+
+/* Codes 14, 15, 24, 16 and 17, or 0. */
+static uint32_t size_fault(uint32_t places, uint32_t start, uint32_t minute, const lengths *len)
 {
     if (places == 0 || places > MAX_PLACES)
         return 14;
     if (start >= places)
         return 15;
-    if (to_len != from_len || loss_len != from_len || from_len > MAX_SPANS)
+    if (minute >= MINUTES)
+        return 24;
+    if (len->to != len->from || len->loss != len->from || len->opens != len->from || len->closes != len->from
+        || len->from > MAX_SPANS)
         return 16;
-    if (best_len != places || last_len != places || words_len != HEAP_WORDS + ITEM_WORDS * (size_t)places)
+    if (len->best != places || len->last != places || len->words != HEAP_WORDS + ITEM_WORDS * (size_t)places)
         return 17;
     return 0;
 }
 
 /* No place but the start is met. */
-static void begin_search(const store *s, const feed_lists *lists, uint32_t places, uint32_t start)
+static void begin_search(const store *s, const search *run, uint32_t places, uint32_t start)
 {
-    memset(lists->best, 0xFF, places * sizeof *lists->best);
-    memset(lists->last, 0xFF, places * sizeof *lists->last);
+    memset(run->best, 0xFF, places * sizeof *run->best);
+    memset(run->last, 0xFF, places * sizeof *run->last);
     make_empty(s);
-    lists->best[start] = 0;
+    run->best[start] = 0;
     insert(s, 0, start, 0);
 }
 
-uint32_t plain_feed_table(uint32_t places, uint32_t start,
+uint32_t plain_feed_table(uint32_t places, uint32_t start, uint32_t minute,
                           const uint32_t *from, size_t from_len,
                           const uint32_t *to, size_t to_len,
                           const uint32_t *loss, size_t loss_len,
+                          const uint32_t *opens, size_t opens_len,
+                          const uint32_t *closes, size_t closes_len,
                           uint32_t *best, size_t best_len,
                           uint32_t *last, size_t last_len,
                           uint32_t *words, size_t words_len,
                           uint32_t figures[3])
 {
+    const lengths len = { from_len, to_len, loss_len, opens_len, closes_len, best_len, last_len, words_len };
+    const span_lists spans = { from, to, loss, opens, closes };
     memset(figures, 0, 3 * sizeof *figures);
-    uint32_t fault = size_fault(places, start, from_len, to_len, loss_len, best_len, last_len, words_len);
+    uint32_t fault = size_fault(places, start, minute, &len);
     if (fault == 0)
-        fault = span_fault(places, from, to, loss, from_len);
+        fault = span_fault(places, &spans, from_len);
     if (fault != 0)
         return fault;
     uint32_t first_span[MAX_PLACES + 1];
     index_spans(places, from, from_len, first_span);
     const store s = store_at(words, places);
-    const feed_lists lists = { first_span, to, loss, best, last };
-    begin_search(&s, &lists, places, start);
-    find_feeds(&s, &lists, figures);
+    const search run = { first_span, spans, minute, best, last };
+    begin_search(&s, &run, places, start);
+    find_feeds(&s, &run, figures);
     return 0;
 }
 
-uint32_t plain_feed_budget(uint32_t places, uint32_t start,
+uint32_t plain_feed_budget(uint32_t places, uint32_t start, uint32_t minute,
                            const uint32_t *from, size_t from_len,
                            const uint32_t *to, size_t to_len,
                            const uint32_t *loss, size_t loss_len,
+                           const uint32_t *opens, size_t opens_len,
+                           const uint32_t *closes, size_t closes_len,
                            uint32_t budget,
                            uint32_t *best, size_t best_len,
                            uint32_t *last, size_t last_len,
@@ -163,18 +190,20 @@ uint32_t plain_feed_budget(uint32_t places, uint32_t start,
                            uint32_t *words, size_t words_len,
                            uint32_t figures[4])
 {
+    const lengths len = { from_len, to_len, loss_len, opens_len, closes_len, best_len, last_len, words_len };
+    const span_lists spans = { from, to, loss, opens, closes };
     memset(figures, 0, 4 * sizeof *figures);
-    uint32_t fault = size_fault(places, start, from_len, to_len, loss_len, best_len, last_len, words_len);
+    uint32_t fault = size_fault(places, start, minute, &len);
     if (fault == 0)
-        fault = listed_len < places ? 22 : span_fault(places, from, to, loss, from_len);
+        fault = listed_len < places ? 22 : span_fault(places, &spans, from_len);
     if (fault != 0)
         return fault;
     uint32_t first_span[MAX_PLACES + 1];
     index_spans(places, from, from_len, first_span);
     const store s = store_at(words, places);
-    const feed_lists lists = { first_span, to, loss, best, last };
-    begin_search(&s, &lists, places, start);
-    figures[3] = find_within(&s, &lists, budget, listed, figures);
+    const search run = { first_span, spans, minute, best, last };
+    begin_search(&s, &run, places, start);
+    figures[3] = find_within(&s, &run, budget, listed, figures);
     hide_beyond(places, budget, best, last);
     make_empty(&s);
     return 0;

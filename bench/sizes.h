@@ -15,7 +15,8 @@ enum {
     REFUSED_RUN = 100000,
     MAX_PLACES = 4096,
     MAX_SPANS = 16384,
-    MAX_LOSS = 1000000
+    MAX_LOSS = 1000000,
+    MINUTES = 1440
 };
 
 #endif

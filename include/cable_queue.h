@@ -19,13 +19,16 @@
  *    5  the kept store is not sound
  *   14  no places, or over 4,096
  *   15  the start is not a place
- *   16  the three span lists differ in length, or are over 16,384 long (feed calls) or too short (read_map)
+ *   24  the minute is above 1,439
+ *   16  the five span lists differ in length, or are over 16,384 long (feed calls) or too short (read_map)
  *   17  best or last is not one word a place, or the store is not 32 + 8 words a place
  *   22  the place list is shorter than the number of places (feed_budget)
  *   18  a span names no place
  *   19  a span's loss is not from 1 to 1,000,000
  *   20  a span comes from a smaller place than the span before it
+ *   23  a span's closing minute is not above its opening minute, or is above 1,440
  *   21  the map text is over 60,000 bytes, or malformed
+ * Of faulty spans the first one in the lists decides, under the first of 18, 19, 20 and 23 that it meets.
  *
  * Codes of a line, which stand in its answer:
  *    6  not a call             10  the item is in no heap
@@ -65,33 +68,41 @@ uint32_t kept_run(uint32_t *store, size_t store_len, const uint8_t *sheet, size_
 /* Returns 1 if the words, any number of them, are those of a sound store, else 0. */
 uint32_t store_sound(const uint32_t *store, size_t store_len);
 
-/* The feed table of a map: span e leads from place from[e] to place to[e] at loss[e]. Returns 0, or a code from 14 to 20.
+/* The feed table of a map at a minute of the day: span e leads from place from[e] to place to[e] at loss[e]. It is usable
+ * at a minute that is opens[e] or later and before closes[e]; with 0 and 1,440 it always is. Chains are made of the spans
+ * usable at the minute, and of no others; all spans are tested. Returns 0, a code from 14 to 20, 23 or 24.
  *
  * When it is done, best[p] is the least loss from the start to place p, and last[p] the lowest-numbered span that ends a
  * chain of that loss. Both are CABLE_QUEUE_NONE where no chain leads; at the start they are 0 and CABLE_QUEUE_NONE. The
- * store is made empty, used and left empty. The figures are links, cuts and spans examined, three zeros after a
- * refusal. */
-uint32_t feed_table(uint32_t places, uint32_t start, const uint32_t *from, size_t from_len, const uint32_t *to,
-                    size_t to_len, const uint32_t *loss, size_t loss_len, uint32_t *best, size_t best_len,
+ * store is made empty, used and left empty. The figures are links, cuts and spans examined, closed ones among them; three
+ * zeros after a refusal. */
+uint32_t feed_table(uint32_t places, uint32_t start, uint32_t minute, const uint32_t *from, size_t from_len,
+                    const uint32_t *to, size_t to_len, const uint32_t *loss, size_t loss_len, const uint32_t *opens,
+                    size_t opens_len, const uint32_t *closes, size_t closes_len, uint32_t *best, size_t best_len,
                     uint32_t *last, size_t last_len, uint32_t *store, size_t store_len, uint32_t figures[3]);
 
-/* The feed table of a map within a budget of loss, and the places in it. Returns 0, a code from 14 to 20, or 22.
+/* The feed table of a map at a minute within a budget of loss, and the places in it. Returns 0, a code from 14 to 20, 22,
+ * 23 or 24.
  *
  * When it is done, best[p] and last[p] are those of feed_table where that loss is at most the budget, and both
  * CABLE_QUEUE_NONE elsewhere. The places that have a loss in best are listed by ascending loss, those of equal loss by
  * ascending number; list words beyond them stay as they were. A list longer than the number of places is fine. The
- * store is made empty, used and left empty. The figures are links, cuts, spans examined and places listed, four zeros
- * after a refusal. Links and cuts are those made until the first place waiting is beyond the budget. */
-uint32_t feed_budget(uint32_t places, uint32_t start, const uint32_t *from, size_t from_len, const uint32_t *to,
-                     size_t to_len, const uint32_t *loss, size_t loss_len, uint32_t budget, uint32_t *best,
+ * store is made empty, used and left empty. The figures are links, cuts, spans examined, closed ones among them, and
+ * places listed; four zeros after a refusal. Links and cuts are those made until the first place waiting is beyond the
+ * budget. */
+uint32_t feed_budget(uint32_t places, uint32_t start, uint32_t minute, const uint32_t *from, size_t from_len,
+                     const uint32_t *to, size_t to_len, const uint32_t *loss, size_t loss_len, const uint32_t *opens,
+                     size_t opens_len, const uint32_t *closes, size_t closes_len, uint32_t budget, uint32_t *best,
                      size_t best_len, uint32_t *last, size_t last_len, uint32_t *listed, size_t listed_len,
                      uint32_t *store, size_t store_len, uint32_t figures[4]);
 
-/* Reads a map text into three span lists. Returns 0, 16 or 21; 21 comes before 16. The figures are places, start and
- * number of spans, three zeros after a refusal; the numbers read are not tested. List words beyond the spans stay as they
+/* Reads a map text into five span lists. Its first line is places, start and minute, each other line the from, to, loss,
+ * opening and closing minute of a span. Returns 0, 16 or 21; 21 comes before 16. The figures are places, start, minute and
+ * number of spans, four zeros after a refusal; the numbers read are not tested. List words beyond the spans stay as they
  * were. */
 uint32_t read_map(const uint8_t *text, size_t text_len, uint32_t *from, size_t from_len, uint32_t *to, size_t to_len,
-                  uint32_t *loss, size_t loss_len, uint32_t figures[3]);
+                  uint32_t *loss, size_t loss_len, uint32_t *opens, size_t opens_len, uint32_t *closes,
+                  size_t closes_len, uint32_t figures[4]);
 
 #ifdef __cplusplus
 }

@@ -231,57 +231,88 @@ static void try_refused_runs(void) {
 /* The feed table. */
 
 typedef struct {
-    uint32_t places, start, from[3], to[3], loss[3];
-    size_t from_len, to_len, loss_len, best_len, last_len, store_len;
+    uint32_t places, start, minute, from[3], to[3], loss[3], opens[3], closes[3];
+    size_t from_len, to_len, loss_len, opens_len, closes_len, best_len, last_len, store_len;
 } feed_call;
 
-static const feed_call worked_map = { 3, 0, { 0, 0, 1 }, { 1, 2, 2 }, { 7, 20, 5 }, 3, 3, 3, 3, 3, STORE(3) };
+/* What a full call leaves on a map of three places: losses, spans and the number of spans examined. */
+typedef struct {
+    uint32_t best[3], last[3], examined;
+} table;
 
-/* The call returns the code. Done, it leaves the worked table and an empty store; refused, zeros and nothing else. */
-static int feeds(feed_call call, uint32_t code) {
-    words from = copy_words(call.from, call.from_len), to = copy_words(call.to, call.to_len);
-    words loss = copy_words(call.loss, call.loss_len);
-    words best = filled(call.best_len), last = filled(call.last_len), store = filled(call.store_len);
-    words figures = filled(3);
-    int same = code == feed_table(call.places, call.start, from.at, from.len, to.at, to.len, loss.at, loss.len, best.at,
-                                  best.len, last.at, last.len, store.at, store.len, figures.at);
-    if (code == 0) {
-        words empty = filled(STORE(3));
-        same &= answers(fresh_run, empty, "", "") && same_words(store, empty);
-        same &= are(best.at, 0, 7, 12) && are(last.at, CABLE_QUEUE_NONE, 0, 2) && are(figures.at, 0, 0, 3);
-        free(empty.at);
-    } else {
-        same &= untouched(best, 0) && untouched(last, 0) && untouched(store, 0) && are(figures.at, 0, 0, 0);
-    }
-    words lent[] = { from, to, loss, best, last, store, figures };
-    for (size_t i = 0; i < sizeof lent / sizeof *lent; i++) free(lent[i].at);
+#define NONE CABLE_QUEUE_NONE
+#define LENGTHS 3, 3, 3, 3, 3, 3, 3, STORE(3)
+static const feed_call worked_map = { 3, 0, 0, { 0, 0, 1 }, { 1, 2, 2 }, { 7, 20, 5 }, { 0, 0, 0 }, { 1440, 1440, 1440 },
+                                      LENGTHS };
+static const table worked_table = { { 0, 7, 12 }, { NONE, 0, 2 }, 3 };
+
+/* The worked map with a window for each span: place 1 is reached from 100 to 500, by way of it place 2 from 300 to 400. */
+static const feed_call map_with_windows = { 3, 0, 0, { 0, 0, 1 }, { 1, 2, 2 }, { 7, 20, 5 }, { 100, 0, 300 },
+                                            { 500, 1440, 400 }, LENGTHS };
+static const table first_closed = { { 0, NONE, 20 }, { NONE, NONE, 1 }, 2 };
+static const table last_closed = { { 0, 7, 20 }, { NONE, 0, 1 }, 3 };
+
+static const struct {
+    uint32_t minute;
+    const table *result;
+} minutes[] = { { 0, &first_closed },  { 99, &first_closed },  { 100, &last_closed },  { 299, &last_closed },
+                { 300, &worked_table }, { 399, &worked_table }, { 400, &last_closed },  { 499, &last_closed },
+                { 500, &first_closed }, { 1439, &first_closed } };
+#define MINUTES (sizeof minutes / sizeof *minutes)
+
+/* The span lists of a call, each on the heap. */
+typedef struct {
+    words from, to, loss, opens, closes;
+} span_lists;
+
+static span_lists copy_spans(const feed_call *call) {
+    span_lists spans = { copy_words(call->from, call->from_len), copy_words(call->to, call->to_len),
+                         copy_words(call->loss, call->loss_len), copy_words(call->opens, call->opens_len),
+                         copy_words(call->closes, call->closes_len) };
+    return spans;
+}
+
+static void free_spans(span_lists spans) {
+    free(spans.from.at);
+    free(spans.to.at);
+    free(spans.loss.at);
+    free(spans.opens.at);
+    free(spans.closes.at);
+}
+
+#define LENT(list) (list).at, (list).len
+#define LENT_SPANS(spans)                                                                                               \
+    LENT((spans).from), LENT((spans).to), LENT((spans).loss), LENT((spans).opens), LENT((spans).closes)
+
+static int begins(words w, const uint32_t *three) {
+    return memcmp(w.at, three, 3 * sizeof *three) == 0;
+}
+
+/* The store of a fresh run of an empty sheet. */
+static int is_empty_store(words store) {
+    words empty = filled(STORE(3));
+    int same = answers(fresh_run, empty, "", "") && same_words(store, empty);
+    free(empty.at);
     return same;
 }
 
-/* The worked map with one of its numbers changed. */
-#define CHANGED(what, field, value, code)                                                                               \
-    do {                                                                                                                \
-        feed_call call = worked_map;                                                                                    \
-        call.field = value;                                                                                             \
-        expect(what, feeds(call, code));                                                                                \
-    } while (0)
-
-static void try_feeds(void) {
-    expect("the worked map", feeds(worked_map, 0));
-    CHANGED("no places: 14", places, 0, 14);
-    CHANGED("4,097 places: 14", places, 4097, 14);
-    CHANGED("start 3 of 3: 15", start, 3, 15);
-    CHANGED("from list of 2: 16", from_len, 2, 16);
-    CHANGED("to list of 2: 16", to_len, 2, 16);
-    CHANGED("loss list of 2: 16", loss_len, 2, 16);
-    CHANGED("2 words of losses, 3 places: 17", best_len, 2, 17);
-    CHANGED("2 words of spans, 3 places: 17", last_len, 2, 17);
-    CHANGED("a store for 2, 3 places: 17", store_len, STORE(2), 17);
-    CHANGED("from 3 of 3: 18", from[2], 3, 18);
-    CHANGED("to 3 of 3: 18", to[2], 3, 18);
-    CHANGED("loss 0: 19", loss[1], 0, 19);
-    CHANGED("loss 1,000,001: 19", loss[1], 1000001, 19);
-    CHANGED("from 1 then 0: 20", from[0], 1, 20);
+/* The call returns the code. Done, it leaves the table and an empty store; refused, zeros and nothing else. */
+static int feeds(feed_call call, const table *result, uint32_t code) {
+    span_lists spans = copy_spans(&call);
+    words best = filled(call.best_len), last = filled(call.last_len), store = filled(call.store_len);
+    words figures = filled(3);
+    int same = code == feed_table(call.places, call.start, call.minute, LENT_SPANS(spans), LENT(best), LENT(last),
+                                  LENT(store), figures.at);
+    if (code == 0) {
+        same &= is_empty_store(store) && begins(best, result->best) && begins(last, result->last);
+        same &= are(figures.at, 0, 0, result->examined);
+    } else {
+        same &= untouched(best, 0) && untouched(last, 0) && untouched(store, 0) && are(figures.at, 0, 0, 0);
+    }
+    words lent[] = { best, last, store, figures };
+    for (size_t i = 0; i < sizeof lent / sizeof *lent; i++) free(lent[i].at);
+    free_spans(spans);
+    return same;
 }
 
 /* The feed table within a budget. */
@@ -290,7 +321,6 @@ typedef struct {
     uint32_t budget, places, best[3], last[3], listed[3], examined;
 } budget_result;
 
-#define NONE CABLE_QUEUE_NONE
 static const budget_result worked_budgets[] = {
     { 0, 1, { 0, NONE, NONE }, { NONE, NONE, NONE }, { 0, FILL, FILL }, 2 },
     { 6, 1, { 0, NONE, NONE }, { NONE, NONE, NONE }, { 0, FILL, FILL }, 2 },
@@ -300,44 +330,53 @@ static const budget_result worked_budgets[] = {
     { UINT32_MAX, 3, { 0, 7, 12 }, { NONE, 0, 2 }, { 0, 1, 2 }, 3 },
 };
 
-static int begins(words w, const uint32_t *three) {
-    return memcmp(w.at, three, 3 * sizeof *three) == 0;
-}
+/* The map with windows, at minutes of its own. */
+static const struct {
+    uint32_t minute;
+    budget_result result;
+} budgets_at[] = {
+    { 99, { 19, 1, { 0, NONE, NONE }, { NONE, NONE, NONE }, { 0, FILL, FILL }, 2 } },
+    { 99, { 20, 2, { 0, NONE, 20 }, { NONE, NONE, 1 }, { 0, 2, FILL }, 2 } },
+    { 100, { 7, 2, { 0, 7, NONE }, { NONE, 0, NONE }, { 0, 1, FILL }, 3 } },
+    { 299, { 19, 2, { 0, 7, NONE }, { NONE, 0, NONE }, { 0, 1, FILL }, 3 } },
+    { 300, { 12, 3, { 0, 7, 12 }, { NONE, 0, 2 }, { 0, 1, 2 }, 3 } },
+    { 399, { 11, 2, { 0, 7, NONE }, { NONE, 0, NONE }, { 0, 1, FILL }, 3 } },
+    { 400, { 20, 3, { 0, 7, 20 }, { NONE, 0, 1 }, { 0, 1, 2 }, 3 } },
+    { 500, { UINT32_MAX, 2, { 0, NONE, 20 }, { NONE, NONE, 1 }, { 0, 2, FILL }, 2 } },
+};
 
 /* The call with a place list so long returns the code. Done, it leaves the result worked by hand, the rest of the place
  * list and an empty store; refused, zeros and nothing else. */
 static int feeds_within(feed_call call, const budget_result *result, size_t listed_len, uint32_t code) {
-    words from = copy_words(call.from, call.from_len), to = copy_words(call.to, call.to_len);
-    words loss = copy_words(call.loss, call.loss_len);
+    span_lists spans = copy_spans(&call);
     words best = filled(call.best_len), last = filled(call.last_len), store = filled(call.store_len);
     words listed = filled(listed_len), figures = filled(4);
-    int same = code == feed_budget(call.places, call.start, from.at, from.len, to.at, to.len, loss.at, loss.len,
-                                   result->budget, best.at, best.len, last.at, last.len, listed.at, listed.len,
-                                   store.at, store.len, figures.at);
+    int same = code == feed_budget(call.places, call.start, call.minute, LENT_SPANS(spans), result->budget, LENT(best),
+                                   LENT(last), LENT(listed), LENT(store), figures.at);
     if (code == 0) {
-        words empty = filled(STORE(3));
-        same &= answers(fresh_run, empty, "", "") && same_words(store, empty);
+        same &= is_empty_store(store);
         same &= begins(best, result->best) && begins(last, result->last) && begins(listed, result->listed);
         same &= untouched(listed, 3);
         same &= are(figures.at, 0, 0, result->examined) && figures.at[3] == result->places;
-        free(empty.at);
     } else {
         same &= untouched(best, 0) && untouched(last, 0) && untouched(listed, 0) && untouched(store, 0);
         same &= are(figures.at, 0, 0, 0) && figures.at[3] == 0;
     }
-    words lent[] = { from, to, loss, best, last, listed, store, figures };
+    words lent[] = { best, last, listed, store, figures };
     for (size_t i = 0; i < sizeof lent / sizeof *lent; i++) free(lent[i].at);
+    free_spans(spans);
     return same;
 }
 
-/* The worked map with one of its numbers changed: the code with a place list of 3 words, and the one with 2. */
-#define CHANGED_WITHIN(what, field, value, code, short_code)                                                           \
-    do {                                                                                                               \
-        feed_call call = worked_map;                                                                                   \
-        call.field = value;                                                                                            \
-        expect(what, feeds_within(call, worked_budgets, 3, code));                                                     \
-        expect(what ", a short place list", feeds_within(call, worked_budgets, 2, short_code));                        \
-    } while (0)
+static void try_tables(void) {
+    expect("the worked map", feeds(worked_map, &worked_table, 0));
+    for (size_t i = 0; i < MINUTES; i++) {
+        feed_call call = worked_map, windows = map_with_windows;
+        call.minute = windows.minute = minutes[i].minute;
+        expect("the worked map at any minute", feeds(call, &worked_table, 0));
+        expect("the map with windows at a minute", feeds(windows, minutes[i].result, 0));
+    }
+}
 
 static void try_budgets(void) {
     for (size_t i = 0; i < sizeof worked_budgets / sizeof *worked_budgets; i++) {
@@ -346,51 +385,158 @@ static void try_budgets(void) {
         expect("2 words of places, 3 places: 22", feeds_within(worked_map, &worked_budgets[i], 2, 22));
         expect("no words of places, 3 places: 22", feeds_within(worked_map, &worked_budgets[i], 0, 22));
     }
-    CHANGED_WITHIN("no places: 14", places, 0, 14, 14);
-    CHANGED_WITHIN("start 3 of 3: 15", start, 3, 15, 15);
-    CHANGED_WITHIN("loss list of 2: 16", loss_len, 2, 16, 16);
-    CHANGED_WITHIN("2 words of losses, 3 places: 17", best_len, 2, 17, 17);
-    CHANGED_WITHIN("2 words of spans, 3 places: 17", last_len, 2, 17, 17);
-    CHANGED_WITHIN("a store for 2, 3 places: 17", store_len, STORE(2), 17, 17);
-    CHANGED_WITHIN("to 3 of 3: 18", to[2], 3, 18, 22);
-    CHANGED_WITHIN("loss 0: 19", loss[1], 0, 19, 22);
-    CHANGED_WITHIN("from 1 then 0: 20", from[0], 1, 20, 22);
+    for (size_t i = 0; i < sizeof budgets_at / sizeof *budgets_at; i++) {
+        feed_call call = map_with_windows;
+        call.minute = budgets_at[i].minute;
+        expect("the map with windows within a budget", feeds_within(call, &budgets_at[i].result, 3, 0));
+        expect("a longer place list, windows", feeds_within(call, &budgets_at[i].result, 9, 0));
+    }
+}
+
+/* A map is refused by the full call and by the one with a budget, and with a place list of 2 words under its own code. */
+static void expect_refused(const char *what, feed_call call, uint32_t code, uint32_t short_code) {
+    expect(what, feeds(call, &worked_table, code));
+    expect(what, feeds_within(call, worked_budgets, 3, code));
+    expect(what, feeds_within(call, worked_budgets, 2, short_code));
+}
+
+/* The worked map with one of its numbers changed: before and after the test of the place list. */
+#define CHANGED(what, field, value, code, short_code)                                                                   \
+    do {                                                                                                                \
+        feed_call call = worked_map;                                                                                    \
+        call.field = value;                                                                                             \
+        expect_refused(what, call, code, short_code);                                                                   \
+    } while (0)
+#define EARLY(what, field, value, code) CHANGED(what, field, value, code, code)
+#define LATE(what, field, value, code) CHANGED(what, field, value, code, 22)
+
+/* Two numbers changed. */
+#define TWO(what, field, value, other, other_value, code, short_code)                                                   \
+    do {                                                                                                                \
+        feed_call call = worked_map;                                                                                    \
+        call.field = value;                                                                                             \
+        call.other = other_value;                                                                                       \
+        expect_refused(what, call, code, short_code);                                                                   \
+    } while (0)
+
+static void try_refused_feeds(void) {
+    EARLY("no places: 14", places, 0, 14);
+    EARLY("4,097 places: 14", places, 4097, 14);
+    EARLY("start 3 of 3: 15", start, 3, 15);
+    EARLY("minute 1,440: 24", minute, 1440, 24);
+    EARLY("the largest number as minute: 24", minute, UINT32_MAX, 24);
+    EARLY("from list of 2: 16", from_len, 2, 16);
+    EARLY("to list of 2: 16", to_len, 2, 16);
+    EARLY("loss list of 2: 16", loss_len, 2, 16);
+    EARLY("list of 2 opening minutes: 16", opens_len, 2, 16);
+    EARLY("list of 2 closing minutes: 16", closes_len, 2, 16);
+    EARLY("2 words of losses, 3 places: 17", best_len, 2, 17);
+    EARLY("2 words of spans, 3 places: 17", last_len, 2, 17);
+    EARLY("a store for 2, 3 places: 17", store_len, STORE(2), 17);
+    LATE("from 3 of 3: 18", from[2], 3, 18);
+    LATE("to 3 of 3: 18", to[2], 3, 18);
+    LATE("loss 0: 19", loss[1], 0, 19);
+    LATE("loss 1,000,001: 19", loss[1], 1000001, 19);
+    LATE("from 1 then 0: 20", from[0], 1, 20);
+    LATE("closing at 1,441: 23", closes[1], 1441, 23);
+    LATE("closing at 0, as it opens: 23", closes[1], 0, 23);
+    LATE("opening at 1,440, as it closes: 23", opens[2], 1440, 23);
+    LATE("opening after it closes: 23", opens[0], 1441, 23);
+}
+
+static void try_orders_of_codes(void) {
+    TWO("14 before 24", places, 0, minute, 1440, 14, 14);
+    TWO("15 before 24", start, 3, minute, 1440, 15, 15);
+    TWO("24 before 16", minute, 1440, closes_len, 2, 24, 24);
+    TWO("24 before 17", minute, 1440, best_len, 2, 24, 24);
+    TWO("24 before 18", minute, 1440, from[0], 3, 24, 24);
+    TWO("24 before 23", minute, 1440, closes[0], 0, 24, 24);
+    TWO("16 before 17", opens_len, 2, best_len, 2, 16, 16);
+    TWO("17 before 23", last_len, 2, closes[0], 0, 17, 17);
+    TWO("18 before 23 on one span", to[1], 3, closes[1], 0, 18, 22);
+    TWO("19 before 23 on one span", loss[1], 0, closes[1], 0, 19, 22);
+    TWO("20 before 23 on one span", from[0], 1, closes[1], 0, 20, 22);
+    TWO("23 on span 0 before 18 on span 1", closes[0], 0, to[1], 3, 23, 22);
+    TWO("23 on span 1 before 19 on span 2", closes[1], 1441, loss[2], 0, 23, 22);
+    TWO("18 on span 0 before 23 on span 1", to[0], 3, closes[1], 0, 18, 22);
+    TWO("20 on span 1 before 23 on span 2", from[0], 1, closes[2], 0, 20, 22);
+}
+
+/* A span that is closed at the minute of the call is tested as any other. */
+static void try_faulty_closed_spans(void) {
+    TWO("18 on a closed span", opens[2], 720, to[2], 3, 18, 22);
+    TWO("19 on a closed span", opens[2], 720, loss[2], 0, 19, 22);
+    TWO("23 on a closed span", opens[2], 720, closes[2], 1441, 23, 22);
+    TWO("20 before a closed span", opens[1], 720, from[0], 1, 20, 22);
 }
 
 /* The map reader. */
 
-static const char worked_text[] = "3,0\n0,1,7\n0,2,20\n1,2,5\n";
+static const char worked_text[] = "3,0,720\n0,1,7,0,1440\n0,2,20,9,1400\n1,2,5,600,9999\n";
+
+typedef struct {
+    size_t from, to, loss, opens, closes;
+} rooms;
+
+static rooms all(size_t room) {
+    rooms r = { room, room, room, room, room };
+    return r;
+}
 
 /* Reading into lists so long returns the code. Done, it leaves the worked spans; refused, zeros and nothing else. */
-static int reads(const char *text, size_t from_len, size_t to_len, size_t loss_len, uint32_t code) {
+static int reads(const char *text, rooms room, uint32_t code) {
     bytes in = copy_text(text);
-    words from = filled(from_len), to = filled(to_len), loss = filled(loss_len), figures = filled(3);
-    int same = code == read_map(in.at, in.len, from.at, from.len, to.at, to.len, loss.at, loss.len, figures.at);
+    words from = filled(room.from), to = filled(room.to), loss = filled(room.loss), figures = filled(4);
+    words opens = filled(room.opens), closes = filled(room.closes);
+    int same = code == read_map(in.at, in.len, LENT(from), LENT(to), LENT(loss), LENT(opens), LENT(closes), figures.at);
     size_t spans = code == 0 ? 3 : 0;
-    if (code == 0) same &= are(from.at, 0, 0, 1) && are(to.at, 1, 2, 2) && are(loss.at, 7, 20, 5);
-    same &= untouched(from, spans) && untouched(to, spans) && untouched(loss, spans);
-    same &= code == 0 ? are(figures.at, 3, 0, 3) : are(figures.at, 0, 0, 0);
-    words lent[] = { from, to, loss, figures };
-    for (size_t i = 0; i < sizeof lent / sizeof *lent; i++) free(lent[i].at);
+    if (code == 0) {
+        same &= are(from.at, 0, 0, 1) && are(to.at, 1, 2, 2) && are(loss.at, 7, 20, 5);
+        same &= are(opens.at, 0, 9, 600) && are(closes.at, 1440, 1400, 9999);
+        same &= are(figures.at, 3, 0, 720) && figures.at[3] == 3;
+    } else {
+        same &= are(figures.at, 0, 0, 0) && figures.at[3] == 0;
+    }
+    words lists[] = { from, to, loss, opens, closes };
+    for (size_t i = 0; i < sizeof lists / sizeof *lists; i++) {
+        same &= untouched(lists[i], spans);
+        free(lists[i].at);
+    }
+    free(figures.at);
     free(in.at);
     return same;
 }
 
+static void try_lists_of_other_lengths(void) {
+    for (size_t room = 2; room <= 4; room += 2) {
+        rooms r[5] = { all(3), all(3), all(3), all(3), all(3) };
+        r[0].from = r[1].to = r[2].loss = r[3].opens = r[4].closes = room;
+        for (size_t i = 0; i < 5; i++) expect("one list of another length: 16", reads(worked_text, r[i], 16));
+    }
+}
+
 static void try_readings(void) {
-    expect("the worked text", reads(worked_text, 3, 3, 3, 0));
-    expect("longer lists", reads(worked_text, 5, 5, 5, 0));
-    expect("no LF at the end", reads("3,0\n0,1,7\n0,2,20\n1,2,5", 3, 3, 3, 0));
-    expect("lists run out: 16", reads(worked_text, 2, 2, 2, 16) && reads(worked_text, 0, 0, 0, 16));
-    expect("lists differ: 16",
-           reads(worked_text, 4, 3, 3, 16) && reads(worked_text, 3, 4, 3, 16) && reads(worked_text, 3, 3, 4, 16));
-    expect("0,1 as a span: 21", reads("3,0\n0,1,7\n0,1\n", 3, 3, 3, 21));
-    expect("an empty text or line: 21", reads("", 3, 3, 3, 21) && reads("3,0\n\n", 3, 3, 3, 21));
-    expect("zeros before numbers", reads("03,0000000000\n00,1,0000000007\n0,02,020\n001,2,5\n", 3, 3, 3, 0));
-    expect("eleven digits: 21", reads("00000000003,0\n", 3, 3, 3, 21) && reads("3,0\n0,1,00000000007\n", 3, 3, 3, 21));
-    expect("21 before 16", reads("3,0\n0,1\n", 0, 1, 2, 21));
+    expect("the worked text", reads(worked_text, all(3), 0));
+    expect("longer lists", reads(worked_text, all(5), 0));
+    expect("no LF at the end", reads("3,0,720\n0,1,7,0,1440\n0,2,20,9,1400\n1,2,5,600,9999", all(3), 0));
+    expect("lists run out: 16", reads(worked_text, all(2), 16) && reads(worked_text, all(0), 16));
+    try_lists_of_other_lengths();
+    expect("0,1 as a span: 21", reads("3,0,0\n0,1,7,0,1440\n0,1\n", all(3), 21));
+    expect("spans without windows: 21", reads("3,0,0\n0,1,7\n0,2,20\n1,2,5\n", all(3), 21));
+    expect("a first line without a minute: 21", reads("3,0\n0,1,7,0,1440\n", all(3), 21));
+    expect("four numbers or six as a span: 21",
+           reads("3,0,0\n0,1,7,0\n", all(3), 21) && reads("3,0,0\n0,1,7,0,1440,0\n", all(3), 21));
+    expect("four numbers in the first line: 21", reads("3,0,0,0\n0,1,7,0,1440\n", all(3), 21));
+    expect("an empty text or line: 21", reads("", all(3), 21) && reads("3,0,0\n\n", all(3), 21));
+    expect("zeros before numbers",
+           reads("03,0000000000,0720\n00,1,0000000007,00,01440\n0,02,020,009,1400\n001,2,5,0600,0000009999\n", all(3), 0));
+    expect("eleven digits: 21",
+           reads("3,0,00000000000\n", all(3), 21) && reads("3,0,0\n0,1,7,0,00000001440\n", all(3), 21));
+    rooms unequal = { 0, 1, 2, 3, 4 };
+    expect("21 before 16", reads("3,0,0\n0,1\n", unequal, 21));
     bytes longest = filled_bytes(60002, '0');
     longest.at[60001] = 0;
-    expect("60,001 bytes: 21", reads((const char *)longest.at, 3, 3, 3, 21));
+    expect("60,001 bytes: 21", reads((const char *)longest.at, all(3), 21));
     free(longest.at);
 }
 
@@ -398,8 +544,11 @@ int main(void) {
     try_worked_runs();
     try_largest_store();
     try_refused_runs();
-    try_feeds();
+    try_tables();
     try_budgets();
+    try_refused_feeds();
+    try_orders_of_codes();
+    try_faulty_closed_spans();
     try_readings();
     return finish("host");
 }

@@ -7,8 +7,9 @@ pub use feeds::{BudgetCall, Fed, FeedCall};
 
 use crate::engine::{Engine, Part};
 use reference::ledger::{allowance, potential, Ledger};
+use reference::map::{self, FIELDS};
 use reference::run::MODEM_ITEMS;
-use reference::{map, program, run, store, text, Answer, Call, Queues};
+use reference::{program, run, store, text, Answer, Call, Queues};
 use std::fmt::Debug;
 
 pub type Verdict<T = ()> = Result<T, String>;
@@ -160,21 +161,20 @@ impl<'a> Checker<'a> {
     }
 
     /// Compares the map reader with span lists of the given lengths; returns the code.
-    pub fn read(&mut self, text: &[u8], rooms: [usize; 3]) -> Verdict<u32> {
+    pub fn read(&mut self, text: &[u8], rooms: [usize; FIELDS]) -> Verdict<u32> {
         self.cases += 1;
-        let lists: [Vec<u32>; 3] = std::array::from_fn(|list| {
+        let lists: [Vec<u32>; FIELDS] = std::array::from_fn(|list| {
             (0..rooms[list] as u32).map(|at| at ^ (0xC000_0000 + ((list as u32) << 24))).collect()
         });
-        let mut lent = [&lists[0], &lists[1], &lists[2]].map(|list| Guarded::new(list, 0xA5A5_A5A5));
-        let mut figures = [77; 3];
+        let mut lent = lists.each_ref().map(|list| Guarded::new(list, 0xA5A5_A5A5));
+        let mut figures = [77; 4];
         let code = self.engine.read_map(text, lent.each_mut().map(Guarded::lent), &mut figures);
 
         let mut expected = lists;
-        let [from, to, loss] = &mut expected;
-        let header = map::read(text, from, to, loss);
+        let header = map::read(text, expected.each_mut().map(|list| &mut list[..]));
         let compared = || {
             same("read_map", &code, &header.code)?;
-            same("read_map figures", &figures, &[header.places, header.start, header.spans])?;
+            same("read_map figures", &figures, &header.numbers())?;
             for (number, list) in lent.into_iter().enumerate() {
                 same_list("read_map list", &list.intact("read_map list")?, &expected[number])?;
             }

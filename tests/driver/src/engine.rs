@@ -1,7 +1,8 @@
 //! The entries that a host may call, and the reference behind the same entries.
 
-use reference::feed::{self, Lent, Spans};
-use reference::{map, program, run, store};
+use reference::feed::{self, Asked, Lent};
+use reference::map::{self, FIELDS};
+use reference::{program, run, store};
 
 /// What an engine may offer; campaigns run for the parts that are there.
 #[derive(Clone, Copy, Debug, PartialEq, Eq)]
@@ -53,23 +54,15 @@ pub trait Engine {
         unreachable!("no runs")
     }
 
-    fn feed_table(&self, places: u32, start: u32, spans: Spans, lists: FeedLists, figures: &mut [u32; 3]) -> u32 {
+    fn feed_table(&self, asked: Asked, lists: FeedLists, figures: &mut [u32; 3]) -> u32 {
         unreachable!("no feed call")
     }
 
-    fn feed_budget(
-        &self,
-        places: u32,
-        start: u32,
-        spans: Spans,
-        budget: u32,
-        lists: BudgetLists,
-        figures: &mut [u32; 4],
-    ) -> u32 {
+    fn feed_budget(&self, asked: Asked, budget: u32, lists: BudgetLists, figures: &mut [u32; 4]) -> u32 {
         unreachable!("no feed call with a budget")
     }
 
-    fn read_map(&self, text: &[u8], lists: [&mut [u32]; 3], figures: &mut [u32; 3]) -> u32 {
+    fn read_map(&self, text: &[u8], lists: [&mut [u32]; FIELDS], figures: &mut [u32; 4]) -> u32 {
         unreachable!("no map reader")
     }
 
@@ -110,32 +103,23 @@ impl Engine for Faithful {
         u32::from(store::sound(store).is_some())
     }
 
-    fn feed_table(&self, places: u32, start: u32, spans: Spans, lists: FeedLists, figures: &mut [u32; 3]) -> u32 {
+    fn feed_table(&self, asked: Asked, lists: FeedLists, figures: &mut [u32; 3]) -> u32 {
         let lent = Lent { best: lists.best, last: lists.last, words: lists.store };
-        let result = feed::table(places, start, spans, lent);
+        let result = feed::table(asked, lent);
         *figures = [result.links, result.cuts, result.examined];
         result.code
     }
 
-    fn feed_budget(
-        &self,
-        places: u32,
-        start: u32,
-        spans: Spans,
-        budget: u32,
-        lists: BudgetLists,
-        figures: &mut [u32; 4],
-    ) -> u32 {
+    fn feed_budget(&self, asked: Asked, budget: u32, lists: BudgetLists, figures: &mut [u32; 4]) -> u32 {
         let lent = Lent { best: lists.best, last: lists.last, words: lists.store };
-        let result = feed::within(places, start, spans, budget, lent, lists.listed);
+        let result = feed::within(asked, budget, lent, lists.listed);
         *figures = result.numbers();
         result.figures.code
     }
 
-    fn read_map(&self, text: &[u8], lists: [&mut [u32]; 3], figures: &mut [u32; 3]) -> u32 {
-        let [from, to, loss] = lists;
-        let header = map::read(text, from, to, loss);
-        *figures = [header.places, header.start, header.spans];
+    fn read_map(&self, text: &[u8], lists: [&mut [u32]; FIELDS], figures: &mut [u32; 4]) -> u32 {
+        let header = map::read(text, lists);
+        *figures = header.numbers();
         header.code
     }
 

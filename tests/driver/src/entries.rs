@@ -41,17 +41,22 @@ macro_rules! lent_run {
 /// A feed call: `feed_table`.
 #[macro_export]
 macro_rules! feed_call {
-    ($name:ident, $places:expr, $start:expr, $spans:expr, $lists:expr, $figures:expr) => {{
+    ($name:ident, $asked:expr, $lists:expr, $figures:expr) => {{
         extern "C" {
             fn $name(
                 places: u32,
                 start: u32,
+                minute: u32,
                 from: *const u32,
                 from_len: usize,
                 to: *const u32,
                 to_len: usize,
                 loss: *const u32,
                 loss_len: usize,
+                opens: *const u32,
+                opens_len: usize,
+                closes: *const u32,
+                closes_len: usize,
                 best: *mut u32,
                 best_len: usize,
                 last: *mut u32,
@@ -61,19 +66,24 @@ macro_rules! feed_call {
                 figures: *mut [u32; 3],
             ) -> u32;
         }
-        let (places, start, figures): (u32, u32, &mut [u32; 3]) = ($places, $start, $figures);
-        let (Spans { from, to, loss }, FeedLists { best, last, store }) = ($spans, $lists);
+        let Asked { places, start, minute, spans: Spans { from, to, loss, opens, closes } } = $asked;
+        let (FeedLists { best, last, store }, figures): (_, &mut [u32; 3]) = ($lists, $figures);
         // SAFETY: as in own_run.
         unsafe {
             $name(
                 places,
                 start,
+                minute,
                 from.as_ptr(),
                 from.len(),
                 to.as_ptr(),
                 to.len(),
                 loss.as_ptr(),
                 loss.len(),
+                opens.as_ptr(),
+                opens.len(),
+                closes.as_ptr(),
+                closes.len(),
                 best.as_mut_ptr(),
                 best.len(),
                 last.as_mut_ptr(),
@@ -89,17 +99,22 @@ macro_rules! feed_call {
 /// A feed call with a budget: `feed_budget`.
 #[macro_export]
 macro_rules! budget_call {
-    ($name:ident, $places:expr, $start:expr, $spans:expr, $budget:expr, $lists:expr, $figures:expr) => {{
+    ($name:ident, $asked:expr, $budget:expr, $lists:expr, $figures:expr) => {{
         extern "C" {
             fn $name(
                 places: u32,
                 start: u32,
+                minute: u32,
                 from: *const u32,
                 from_len: usize,
                 to: *const u32,
                 to_len: usize,
                 loss: *const u32,
                 loss_len: usize,
+                opens: *const u32,
+                opens_len: usize,
+                closes: *const u32,
+                closes_len: usize,
                 budget: u32,
                 best: *mut u32,
                 best_len: usize,
@@ -112,19 +127,25 @@ macro_rules! budget_call {
                 figures: *mut [u32; 4],
             ) -> u32;
         }
-        let (places, start, budget, figures): (u32, u32, u32, &mut [u32; 4]) = ($places, $start, $budget, $figures);
-        let (Spans { from, to, loss }, BudgetLists { best, last, listed, store }) = ($spans, $lists);
+        let Asked { places, start, minute, spans: Spans { from, to, loss, opens, closes } } = $asked;
+        let (budget, BudgetLists { best, last, listed, store }): (u32, _) = ($budget, $lists);
+        let figures: &mut [u32; 4] = $figures;
         // SAFETY: as in own_run.
         unsafe {
             $name(
                 places,
                 start,
+                minute,
                 from.as_ptr(),
                 from.len(),
                 to.as_ptr(),
                 to.len(),
                 loss.as_ptr(),
                 loss.len(),
+                opens.as_ptr(),
+                opens.len(),
+                closes.as_ptr(),
+                closes.len(),
                 budget,
                 best.as_mut_ptr(),
                 best.len(),

@@ -10,7 +10,7 @@ use crate::own_run;
 #[cfg(feature = "engine-host")]
 use crate::{budget_call, feed_call, lent_run};
 #[cfg(feature = "engine-host")]
-use reference::feed::Spans;
+use reference::feed::{Asked, Spans};
 use std::io::Write;
 use std::path::PathBuf;
 use std::process::{Command, Stdio};
@@ -30,7 +30,11 @@ extern "C" {
         to_len: usize,
         loss: *mut u32,
         loss_len: usize,
-        figures: *mut [u32; 3],
+        opens: *mut u32,
+        opens_len: usize,
+        closes: *mut u32,
+        closes_len: usize,
+        figures: *mut [u32; 4],
     ) -> u32;
 }
 
@@ -102,28 +106,20 @@ impl Engine for Linked {
     }
 
     #[cfg(feature = "engine-host")]
-    fn feed_table(&self, places: u32, start: u32, spans: Spans, lists: FeedLists, figures: &mut [u32; 3]) -> u32 {
-        feed_call!(feed_table, places, start, spans, lists, figures)
+    fn feed_table(&self, asked: Asked, lists: FeedLists, figures: &mut [u32; 3]) -> u32 {
+        feed_call!(feed_table, asked, lists, figures)
     }
 
     #[cfg(feature = "engine-host")]
-    fn feed_budget(
-        &self,
-        places: u32,
-        start: u32,
-        spans: Spans,
-        budget: u32,
-        lists: BudgetLists,
-        figures: &mut [u32; 4],
-    ) -> u32 {
-        budget_call!(feed_budget, places, start, spans, budget, lists, figures)
+    fn feed_budget(&self, asked: Asked, budget: u32, lists: BudgetLists, figures: &mut [u32; 4]) -> u32 {
+        budget_call!(feed_budget, asked, budget, lists, figures)
     }
 
     #[cfg(feature = "engine-host")]
-    fn read_map(&self, text: &[u8], lists: [&mut [u32]; 3], figures: &mut [u32; 3]) -> u32 {
+    fn read_map(&self, text: &[u8], lists: [&mut [u32]; 5], figures: &mut [u32; 4]) -> u32 {
         // SAFETY: pointers and lengths are those of live slices that do not overlap.
         unsafe {
-            let [from, to, loss] = lists;
+            let [from, to, loss, opens, closes] = lists;
             read_map(
                 text.as_ptr(),
                 text.len(),
@@ -133,6 +129,10 @@ impl Engine for Linked {
                 to.len(),
                 loss.as_mut_ptr(),
                 loss.len(),
+                opens.as_mut_ptr(),
+                opens.len(),
+                closes.as_mut_ptr(),
+                closes.len(),
                 figures,
             )
         }

@@ -1,21 +1,44 @@
-//! Maps: span lists with ties, parallel and self spans, unreached places, and many lowerings.
+//! Maps: span lists with ties, parallel and self spans, unreached places, and many lowerings; windows are all open
+//! where nothing else is said.
 
 use crate::check::FeedCall;
 use crate::random::Random;
+use reference::feed::MINUTES;
 use reference::store;
 
-/// A call on spans given as (from, to, loss), with lists of the right lengths.
-pub fn call(places: u32, start: u32, spans: &[[u32; 3]]) -> FeedCall {
+/// Spans with all windows open.
+pub fn open(spans: &[[u32; 3]]) -> Vec<[u32; 5]> {
+    spans.iter().map(|&[from, to, loss]| [from, to, loss, 0, MINUTES]).collect()
+}
+
+/// A call on spans given as (from, to, loss, opening, closing), with lists of the right lengths.
+pub fn call_at(places: u32, start: u32, minute: u32, spans: &[[u32; 5]]) -> FeedCall {
+    let list = |field: usize| spans.iter().map(|span| span[field]).collect();
     FeedCall {
         places,
         start,
-        from: spans.iter().map(|span| span[0]).collect(),
-        to: spans.iter().map(|span| span[1]).collect(),
-        loss: spans.iter().map(|span| span[2]).collect(),
+        minute,
+        from: list(0),
+        to: list(1),
+        loss: list(2),
+        opens: list(3),
+        closes: list(4),
         best: places as usize,
         last: places as usize,
         words: store::length(places as usize),
     }
+}
+
+/// A call on spans that are always open, given as (from, to, loss); the minute is any.
+pub fn call(places: u32, start: u32, spans: &[[u32; 3]]) -> FeedCall {
+    call_at(places, start, any_minute(places, start, spans), &open(spans))
+}
+
+/// A minute drawn for a map, the same one each time.
+fn any_minute(places: u32, start: u32, spans: &[[u32; 3]]) -> u32 {
+    let add = |sum: u64, &number: &u32| sum.wrapping_mul(31).wrapping_add(u64::from(number));
+    let seed = spans.iter().flatten().fold(u64::from(places), add);
+    Random::new(seed ^ u64::from(start)).below(u64::from(MINUTES)) as u32
 }
 
 /// Spans between random places, by ascending from; losses below or at `losses`.
@@ -71,11 +94,49 @@ pub fn small(random: &mut Random) -> FeedCall {
     call(places, start, &scattered(random, places, count, losses))
 }
 
-/// The text of a map; without a last LF if `open`.
-pub fn text(places: u32, start: u32, spans: &[[u32; 3]], open: bool) -> Vec<u8> {
-    let mut text = format!("{places},{start}\n");
-    for [from, to, loss] in spans {
-        text += &format!("{from},{to},{loss}\n");
+/// Gives each span a window between two of the cuts, which are ascending; many windows close as others open. Some spans
+/// stay open all day.
+pub fn give_windows(random: &mut Random, call: &mut FeedCall, cuts: &[u32]) {
+    for (opens, closes) in call.opens.iter_mut().zip(&mut call.closes) {
+        if random.chance(75) {
+            let first = random.size(cuts.len() - 1);
+            let later = first + 1 + random.size(cuts.len() - 1 - first);
+            (*opens, *closes) = (cuts[first], cuts[later]);
+        }
+    }
+}
+
+/// Ascending minutes at which windows open and close, both ends of the day among them.
+pub fn cuts(random: &mut Random) -> Vec<u32> {
+    let mut cuts: Vec<u32> = (0..1 + random.size(3)).map(|_| 1 + random.below(1_439) as u32).collect();
+    cuts.extend([0, MINUTES]);
+    cuts.sort();
+    cuts.dedup();
+    cuts
+}
+
+/// The minutes of the day at, before and after each cut.
+pub fn minutes_around(cuts: &[u32]) -> Vec<u32> {
+    let around = cuts.iter().flat_map(|&cut| [cut.saturating_sub(1), cut, cut + 1]);
+    let mut minutes: Vec<u32> = around.filter(|&minute| minute < MINUTES).collect();
+    minutes.sort();
+    minutes.dedup();
+    minutes
+}
+
+/// A small map with windows, and the minutes around the ends of these.
+pub fn with_windows(random: &mut Random) -> (FeedCall, Vec<u32>) {
+    let mut call = small(random);
+    let cuts = cuts(random);
+    give_windows(random, &mut call, &cuts);
+    (call, minutes_around(&cuts))
+}
+
+/// The text of a map with spans given as (from, to, loss, opening, closing); without a last LF if `open`.
+pub fn text_at(places: u32, start: u32, minute: u32, spans: &[[u32; 5]], open: bool) -> Vec<u8> {
+    let mut text = format!("{places},{start},{minute}\n");
+    for [from, to, loss, opens, closes] in spans {
+        text += &format!("{from},{to},{loss},{opens},{closes}\n");
     }
     if open {
         text.pop();
@@ -83,8 +144,13 @@ pub fn text(places: u32, start: u32, spans: &[[u32; 3]], open: bool) -> Vec<u8> 
     text.into_bytes()
 }
 
+/// The text of a map with all windows open.
+pub fn text(places: u32, start: u32, spans: &[[u32; 3]], open: bool) -> Vec<u8> {
+    text_at(places, start, any_minute(places, start, spans), &self::open(spans), open)
+}
+
 pub fn text_of(call: &FeedCall, open: bool) -> Vec<u8> {
-    let spans: Vec<[u32; 3]> =
-        (0..call.from.len()).map(|span| [call.from[span], call.to[span], call.loss[span]]).collect();
-    text(call.places, call.start, &spans, open)
+    let span = |at: usize| [call.from[at], call.to[at], call.loss[at], call.opens[at], call.closes[at]];
+    let spans: Vec<[u32; 5]> = (0..call.from.len()).map(span).collect();
+    text_at(call.places, call.start, call.minute, &spans, open)
 }

@@ -2,7 +2,7 @@
 
 use crate::engine::{BudgetLists, Engine, FeedLists, Part};
 use crate::{budget_call, feed_call, own_run};
-use reference::feed::Spans;
+use reference::feed::{Asked, Spans};
 
 pub struct Plain;
 
@@ -15,19 +15,11 @@ impl Engine for Plain {
         own_run!(plain_queue_run, sheet, out)
     }
 
-    fn feed_table(&self, places: u32, start: u32, spans: Spans, lists: FeedLists, figures: &mut [u32; 3]) -> u32 {
-        feed_call!(plain_feed_table, places, start, spans, lists, figures)
+    fn feed_table(&self, asked: Asked, lists: FeedLists, figures: &mut [u32; 3]) -> u32 {
+        feed_call!(plain_feed_table, asked, lists, figures)
     }
 
-    fn feed_budget(
-        &self,
-        places: u32,
-        start: u32,
-        spans: Spans,
-        budget: u32,
-        lists: BudgetLists,
-        figures: &mut [u32; 4],
-    ) -> u32 {
-        budget_call!(plain_feed_budget, places, start, spans, budget, lists, figures)
+    fn feed_budget(&self, asked: Asked, budget: u32, lists: BudgetLists, figures: &mut [u32; 4]) -> u32 {
+        budget_call!(plain_feed_budget, asked, budget, lists, figures)
     }
 }

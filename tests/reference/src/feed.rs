@@ -1,4 +1,5 @@
-//! The feed table, in full and within a budget: least losses by plain relaxation, queue moves by playing the calls.
+//! The feed table at a minute of the day, in full and within a budget: least losses by plain relaxation of the spans
+//! that are usable then, queue moves by playing the calls.
 
 use crate::call::Call;
 use crate::queue::Queues;
@@ -7,13 +8,45 @@ use crate::store::{self, NONE};
 pub const MAX_PLACES: u32 = 4096;
 pub const MAX_SPANS: usize = 16_384;
 pub const MAX_LOSS: u32 = 1_000_000;
+/// The minutes of a day. A window may close at this minute, when the day is over.
+pub const MINUTES: u32 = 1_440;
 
-/// The three span lists as they are lent; their lengths may differ.
+/// The five span lists as they are lent; their lengths may differ.
 #[derive(Clone, Copy)]
 pub struct Spans<'a> {
     pub from: &'a [u32],
     pub to: &'a [u32],
     pub loss: &'a [u32],
+    pub opens: &'a [u32],
+    pub closes: &'a [u32],
+}
+
+impl Spans<'_> {
+    fn lengths_differ(&self) -> bool {
+        let count = self.from.len();
+        [self.to, self.loss, self.opens, self.closes].iter().any(|list| list.len() != count)
+    }
+}
+
+/// What a feed call asks for.
+#[derive(Clone, Copy)]
+pub struct Asked<'a> {
+    pub places: u32,
+    pub start: u32,
+    pub minute: u32,
+    pub spans: Spans<'a>,
+}
+
+impl Asked<'_> {
+    /// Whether the span is open at the minute asked for: its opening minute is in its window, its closing one is not.
+    pub fn is_usable(&self, span: usize) -> bool {
+        self.spans.opens[span] <= self.minute && self.minute < self.spans.closes[span]
+    }
+
+    /// The usable spans in list order.
+    fn usable(&self) -> Vec<usize> {
+        (0..self.spans.from.len()).filter(|&span| self.is_usable(span)).collect()
+    }
 }
 
 #[derive(Clone, Copy, Debug, Default, PartialEq, Eq)]
@@ -47,50 +80,54 @@ impl Within {
 }
 
 /// The full feed call.
-pub fn table(places: u32, start: u32, spans: Spans, lent: Lent) -> Figures {
-    match refusal(places, start, spans, &lent, None) {
-        0 => fill(places, start, spans, None, lent),
+pub fn table(asked: Asked, lent: Lent) -> Figures {
+    match refusal(asked, &lent, None) {
+        0 => fill(asked, None, lent),
         code => Figures { code, ..Figures::default() },
     }
 }
 
 /// The feed call with a budget. Words of `listed` beyond the places listed stay.
-pub fn within(places: u32, start: u32, spans: Spans, budget: u32, lent: Lent, listed: &mut [u32]) -> Within {
-    let code = refusal(places, start, spans, &lent, Some(listed.len()));
+pub fn within(asked: Asked, budget: u32, lent: Lent, listed: &mut [u32]) -> Within {
+    let code = refusal(asked, &lent, Some(listed.len()));
     if code != 0 {
         return Within { figures: Figures { code, ..Figures::default() }, listed: 0 };
     }
     let Lent { best, last, words } = lent;
-    let figures = fill(places, start, spans, Some(budget), Lent { best: &mut *best, last, words });
-    let mut order: Vec<u32> = (0..places).filter(|&place| best[place as usize] != NONE).collect();
+    let figures = fill(asked, Some(budget), Lent { best: &mut *best, last, words });
+    let mut order: Vec<u32> = (0..asked.places).filter(|&place| best[place as usize] != NONE).collect();
     order.sort_by_key(|&place| (best[place as usize], place));
     listed[..order.len()].copy_from_slice(&order);
     Within { figures, listed: order.len() as u32 }
 }
 
 /// Fills the lists of a call that isn't refused: the full table, with none and none at the places beyond the budget.
-fn fill(places: u32, start: u32, spans: Spans, budget: Option<u32>, lent: Lent) -> Figures {
-    let best = least_losses(places, start, spans);
-    let last = last_spans(&best, start, spans);
+fn fill(asked: Asked, budget: Option<u32>, lent: Lent) -> Figures {
+    let best = least_losses(asked);
+    let last = last_spans(asked, &best);
     let shown = |place: usize| best[place] != NONE && budget.is_none_or(|budget| best[place] <= budget);
-    for place in 0..places as usize {
+    for place in 0..asked.places as usize {
         (lent.best[place], lent.last[place]) = if shown(place) { (best[place], last[place]) } else { (NONE, NONE) };
     }
-    lent.words.copy_from_slice(&store::empty(places as usize));
-    let (links, cuts) = moves(places, start, spans, budget);
-    let examined = spans.from.iter().filter(|&&from| shown(from as usize)).count() as u32;
+    lent.words.copy_from_slice(&store::empty(asked.places as usize));
+    let (links, cuts) = moves(asked, budget);
+    // Closed spans are tried too.
+    let examined = asked.spans.from.iter().filter(|&&from| shown(from as usize)).count() as u32;
     Figures { code: 0, links, cuts, examined }
 }
 
 /// The code that refuses a call; `listed` is the length of the place list, where one is lent.
-pub fn refusal(places: u32, start: u32, spans: Spans, lent: &Lent, listed: Option<usize>) -> u32 {
+pub fn refusal(asked: Asked, lent: &Lent, listed: Option<usize>) -> u32 {
+    let Asked { places, start, minute, spans } = asked;
     let count = spans.from.len();
     let per_place = places as usize;
     if places == 0 || places > MAX_PLACES {
         14
     } else if start >= places {
         15
-    } else if spans.to.len() != count || spans.loss.len() != count || count > MAX_SPANS {
+    } else if minute >= MINUTES {
+        24
+    } else if spans.lengths_differ() || count > MAX_SPANS {
         16
     } else if lent.best.len() != per_place
         || lent.last.len() != per_place
@@ -104,25 +141,35 @@ pub fn refusal(places: u32, start: u32, spans: Spans, lent: &Lent, listed: Optio
     }
 }
 
-fn span_fault(places: u32, spans: Spans, span: usize) -> u32 {
+/// The code of a span, 0 if it has no fault.
+pub fn span_fault(places: u32, spans: Spans, span: usize) -> u32 {
     if spans.from[span] >= places || spans.to[span] >= places {
         18
     } else if spans.loss[span] < 1 || spans.loss[span] > MAX_LOSS {
         19
     } else if span > 0 && spans.from[span] < spans.from[span - 1] {
         20
+    } else if is_faulty_window(spans.opens[span], spans.closes[span]) {
+        23
     } else {
         0
     }
 }
 
-/// Relaxes every span until nothing changes.
-fn least_losses(places: u32, start: u32, spans: Spans) -> Vec<u32> {
+/// Whether a window is empty, turned round or longer than the day.
+pub fn is_faulty_window(opens: u32, closes: u32) -> bool {
+    closes <= opens || closes > MINUTES
+}
+
+/// Relaxes every usable span until nothing changes.
+fn least_losses(asked: Asked) -> Vec<u32> {
+    let Asked { places, start, spans, .. } = asked;
+    let usable = asked.usable();
     let mut best = vec![NONE; places as usize];
     best[start as usize] = 0;
     loop {
         let mut changed = false;
-        for span in 0..spans.from.len() {
+        for &span in &usable {
             let (from, to) = (spans.from[span] as usize, spans.to[span] as usize);
             if best[from] != NONE && best[from] + spans.loss[span] < best[to] {
                 best[to] = best[from] + spans.loss[span];
@@ -135,10 +182,11 @@ fn least_losses(places: u32, start: u32, spans: Spans) -> Vec<u32> {
     }
 }
 
-/// The lowest-numbered span that ends a chain of least loss; none at the start and where no chain is.
-fn last_spans(best: &[u32], start: u32, spans: Spans) -> Vec<u32> {
+/// The lowest-numbered usable span that ends a chain of least loss; none at the start and where no chain is.
+fn last_spans(asked: Asked, best: &[u32]) -> Vec<u32> {
+    let Asked { start, spans, .. } = asked;
     let mut last = vec![NONE; best.len()];
-    for span in (0..spans.from.len()).rev() {
+    for span in asked.usable().into_iter().rev() {
         let (from, to) = (spans.from[span] as usize, spans.to[span] as usize);
         if best[from] != NONE && best[from] + spans.loss[span] == best[to] && to != start as usize {
             last[to] = span as u32;
@@ -148,7 +196,8 @@ fn last_spans(best: &[u32], start: u32, spans: Spans) -> Vec<u32> {
 }
 
 /// Links and cuts of the queue calls, by making them until no place waits, or the first that does is beyond the budget.
-fn moves(places: u32, start: u32, spans: Spans, budget: Option<u32>) -> (u32, u32) {
+fn moves(asked: Asked, budget: Option<u32>) -> (u32, u32) {
+    let Asked { places, start, spans, .. } = asked;
     let mut queues = Queues::new(places);
     let mut met = vec![NONE; places as usize];
     let (mut links, mut cuts) = (0, 0);
@@ -163,7 +212,8 @@ fn moves(places: u32, start: u32, spans: Spans, budget: Option<u32>) -> (u32, u3
     make(&mut queues, Call::Insert { heap: 0, item: start, key: 0 });
     while first_key(&queues).is_some_and(|key| budget.is_none_or(|budget| key <= budget)) {
         let taken = make(&mut queues, Call::ExtractMin { heap: 0 });
-        for span in (0..spans.from.len()).filter(|&span| spans.from[span] == taken.item) {
+        let usable_from_there = |&span: &usize| spans.from[span] == taken.item && asked.is_usable(span);
+        for span in (0..spans.from.len()).filter(usable_from_there) {
             let (item, key) = (spans.to[span], taken.key + spans.loss[span]);
             let known = met[item as usize];
             if key < known {

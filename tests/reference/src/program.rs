@@ -1,8 +1,9 @@
 //! The two programs, from standard input to standard output.
 
-use crate::feed::{self, Lent, Spans};
+use crate::feed::{self, Asked, Lent, Spans};
+use crate::map::{self, Header, FIELDS};
 use crate::run::{self, LINE_ROOM, MAX_LINES};
-use crate::{map, store, NONE};
+use crate::{store, NONE};
 
 pub const ITEMS: usize = 1024;
 pub const SPANS: usize = 4096;
@@ -18,37 +19,37 @@ pub fn queue(sheet: &[u8]) -> Vec<u8> {
 }
 
 pub fn feed(text: &[u8]) -> Vec<u8> {
-    feed_sized(text, ITEMS, SPANS)
+    table_text(text).unwrap_or_else(|code| format!("{code}\n")).into_bytes()
 }
 
-/// The feed program with room for so many places and spans.
-pub fn feed_sized(text: &[u8], most: usize, spans: usize) -> Vec<u8> {
-    table_text(text, most, spans).unwrap_or_else(|code| format!("{code}\n")).into_bytes()
-}
-
-fn table_text(text: &[u8], most: usize, room: usize) -> Result<String, u32> {
-    let (mut from, mut to, mut loss) = (vec![0; room], vec![0; room], vec![0; room]);
-    let header = map::read(text, &mut from, &mut to, &mut loss);
+fn table_text(text: &[u8]) -> Result<String, u32> {
+    let mut lists = [(); FIELDS].map(|()| vec![0; SPANS]);
+    let header = map::read(text, lists.each_mut().map(|list| &mut list[..]));
     if header.code != 0 {
         return Err(header.code);
     }
-    if header.places as usize > most {
+    if header.places as usize > ITEMS {
         return Err(14);
     }
-    let (places, count) = (header.places as usize, header.spans as usize);
-    let spans = Spans { from: &from[..count], to: &to[..count], loss: &loss[..count] };
-    let (mut best, mut last) = (vec![0; places], vec![0; places]);
-    let mut words = vec![0; store::length(places)];
-    let lent = Lent { best: &mut best, last: &mut last, words: &mut words };
-    let figures = feed::table(header.places, header.start, spans, lent);
-    if figures.code != 0 {
-        return Err(figures.code);
+    let Header { places, start, minute, .. } = header;
+    let [from, to, loss, opens, closes] = lists.each_ref().map(|list| &list[..header.spans as usize]);
+    let asked = Asked { places, start, minute, spans: Spans { from, to, loss, opens, closes } };
+    let (mut best, mut last) = (vec![0; places as usize], vec![0; places as usize]);
+    let mut words = vec![0; store::length(places as usize)];
+    let figures = feed::table(asked, Lent { best: &mut best, last: &mut last, words: &mut words });
+    match figures.code {
+        0 => Ok(printed_table(&best, &last, [figures.links, figures.cuts, figures.examined])),
+        code => Err(code),
     }
+}
+
+/// The lines of a table, and one with the figures.
+pub fn printed_table(best: &[u32], last: &[u32], [links, cuts, examined]: [u32; 3]) -> String {
     let mut printed = String::new();
-    for place in 0..places {
-        printed += &format!("{place},{},{}\n", shown(best[place]), shown(last[place]));
+    for (place, (&loss, &span)) in best.iter().zip(last).enumerate() {
+        printed += &format!("{place},{},{}\n", shown(loss), shown(span));
     }
-    Ok(printed + &format!("{},{},{}\n", figures.links, figures.cuts, figures.examined))
+    printed + &format!("{links},{cuts},{examined}\n")
 }
 
 fn shown(word: u32) -> String {

@@ -1,6 +1,6 @@
 //! The feed call with a budget: the scope paper's map, and small maps worked by hand.
 
-use reference::feed::{self, Figures, Lent, Spans, Within};
+use reference::feed::{self, Asked, Figures, Lent, Spans, Within};
 use reference::{store, NONE};
 
 /// A word that no call leaves.
@@ -14,14 +14,25 @@ struct Left {
     words: Vec<u32>,
 }
 
+/// Spans given as (from, to, loss) as five lists, every window open all day.
+fn open_lists(spans: &[[u32; 3]]) -> [Vec<u32>; 5] {
+    let [from, to, loss] = [0, 1, 2].map(|field| spans.iter().map(|span| span[field]).collect());
+    [from, to, loss, vec![0; spans.len()], vec![1_440; spans.len()]]
+}
+
+fn spans_of(lists: &[Vec<u32>; 5]) -> Spans<'_> {
+    let [from, to, loss, opens, closes] = lists;
+    Spans { from, to, loss, opens, closes }
+}
+
 /// A call on spans given as (from, to, loss), with a place list of `room` words.
 fn call(places: u32, start: u32, spans: &[[u32; 3]], budget: u32, room: usize) -> Left {
-    let [from, to, loss] = [0, 1, 2].map(|field| spans.iter().map(|span| span[field]).collect::<Vec<u32>>());
+    let lists = open_lists(spans);
     let (mut best, mut last) = (vec![FOUND; places as usize], vec![FOUND; places as usize]);
     let (mut listed, mut words) = (vec![FOUND; room], vec![FOUND; store::length(places as usize)]);
     let lent = Lent { best: &mut best, last: &mut last, words: &mut words };
-    let spans = Spans { from: &from, to: &to, loss: &loss };
-    let within = feed::within(places, start, spans, budget, lent, &mut listed);
+    let asked = Asked { places, start, minute: 0, spans: spans_of(&lists) };
+    let within = feed::within(asked, budget, lent, &mut listed);
     Left { within, best, last, listed, words }
 }
 
@@ -98,10 +109,10 @@ fn an_unreached_place() {
 fn the_largest_budget_is_a_full_call() {
     let spans = [[0, 1, 9], [0, 2, 5], [0, 3, 8], [0, 4, 7], [1, 5, 1], [2, 3, 1], [2, 4, 1], [3, 1, 1], [4, 4, 3]];
     let left = call(6, 0, &spans, NONE, 6);
-    let [from, to, loss] = [0, 1, 2].map(|field| spans.iter().map(|span| span[field]).collect::<Vec<u32>>());
+    let lists = open_lists(&spans);
     let (mut best, mut last, mut words) = (vec![0; 6], vec![0; 6], vec![0; store::length(6)]);
     let lent = Lent { best: &mut best, last: &mut last, words: &mut words };
-    let full = feed::table(6, 0, Spans { from: &from, to: &to, loss: &loss }, lent);
+    let full = feed::table(Asked { places: 6, start: 0, minute: 0, spans: spans_of(&lists) }, lent);
     assert_eq!(left.within, Within { figures: full, listed: 6 });
     assert_eq!((left.best, left.last, left.words), (best, last, words));
     assert_eq!(left.listed, [0, 2, 3, 4, 1, 5]);

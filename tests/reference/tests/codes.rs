@@ -1,6 +1,7 @@
-//! The example of each code in the scope paper's table, and its exact limit; code 22 of the call with a budget.
+//! The example of each code in the scope paper's table, and its exact limit; code 22 of the call with a budget, and 23
+//! and 24 for windows and the minute.
 
-use reference::feed::{self, Lent, Spans};
+use reference::feed::{self, Asked, Lent, Spans};
 use reference::{map, run, store, Call, Queues};
 
 fn fresh_code(words: usize, sheet: &[u8], room: usize) -> u32 {
@@ -66,74 +67,234 @@ fn zeros_in_front() {
     assert_eq!(printed, "0,3,250,0,0\n0,3,249,0,0\n0,3,249,0,0\n0,1,1,0,0\n0,3,249,0,0\n");
 }
 
-/// A feed call with result lists of `listed` words and a store for `stored` places.
-fn feed_code(places: u32, start: u32, spans: [&[u32]; 3], listed: usize, stored: usize) -> u32 {
-    let (mut best, mut last) = (vec![0; listed], vec![0; listed]);
-    let mut words = vec![0; store::length(stored)];
-    let lent = Lent { best: &mut best, last: &mut last, words: &mut words };
-    feed::table(places, start, Spans { from: spans[0], to: spans[1], loss: spans[2] }, lent).code
+/// A feed call on three places with one span, of which a test changes what it is about.
+#[derive(Clone)]
+struct Tried {
+    places: u32,
+    start: u32,
+    minute: u32,
+    /// From, to, loss, opening and closing minutes.
+    lists: [Vec<u32>; 5],
+    /// The words of each result list, and the places that the store is for.
+    results: usize,
+    stored: usize,
+    /// The words of the place list, which only the call with a budget is lent.
+    listed: usize,
+}
+
+impl Tried {
+    fn new(spans: &[[u32; 5]]) -> Tried {
+        let lists = [0, 1, 2, 3, 4].map(|field| spans.iter().map(|span| span[field]).collect());
+        Tried { places: 3, start: 0, minute: 0, lists, results: 3, stored: 3, listed: 3 }
+    }
+
+    fn with(&self, change: impl Fn(&mut Tried)) -> Tried {
+        let mut tried = self.clone();
+        change(&mut tried);
+        tried
+    }
+
+    /// The codes of the full call and of one with a budget.
+    fn codes(&self) -> [u32; 2] {
+        let [from, to, loss, opens, closes] = &self.lists;
+        let spans = Spans { from, to, loss, opens, closes };
+        let asked = Asked { places: self.places, start: self.start, minute: self.minute, spans };
+        let (mut best, mut last) = (vec![0; self.results], vec![0; self.results]);
+        let mut words = vec![0; store::length(self.stored)];
+        let full = feed::table(asked, Lent { best: &mut best, last: &mut last, words: &mut words });
+        let lent = Lent { best: &mut best, last: &mut last, words: &mut words };
+        [full.code, feed::within(asked, 9, lent, &mut vec![0; self.listed]).figures.code]
+    }
+
+    /// The code, where both calls give the same one.
+    fn code(&self) -> u32 {
+        let [full, within] = self.codes();
+        assert_eq!(full, within);
+        full
+    }
+}
+
+/// The code of a call on three places with these spans, all of them always open.
+fn open_code(spans: &[[u32; 3]]) -> u32 {
+    let spans: Vec<[u32; 5]> = spans.iter().map(|&[from, to, loss]| [from, to, loss, 0, 1_440]).collect();
+    Tried::new(&spans).code()
 }
 
 #[test]
 fn feed_calls() {
-    let none: [&[u32]; 3] = [&[], &[], &[]];
-    assert_eq!(feed_code(0, 0, none, 0, 0), 14);
-    assert_eq!(feed_code(4097, 0, none, 4097, 4097), 14);
-    assert_eq!(feed_code(3, 3, none, 3, 3), 15);
-    assert_eq!(feed_code(3, 0, [&[0, 1], &[1, 2], &[1]], 3, 3), 16);
-    assert_eq!(feed_code(3, 0, none, 2, 3), 17);
-    assert_eq!(feed_code(3, 0, none, 3, 4), 17);
-    assert_eq!(feed_code(3, 0, [&[0], &[3], &[1]], 3, 3), 18);
-    assert_eq!(feed_code(3, 0, [&[0], &[1], &[0]], 3, 3), 19);
-    assert_eq!(feed_code(3, 0, [&[0], &[1], &[1_000_001]], 3, 3), 19);
-    assert_eq!(feed_code(3, 0, [&[0], &[1], &[1_000_000]], 3, 3), 0);
-    assert_eq!(feed_code(3, 0, [&[1, 0], &[1, 1], &[1, 1]], 3, 3), 20);
-    assert_eq!(feed_code(3, 0, [&[0, 1, 0], &[1, 1, 3], &[1, 0, 1]], 3, 3), 19);
-}
-
-/// A feed call with a budget, with result lists of `results` words and a place list of `listed` words.
-fn budget_code(places: u32, start: u32, spans: [&[u32]; 3], results: usize, listed: usize) -> u32 {
-    let (mut best, mut last) = (vec![0; results], vec![0; results]);
-    let mut words = vec![0; store::length(3)];
-    let lent = Lent { best: &mut best, last: &mut last, words: &mut words };
-    let spans = Spans { from: spans[0], to: spans[1], loss: spans[2] };
-    feed::within(places, start, spans, 9, lent, &mut vec![0; listed]).figures.code
+    let none = Tried::new(&[]);
+    assert_eq!(none.code(), 0);
+    assert_eq!(none.with(|tried| tried.places = 0).code(), 14);
+    assert_eq!(none.with(|tried| (tried.places, tried.results, tried.stored) = (4097, 4097, 4097)).code(), 14);
+    assert_eq!(none.with(|tried| tried.start = 3).code(), 15);
+    assert_eq!(none.with(|tried| tried.results = 2).code(), 17);
+    assert_eq!(none.with(|tried| tried.stored = 4).code(), 17);
+    assert_eq!(open_code(&[[0, 3, 1]]), 18);
+    assert_eq!(open_code(&[[0, 1, 0]]), 19);
+    assert_eq!(open_code(&[[0, 1, 1_000_001]]), 19);
+    assert_eq!(open_code(&[[0, 1, 1_000_000]]), 0);
+    assert_eq!(open_code(&[[1, 1, 1], [0, 1, 1]]), 20);
+    assert_eq!(open_code(&[[0, 1, 1], [1, 1, 0], [0, 3, 1]]), 19);
 }
 
 #[test]
-fn feed_calls_with_a_budget() {
-    let one: [&[u32]; 3] = [&[0], &[1], &[1]];
-    assert_eq!(budget_code(3, 0, one, 3, 2), 22);
-    assert_eq!(budget_code(3, 0, one, 3, 0), 22);
-    assert_eq!(budget_code(3, 0, one, 3, 3), 0);
-    assert_eq!(budget_code(3, 0, one, 3, 9), 0);
-    // After 14 to 17, before the spans.
-    assert_eq!(budget_code(4097, 0, one, 3, 2), 14);
-    assert_eq!(budget_code(3, 3, one, 3, 2), 15);
-    assert_eq!(budget_code(3, 0, [&[0], &[1], &[]], 3, 2), 16);
-    assert_eq!(budget_code(3, 0, one, 2, 2), 17);
-    for (span, code) in [([0, 3, 1], 18), ([0, 1, 0], 19)] {
-        let spans = [&span[0..1], &span[1..2], &span[2..3]];
-        assert_eq!([2, 3].map(|listed| budget_code(3, 0, spans, 3, listed)), [22, code]);
+fn span_lists() {
+    let two = Tried::new(&[[0, 1, 1, 0, 1_440], [1, 2, 1, 0, 1_440]]);
+    assert_eq!(two.code(), 0);
+    for list in 0..5 {
+        assert_eq!(two.with(|tried| tried.lists[list].truncate(1)).code(), 16);
+        assert_eq!(two.with(|tried| tried.lists[list].push(1)).code(), 16);
     }
-    let falling: [&[u32]; 3] = [&[1, 0], &[1, 1], &[1, 1]];
-    assert_eq!([2, 3].map(|listed| budget_code(3, 0, falling, 3, listed)), [22, 20]);
+    for (count, code) in [(16_384, 0), (16_385, 16)] {
+        assert_eq!(Tried::new(&vec![[0, 1, 1, 0, 1_440]; count]).code(), code);
+    }
+}
+
+#[test]
+fn minutes() {
+    let one = Tried::new(&[[0, 1, 1, 0, 1_440]]);
+    for (minute, code) in [(0, 0), (1_439, 0), (1_440, 24), (1_441, 24), (u32::MAX, 24)] {
+        assert_eq!(one.with(|tried| tried.minute = minute).code(), code);
+    }
+    // After 14 and 15, before all others.
+    let late = one.with(|tried| tried.minute = 1_440);
+    assert_eq!(late.with(|tried| tried.places = 0).code(), 14);
+    assert_eq!(late.with(|tried| tried.start = 3).code(), 15);
+    assert_eq!(late.with(|tried| tried.lists[4].clear()).code(), 24);
+    assert_eq!(late.with(|tried| tried.results = 2).code(), 24);
+    assert_eq!(late.with(|tried| tried.listed = 2).code(), 24);
+    for (list, word) in [(0, 3), (2, 0), (4, 0)] {
+        assert_eq!(late.with(|tried| tried.lists[list][0] = word).code(), 24);
+    }
+}
+
+#[test]
+fn windows() {
+    let code = |opens, closes| Tried::new(&[[0, 1, 1, opens, closes]]).code();
+    for (opens, closes) in [(0, 1), (0, 1_440), (1_439, 1_440), (600, 601)] {
+        assert_eq!(code(opens, closes), 0, "{opens} to {closes}");
+    }
+    for (opens, closes) in [(0, 0), (1_440, 1_440), (601, 600), (1_440, 0), (0, 1_441), (0, u32::MAX), (1_440, 1_441)] {
+        assert_eq!(code(opens, closes), 23, "{opens} to {closes}");
+    }
+}
+
+/// A span with a fault of each code, in the order in which one span is tested: it comes after one from place 1.
+const FAULTY: [(u32, [u32; 5]); 6] = [
+    (18, [1, 3, 1, 0, 1_440]),
+    (19, [1, 1, 0, 0, 1_440]),
+    (20, [0, 1, 1, 0, 1_440]),
+    (23, [1, 1, 1, 600, 600]),
+    (23, [1, 1, 1, 600, 599]),
+    (23, [1, 1, 1, 0, 1_441]),
+];
+
+/// Two faults on one span: each number is the faulty one of either span, if one is.
+fn both_faults(a: [u32; 5], b: [u32; 5]) -> [u32; 5] {
+    let good = [1, 1, 1, 0, 1_440];
+    std::array::from_fn(|field| if a[field] != good[field] { a[field] } else { b[field] })
+}
+
+#[test]
+fn two_faulty_spans() {
+    let before = [1, 2, 1, 0, 1_440];
+    let good = [1, 1, 1, 0, 1_440];
+    for (first, (code, a)) in FAULTY.into_iter().enumerate() {
+        assert_eq!(Tried::new(&[before, a]).code(), code);
+        // On one span the code that is tested first.
+        for (later, b) in FAULTY.into_iter().skip(first) {
+            assert_eq!(Tried::new(&[before, both_faults(a, b)]).code(), code, "{code} and {later}");
+        }
+        // Among spans the first that is faulty, whatever the codes.
+        for (_, b) in FAULTY {
+            assert_eq!(Tried::new(&[before, a, b]).code(), code);
+            assert_eq!(Tried::new(&[before, a, good, b]).code(), code);
+        }
+    }
+}
+
+#[test]
+fn closed_spans_are_tested() {
+    for (code, span) in [(18, [0, 3, 1, 0, 9]), (19, [0, 1, 0, 0, 9]), (23, [0, 1, 1, 9, 9]), (0, [0, 1, 1, 0, 9])] {
+        for minute in [0, 8, 9, 1_439] {
+            assert_eq!(Tried::new(&[span]).with(|tried| tried.minute = minute).code(), code);
+        }
+    }
+    assert_eq!(Tried::new(&[[1, 1, 1, 700, 701], [0, 1, 1, 700, 701]]).code(), 20);
+}
+
+#[test]
+fn place_lists() {
+    let one = Tried::new(&[[0, 1, 1, 0, 1_440]]);
+    let short = one.with(|tried| tried.listed = 2);
+    assert_eq!(short.codes(), [0, 22]);
+    assert_eq!(one.with(|tried| tried.listed = 0).codes(), [0, 22]);
+    assert_eq!(one.code(), 0);
+    assert_eq!(one.with(|tried| tried.listed = 9).code(), 0);
+    // After 14 to 17, before the spans.
+    assert_eq!(short.with(|tried| tried.places = 4097).code(), 14);
+    assert_eq!(short.with(|tried| tried.start = 3).code(), 15);
+    assert_eq!(short.with(|tried| tried.lists[2].clear()).code(), 16);
+    assert_eq!(short.with(|tried| tried.results = 2).code(), 17);
+    for (code, span) in FAULTY {
+        let spans = Tried::new(&[[1, 2, 1, 0, 1_440], span]);
+        assert_eq!(spans.with(|tried| tried.listed = 2).codes(), [code, 22]);
+    }
 }
 
 fn map_code(text: &[u8], room: usize) -> u32 {
-    map::read(text, &mut vec![0; room], &mut vec![0; room], &mut vec![0; room]).code
+    let mut lists = [(); 5].map(|()| vec![0; room]);
+    map::read(text, lists.each_mut().map(|list| &mut list[..])).code
 }
 
 #[test]
 fn map_texts() {
-    assert_eq!(map_code(b"3,0\n0,1", 4), 21);
+    assert_eq!(map_code(b"3,0,0\n0,1", 4), 21);
     assert_eq!(map_code(b"", 4), 21);
-    assert_eq!(map_code(b"3,0\n\n", 4), 21);
-    assert_eq!(map_code(b"3,0\n0,1,2\n0,1,2", 1), 16);
-    assert_eq!(map_code(b"3,0\n0,1,2\n0,1", 1), 21);
-    assert_eq!(map_code(b"3,0\n0,1,2\n0,1,2", 2), 0);
-    assert_eq!(map::read(b"3,0", &mut [1], &mut [1, 2], &mut [1]).code, 16);
-    assert_eq!(map_code(b"03,0000000000\n00,1,02", 1), 0);
-    assert_eq!(map_code(b"3,00000000000\n", 1), 21);
-    assert_eq!(map_code(b"3,0\n0,1,00000000002", 1), 21);
+    assert_eq!(map_code(b"3,0,0\n\n", 4), 21);
+    assert_eq!(map_code(b"3,0,0\n0,1,2,0,9\n0,1,2,0,9", 1), 16);
+    assert_eq!(map_code(b"3,0,0\n0,1,2,0,9\n0,1,2,0", 1), 21);
+    assert_eq!(map_code(b"3,0,0\n0,1,2,0,9\n0,1,2,0,9", 2), 0);
+    assert_eq!(map_code(b"03,0000000000,01439\n00,1,02,000,01440", 1), 0);
+    assert_eq!(map_code(b"3,00000000000,0\n", 1), 21);
+    assert_eq!(map_code(b"3,0,00000000000\n", 1), 21);
+    assert_eq!(map_code(b"3,0,0\n0,1,2,0,00000001440", 1), 21);
+}
+
+/// A text of a first line and one more with so many numbers each.
+fn numbered(head: usize, span: usize) -> Vec<u8> {
+    [vec!["1"; head].join(","), vec!["1"; span].join(",")].join("\n").into_bytes()
+}
+
+#[test]
+fn numbers_of_a_map_line() {
+    for head in 1..=6 {
+        for span in 1..=7 {
+            let code = if (head, span) == (3, 5) { 0 } else { 21 };
+            assert_eq!(map_code(&numbered(head, span), 1), code, "{head} and {span} numbers");
+        }
+    }
+}
+
+#[test]
+fn map_lists() {
+    for list in 0..5 {
+        for other in [0, 2] {
+            let mut lists = [(); 5].map(|()| vec![7; 1]);
+            lists[list] = vec![7; other];
+            let header = map::read(b"3,0,0", lists.each_mut().map(|list| &mut list[..]));
+            assert_eq!((header.code, header.numbers()), (16, [0; 4]));
+            assert!(lists.iter().flatten().all(|&word| word == 7));
+        }
+    }
+}
+
+/// The reader keeps what it reads, also where no feed call would accept it.
+#[test]
+fn numbers_of_a_map() {
+    let mut lists = [(); 5].map(|()| vec![7; 3]);
+    let header =
+        map::read(b"9,10,4294967295\n8,6,0,5,4\n1,2,3,1441,9999\n", lists.each_mut().map(|list| &mut list[..]));
+    assert_eq!((header.code, header.numbers()), (0, [9, 10, u32::MAX, 2]));
+    assert_eq!(lists, [[8, 1, 7], [6, 2, 7], [0, 3, 7], [5, 1_441, 7], [4, 9_999, 7]]);
 }

@@ -8,7 +8,7 @@ use crate::random::Random;
 use reference::{store, NONE};
 
 /// A call with a place list that is longer than the places by `more`.
-fn call(feed: &FeedCall, budget: u32, more: usize) -> BudgetCall {
+pub fn call(feed: &FeedCall, budget: u32, more: usize) -> BudgetCall {
     BudgetCall { budget, listed: feed.places as usize + more, feed: feed.clone() }
 }
 
@@ -22,7 +22,7 @@ fn budgets(losses: &[u32]) -> Vec<u32> {
     budgets
 }
 
-fn holds(law: bool, what: &str, call: &BudgetCall) -> Verdict {
+pub fn holds(law: bool, what: &str, call: &BudgetCall) -> Verdict {
     match law {
         true => Ok(()),
         false => Err(format!("{what}; {call:?}").chars().take(600).collect()),
@@ -64,7 +64,7 @@ pub fn worked(checker: &mut Checker) -> Verdict {
 }
 
 /// Calls with every budget around a loss of the map, and what must hold between them and the full call.
-fn every_budget(checker: &mut Checker, feed: &FeedCall, more: usize) -> Verdict {
+pub fn every_budget(checker: &mut Checker, feed: &FeedCall, more: usize) -> Verdict {
     let full = checker.fed(feed)?;
     expect(full.code, 0, "full call")?;
     let mut fewest = 0;
@@ -97,7 +97,7 @@ pub fn limits(checker: &mut Checker) -> Verdict {
     for Case { call: feed, code, what } in feeds::limit_cases() {
         // No list of 4,294,967,295 words is lent: 14 comes before its length.
         let places = feed.places.min(4097) as usize;
-        let short_code = if (14..=17).contains(&code) { code } else { 22 };
+        let short_code = if [14, 15, 24, 16, 17].contains(&code) { code } else { 22 };
         for (listed, code) in [(places, code), (places + 5, code), (places.saturating_sub(1), short_code)] {
             let call = BudgetCall { budget: 7, listed, feed: feed.clone() };
             expect(checker.budget(&call)?.code, code, what)?;
@@ -115,32 +115,22 @@ pub fn limits(checker: &mut Checker) -> Verdict {
 }
 
 /// The faults of a call, in the order in which they are tested.
-const FAULTS: [u32; 8] = [14, 15, 16, 17, 22, 18, 19, 20];
-
-/// Makes a call faulty, in one of several ways. The codes 18 to 20 are all on the last span.
-fn make_faulty(call: &mut BudgetCall, code: u32, way: usize) {
-    let feed = &mut call.feed;
-    match code {
-        14 => feed.places = [0, 4097, NONE][way % 3],
-        15 => feed.start = [3, NONE][way % 2],
-        16 => [&mut feed.from, &mut feed.to, &mut feed.loss][way % 3].push(1),
-        17 => *[&mut feed.best, &mut feed.last, &mut feed.words][way % 3] -= 1,
-        22 => call.listed = [2, 0][way % 2],
-        18 => [&mut feed.from, &mut feed.to][way % 2][2] = 3,
-        19 => feed.loss[2] = [0, 1_000_001][way % 2],
-        _ => feed.from[1] = feed.from[2] + 1,
-    }
-}
+const FAULTS: [u32; 10] = [14, 15, 24, 16, 17, 22, 18, 19, 20, 23];
 
 /// Every choice of faults at once: the one tested first gives the code.
 pub fn several_faults(checker: &mut Checker) -> Verdict {
     let good = maps::call(3, 0, &WORKED);
-    for chosen in 0..1 << FAULTS.len() {
+    for bits in 0..1 << FAULTS.len() {
+        let faults = feeds::chosen(FAULTS, bits);
         for way in 0..6 {
             let mut call = call(&good, 11, way % 4);
-            let faults = (0..FAULTS.len()).filter(|fault| chosen >> fault & 1 == 1).map(|fault| FAULTS[fault]);
-            faults.clone().for_each(|code| make_faulty(&mut call, code, way));
-            expect(checker.budget(&call)?.code, faults.clone().next().unwrap_or(0), "several faults")?;
+            for &code in &faults {
+                match code {
+                    22 => call.listed = [2, 0][way % 2],
+                    code => feeds::make_faulty(&mut call.feed, code, way),
+                }
+            }
+            expect(checker.budget(&call)?.code, faults.first().copied().unwrap_or(0), "several faults")?;
         }
     }
     Ok(())
@@ -220,7 +210,7 @@ pub fn large_maps(checker: &mut Checker) -> Verdict {
 }
 
 /// Budgets around the losses of a few places, near and far.
-fn some_budgets(checker: &mut Checker, feed: &FeedCall) -> Verdict {
+pub fn some_budgets(checker: &mut Checker, feed: &FeedCall) -> Verdict {
     let mut losses = checker.fed(feed)?.lists[0].clone();
     losses.retain(|&loss| loss != NONE);
     losses.sort();

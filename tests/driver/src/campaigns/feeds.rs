@@ -58,7 +58,7 @@ pub fn limits(checker: &mut Checker) -> Verdict {
     Ok(())
 }
 
-/// Codes 14 to 20 at their limits, alone and together.
+/// Codes 14 to 20, 23 and 24 at their limits, alone and together.
 pub fn limit_cases() -> Vec<Case> {
     let good = maps::call(3, 0, &WORKED);
     let mut cases = Vec::new();
@@ -76,33 +76,34 @@ pub fn limit_cases() -> Vec<Case> {
     for (start, code) in [(2, 0), (3, 15), (NONE, 15)] {
         cases.push(case(code, "start", changed(&good, |call| call.start = start)));
     }
+    for (minute, code) in [(0, 0), (1, 0), (1_438, 0), (1_439, 0), (1_440, 24), (1_441, 24), (65_536, 24), (NONE, 24)] {
+        cases.push(case(code, "minute", changed(&good, |call| call.minute = minute)));
+    }
     cases.extend(span_lists(&good));
     cases.extend(result_lists(&good));
     cases.extend(losses_and_places(&good));
+    cases.extend(windows(&good));
     cases.extend(orders(&good));
     cases
 }
 
+/// Each of the five lists shorter or longer than the others, and some of them together.
 fn span_lists(good: &FeedCall) -> Vec<Case> {
-    let shorter: [fn(&mut FeedCall); 4] = [
-        |call| call.from.truncate(2),
-        |call| call.to.truncate(2),
-        |call| call.loss.truncate(2),
-        |call| {
-            call.from.truncate(2);
-            call.to.truncate(2);
-        },
-    ];
     let mut cases = Vec::new();
-    for shorten in shorter {
-        cases.push(case(16, "unequal span lists", changed(good, shorten)));
-        // 16 comes before 17 and 18.
-        let call = changed(good, |call| {
-            shorten(call);
-            call.best = 2;
-            call.to[0] = 9;
-        });
-        cases.push(case(16, "unequal span lists with later faults", call));
+    for chosen in 1..(1 << 5) - 1 {
+        for length in [0, 2, 4] {
+            let call = changed(good, |call| {
+                let lists = call.lists().into_iter().enumerate().filter(|(list, _)| chosen >> list & 1 == 1);
+                lists.for_each(|(_, list)| list.resize(length, 1));
+            });
+            // 16 comes before 17 and 18.
+            let later_faults = changed(&call, |call| {
+                call.best = 2;
+                call.to.iter_mut().for_each(|to| *to = 9);
+            });
+            cases.push(case(16, "unequal span lists", call));
+            cases.push(case(16, "unequal span lists with later faults", later_faults));
+        }
     }
     let mut random = Random::new(10);
     for (count, code) in [(16_384, 0), (16_385, 16)] {
@@ -144,6 +145,23 @@ fn losses_and_places(good: &FeedCall) -> Vec<Case> {
     cases
 }
 
+/// Windows that are right, empty, turned round or longer than a day, on each span.
+fn windows(good: &FeedCall) -> Vec<Case> {
+    let right = [(0, 1), (0, 1_440), (1_439, 1_440), (719, 720)].map(|window| (window, 0));
+    let empty = [(0, 0), (1, 1), (720, 720), (1_440, 1_440), (NONE, NONE)].map(|window| (window, 23));
+    let turned = [(1, 0), (720, 719), (1_440, 0), (1_440, 1_439), (NONE, 1_440)].map(|window| (window, 23));
+    let long =
+        [(0, 1_441), (1_439, 1_441), (1_440, 1_441), (0, 65_537), (0, NONE), (1_441, 1_442)].map(|window| (window, 23));
+    let mut cases = Vec::new();
+    for span in 0..3 {
+        for &((opens, closes), code) in right.iter().chain(&empty).chain(&turned).chain(&long) {
+            let call = changed(good, |call| (call.opens[span], call.closes[span]) = (opens, closes));
+            cases.push(case(code, "window", call));
+        }
+    }
+    cases
+}
+
 fn orders(good: &FeedCall) -> Vec<Case> {
     let mut cases = Vec::new();
     for (from, code) in [([0, 0, 0], 0), ([1, 1, 1], 0), ([1, 0, 2], 20), ([0, 2, 1], 20), ([2, 2, 2], 0)] {
@@ -180,6 +198,42 @@ pub fn random_maps(checker: &mut Checker) -> Verdict {
     Ok(())
 }
 
+/// The faults of a call, in the order in which they are tested.
+const FAULTS: [u32; 9] = [14, 15, 24, 16, 17, 18, 19, 20, 23];
+
+/// Makes a call faulty, in one of several ways. The codes 18 to 20 and 23 are all on the last span.
+pub fn make_faulty(feed: &mut FeedCall, code: u32, way: usize) {
+    match code {
+        14 => feed.places = [0, 4097, NONE][way % 3],
+        15 => feed.start = [3, NONE][way % 2],
+        24 => feed.minute = [1_440, 1_441, NONE][way % 3],
+        16 => feed.lists()[way % 5].push(1),
+        17 => *[&mut feed.best, &mut feed.last, &mut feed.words][way % 3] -= 1,
+        18 => [&mut feed.from, &mut feed.to][way % 2][2] = 3,
+        19 => feed.loss[2] = [0, 1_000_001][way % 2],
+        20 => feed.from[1] = feed.from[2] + 1,
+        _ => (feed.opens[2], feed.closes[2]) = [(600, 600), (601, 600), (0, 1_441)][way % 3],
+    }
+}
+
+/// Which of some faults are chosen by the bits of a number.
+pub fn chosen<const N: usize>(faults: [u32; N], bits: usize) -> Vec<u32> {
+    (0..N).filter(|fault| bits >> fault & 1 == 1).map(|fault| faults[fault]).collect()
+}
+
+/// Every choice of faults at once: the one tested first gives the code.
+pub fn several_faults(checker: &mut Checker) -> Verdict {
+    for bits in 0..1 << FAULTS.len() {
+        let faults = chosen(FAULTS, bits);
+        for way in 0..6 {
+            let mut call = maps::call(3, 0, &WORKED);
+            faults.iter().for_each(|&code| make_faulty(&mut call, code, way));
+            expect(checker.feed(&call)?, faults.first().copied().unwrap_or(0), "several faults")?;
+        }
+    }
+    Ok(())
+}
+
 pub fn faulty_spans(checker: &mut Checker) -> Verdict {
     let mut random = Random::new(12);
     for _ in 0..6_000 {
@@ -188,18 +242,31 @@ pub fn faulty_spans(checker: &mut Checker) -> Verdict {
     Ok(())
 }
 
-/// A small map with one or two numbers of its spans changed.
+/// A small map with one or two of its numbers changed.
 pub fn faulty(random: &mut Random) -> FeedCall {
     let mut call = maps::small(random);
+    if random.chance(50) {
+        let cuts = maps::cuts(random);
+        maps::give_windows(random, &mut call, &cuts);
+    }
     for _ in 0..1 + random.size(2) {
         if call.from.is_empty() {
             break;
         }
         let span = random.size(call.from.len());
-        match random.below(4) {
+        match random.below(7) {
             0 => call.from[span] = *random.pick(&[0, call.places - 1, call.places, NONE]),
             1 => call.to[span] = *random.pick(&[0, call.places - 1, call.places, NONE]),
             2 => call.loss[span] = *random.pick(&[0, 1, 1_000_000, 1_000_001, NONE]),
+            3 => {
+                call.opens[span] =
+                    *random.pick(&[0, call.minute, call.closes[span].saturating_sub(1), call.closes[span], NONE])
+            }
+            4 => {
+                call.closes[span] =
+                    *random.pick(&[0, call.opens[span], call.opens[span].saturating_add(1), 1_440, 1_441, NONE])
+            }
+            5 => call.minute = *random.pick(&[0, call.opens[span], 1_439, 1_440, NONE]),
             _ => call.from.swap(0, span),
         }
     }

@@ -125,10 +125,19 @@ fn in_pieces(checker: &mut Checker, first: &[u32], pieces: &[&[Vec<u8>]], whole:
 
 /// Map texts with one field open, in the first line or in a span line, and the file's end before or after a last LF.
 fn map_texts(text: &str) -> Vec<String> {
-    ["#,0\n0,1,7\n", "3,#\n0,1,7\n", "3,0\n#,1,7\n0,2,9\n", "3,0\n0,#,7\n0,2,9", "3,0\n0,2,9\n0,1,#", "3,0\n0,1,#\n"]
-        .iter()
-        .map(|map| map.replace('#', text))
-        .collect()
+    let maps = [
+        "#,0,0\n0,1,7,0,1440\n",
+        "3,#,0\n0,1,7,0,1440\n",
+        "3,0,#\n0,1,7,0,1440\n",
+        "3,0,0\n#,1,7,0,1440\n0,2,9,0,1440\n",
+        "3,0,0\n0,#,7,0,1440\n0,2,9,0,1440",
+        "3,0,0\n0,2,9,0,1440\n0,1,#,0,1440",
+        "3,0,0\n0,1,#,0,1440\n",
+        "3,0,0\n0,1,7,#,1440\n0,2,9,0,1440\n",
+        "3,0,0\n0,2,9,0,1440\n0,1,7,0,#",
+        "3,0,0\n0,1,7,0,#\n",
+    ];
+    maps.iter().map(|map| map.replace('#', text)).collect()
 }
 
 pub fn maps(checker: &mut Checker) -> Verdict {
@@ -136,7 +145,7 @@ pub fn maps(checker: &mut Checker) -> Verdict {
         for zeros in ZEROS {
             let code = if is_number(zeros, value) { 0 } else { 21 };
             for text in map_texts(&padded(zeros, value)) {
-                expect(checker.read(text.as_bytes(), [3; 3])?, code, &text)?;
+                expect(checker.read(text.as_bytes(), [3; 5])?, code, &text)?;
             }
         }
     }
@@ -160,7 +169,7 @@ pub fn queue_program(checker: &mut Checker) -> Verdict {
 }
 
 pub fn feed_program(checker: &mut Checker) -> Verdict {
-    for value in [2, 1_000_000, 4_294_967_295, 4_294_967_296] {
+    for value in [2, 1_440, 1_000_000, 4_294_967_295, 4_294_967_296] {
         for zeros in ZEROS {
             for text in map_texts(&padded(zeros, value)) {
                 checker.feed_program(text.as_bytes())?;

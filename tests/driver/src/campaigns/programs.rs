@@ -2,7 +2,8 @@
 
 use super::codes;
 use super::feeds;
-use crate::check::{Checker, Verdict};
+use super::windows;
+use crate::check::{Checker, FeedCall, Verdict};
 use crate::malformed;
 use crate::maps;
 use crate::random::Random;
@@ -40,33 +41,36 @@ pub fn feed(checker: &mut Checker) -> Verdict {
         "",
         "\n",
         "3",
-        "3,3",
-        "0,0",
-        "1024,1023",
-        "1025,0",
-        "1025,1025\n0,1,2",
-        "4294967295,0",
-        "3,0\n0,3,1",
-        "3,0\n0,1,0",
-        "3,0\n1,1,1\n0,1,1",
-        "3,0\n0,1",
-        "3,0\n0,1,1000001",
-        "3,0\n0,1,1000000\n",
-        "2,0\n0,1,1\n0,1,1\n1,1,1\n1,0,1\n",
-        "1,0",
-        "3,1\n0,1,7\n",
-        "4,0\n0,1,2\n0,2,1\n1,3,1\n2,3,2\n",
+        "3,0",
+        "3,3,0",
+        "0,0,0",
+        "1024,1023,1439",
+        "1025,0,0",
+        "1025,1025,1440\n0,1,2,0,1440",
+        "4294967295,0,0",
+        "3,0,0\n0,3,1,0,1440",
+        "3,0,0\n0,1,0,0,1440",
+        "3,0,0\n1,1,1,0,1440\n0,1,1,0,1440",
+        "3,0,0\n0,1",
+        "3,0\n0,1,7\n0,2,20\n1,2,5\n",
+        "3,0,0\n0,1,7\n",
+        "3,0,0\n0,1,1000001,0,1440",
+        "3,0,0\n0,1,1000000,0,1440\n",
+        "2,0,9\n0,1,1,0,1440\n0,1,1,0,1440\n1,1,1,0,1440\n1,0,1,0,1440\n",
+        "1,0,0",
+        "3,1,0\n0,1,7,0,1440\n",
+        "4,0,1439\n0,1,2,0,1440\n0,2,1,0,1440\n1,3,1,0,1440\n2,3,2,0,1440\n",
     ];
     inputs.extend(texts.map(|text| text.as_bytes().to_vec()));
     // 4,096 spans fit, one more does not, whatever else is wrong with the map.
     for (count, places) in [(4_096, 2), (4_097, 2), (4_097, 1_025), (4_096, 1_025)] {
         inputs.push(maps::text(places, 0, &vec![[0, 1, 9]; count], false));
     }
-    inputs.extend([[&b"2,0\n"[..], &vec![b'0'; 60_000]].concat(), [&b"2,0\n"[..], &b"0,1,1\n".repeat(9_999)].concat()]);
+    let head = &b"2,0,0\n"[..];
+    inputs.extend([[head, &vec![b'0'; 60_000]].concat(), [head, &b"0,1,1,0,1\n".repeat(5_999)].concat()]);
     // The longest map that is read, and one byte more.
-    let mut longest = b"1001,0\n".to_vec();
-    longest.extend(b"1000,1000,1000000\n".repeat(3_332));
-    longest.extend(b"1000,1000,100000\n");
+    let mut longest = b"1001,0,1439\n0,1,1,0,1440\n".to_vec();
+    longest.extend(b"1000,1000,1000000,0,1440\n".repeat(2_399));
     assert_eq!(longest.len(), 60_000);
     inputs.extend([longest.clone(), [&longest[..], b"\n"].concat()]);
     let mut random = Random::new(16);
@@ -78,9 +82,62 @@ pub fn feed(checker: &mut Checker) -> Verdict {
         }
         inputs.push(text);
     }
-    for losses in [4, 1_000_000] {
-        let spans = maps::scattered(&mut random, 1024, 3_600, losses);
+    for (count, losses) in [(3_000, 4), (2_300, 1_000_000)] {
+        let spans = maps::scattered(&mut random, 1024, count, losses);
         inputs.push(maps::text(1024, 9, &spans, false));
     }
     inputs.iter().try_for_each(|input| checker.feed_program(input))
+}
+
+/// Windows and minutes at their limits, and faults side by side.
+const WINDOW_TEXTS: [&str; 27] = [
+    "3,0,1439\n0,1,7,1439,1440\n",
+    "3,0,1440\n0,1,7,0,1440\n",
+    "3,0,1440\n0,1,7\n",
+    "3,0,1440\n0,3,0,5,5\n",
+    "3,3,1440\n0,1,7,0,1440\n",
+    "0,0,1440\n",
+    "1025,0,1440\n0,1,7,0,1440\n",
+    "3,0,4294967295\n",
+    "3,0,0\n0,1,7,0,1441\n",
+    "3,0,0\n0,1,7,600,600\n",
+    "3,0,0\n0,1,7,601,600\n",
+    "3,0,0\n0,1,7,1440,1440\n",
+    "3,0,0\n0,1,7,1440,0\n",
+    "3,0,0\n0,1,7,0,0\n0,3,7,0,1440\n",
+    "3,0,0\n0,3,7,0,1440\n0,1,7,0,0\n",
+    "3,0,0\n0,3,7,0,0\n",
+    "3,0,0\n0,1,0,0,0\n",
+    "3,0,0\n1,2,1,0,1440\n0,1,1,5,5\n",
+    "3,0,0\n1,2,1,5,5\n0,1,1,0,1440\n",
+    "3,0,0\n0,1,1000001,700,800\n",
+    "3,0,0\n0,3,1,700,800\n",
+    "3,0,0\n0,1,7,1440\n",
+    "3,0,0\n0,1,7,0,1440,0\n",
+    "3,0,0,0\n0,1,7,0,1440\n",
+    "3,0\n0,1,7,0,1440\n",
+    "3,0,65536\n0,1,7,0,1440\n",
+    "3,0,0\n0,1,7,0,65537\n",
+];
+
+/// The feed program on worked maps, on faults of windows, and on maps at minutes around the ends of windows.
+pub fn feed_at_minutes(checker: &mut Checker) -> Verdict {
+    for (call, _) in windows::worked_calls() {
+        checker.feed_program(&maps::text_of(&call, false))?;
+    }
+    for text in WINDOW_TEXTS {
+        checker.feed_program(text.as_bytes())?;
+    }
+    // Too many spans come before a minute that is too late, and that before a window without minutes.
+    for count in [4_096, 4_097] {
+        checker.feed_program(&maps::text_at(2, 0, 1_440, &vec![[0, 1, 9, 5, 5]; count], false))?;
+    }
+    let mut random = Random::new(26);
+    for _ in 0..8 {
+        let (call, minutes) = maps::with_windows(&mut random);
+        for minute in minutes {
+            checker.feed_program(&maps::text_of(&FeedCall { minute, ..call.clone() }, false))?;
+        }
+    }
+    Ok(())
 }

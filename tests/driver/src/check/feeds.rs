@@ -2,7 +2,7 @@
 
 use super::{same, same_list, Checker, Guarded, Verdict};
 use crate::engine::{BudgetLists, FeedLists};
-use reference::feed::{self, Lent, Spans};
+use reference::feed::{self, Asked, Lent, Spans};
 use std::fmt::Debug;
 
 /// The input of a feed call; result lists and store are lent with these lengths.
@@ -10,17 +10,27 @@ use std::fmt::Debug;
 pub struct FeedCall {
     pub places: u32,
     pub start: u32,
+    pub minute: u32,
     pub from: Vec<u32>,
     pub to: Vec<u32>,
     pub loss: Vec<u32>,
+    pub opens: Vec<u32>,
+    pub closes: Vec<u32>,
     pub best: usize,
     pub last: usize,
     pub words: usize,
 }
 
 impl FeedCall {
-    fn spans(&self) -> Spans<'_> {
-        Spans { from: &self.from, to: &self.to, loss: &self.loss }
+    fn asked(&self) -> Asked<'_> {
+        let FeedCall { places, start, minute, from, to, loss, opens, closes, .. } = self;
+        let spans = Spans { from, to, loss, opens, closes };
+        Asked { places: *places, start: *start, minute: *minute, spans }
+    }
+
+    /// The five span lists.
+    pub fn lists(&mut self) -> [&mut Vec<u32>; 5] {
+        [&mut self.from, &mut self.to, &mut self.loss, &mut self.opens, &mut self.closes]
     }
 }
 
@@ -95,10 +105,10 @@ impl Checker<'_> {
         let [best, last, store] = lent.each_mut().map(Guarded::lent);
         let mut figures = [77; 3];
         let feed_lists = FeedLists { best, last, store };
-        let code = self.engine.feed_table(call.places, call.start, call.spans(), feed_lists, &mut figures);
+        let code = self.engine.feed_table(call.asked(), feed_lists, &mut figures);
 
         let [best, last, words] = &mut lists;
-        let result = feed::table(call.places, call.start, call.spans(), Lent { best, last, words });
+        let result = feed::table(call.asked(), Lent { best, last, words });
         let numbers = [result.links, result.cuts, result.examined];
         let reference = Fed { code: result.code, figures: numbers, lists };
         compared("feed_table", call, (code, figures, lent), reference)
@@ -113,15 +123,15 @@ impl Checker<'_> {
     /// Compares a feed call with a budget that is lent the given lists.
     pub fn budget_on(&mut self, call: &BudgetCall, mut lists: [Vec<u32>; 4]) -> Verdict<Fed<4>> {
         self.cases += 1;
-        let (&BudgetCall { budget, ref feed, .. }, spans) = (call, call.feed.spans());
+        let (budget, asked) = (call.budget, call.feed.asked());
         let mut lent = lists.each_ref().map(|list| Guarded::new(list, 0xA5A5_A5A5));
         let [best, last, store, listed] = lent.each_mut().map(Guarded::lent);
         let mut figures = [77; 4];
         let budget_lists = BudgetLists { best, last, listed, store };
-        let code = self.engine.feed_budget(feed.places, feed.start, spans, budget, budget_lists, &mut figures);
+        let code = self.engine.feed_budget(asked, budget, budget_lists, &mut figures);
 
         let [best, last, words, listed] = &mut lists;
-        let result = feed::within(feed.places, feed.start, spans, budget, Lent { best, last, words }, listed);
+        let result = feed::within(asked, budget, Lent { best, last, words }, listed);
         let reference = Fed { code: result.figures.code, figures: result.numbers(), lists };
         compared("feed_budget", call, (code, figures, lent), reference)
     }

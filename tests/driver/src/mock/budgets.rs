@@ -3,21 +3,19 @@
 use super::Mock;
 use super::Variant::*;
 use crate::engine::{BudgetLists, Engine, Faithful, FeedLists};
-use reference::feed::{self, Lent, Spans};
+use reference::feed::{self, Asked, Lent};
 use reference::{store, Answer, Call, Queues, NONE};
 use std::cmp::Reverse;
 
-/// What a call asks for.
+/// What a call with a budget asks for.
 #[derive(Clone, Copy)]
-pub(super) struct Asked<'a> {
-    pub places: u32,
-    pub start: u32,
-    pub spans: Spans<'a>,
-    pub budget: u32,
+struct Within<'a> {
+    asked: Asked<'a>,
+    budget: u32,
 }
 
 impl Mock {
-    pub(super) fn faulty_budget(&self, asked: Asked, lists: BudgetLists, figures: &mut [u32; 4]) -> u32 {
+    pub(super) fn faulty_budget(&self, asked: Asked, budget: u32, lists: BudgetLists, figures: &mut [u32; 4]) -> u32 {
         let BudgetLists { best, last, listed, store } = lists;
         let code = self.budget_code(asked, &Lent { best, last, words: store }, listed.len());
         if code != 0 {
@@ -29,45 +27,50 @@ impl Mock {
             }
             return code;
         }
-        let asked = Asked { budget: self.budget_used(asked), ..asked };
+        let windows = self.windows_used(asked);
+        let within = Within { asked: windows.of(asked), budget };
+        let within = Within { budget: self.budget_used(within), ..within };
         // Long enough also where the fault is to accept a short list.
         let mut room = listed.to_vec();
         room.resize(room.len().max(asked.places as usize), 0);
         let lists = BudgetLists { best: &mut *best, last: &mut *last, listed: &mut room, store: &mut *store };
-        Faithful.feed_budget(asked.places, asked.start, asked.spans, asked.budget, lists, figures);
+        if Faithful.feed_budget(within.asked, within.budget, lists, figures) != 0 {
+            // Accepted by fault: the code is wrong, whatever the table.
+            return 0;
+        }
         listed.copy_from_slice(&room[..listed.len()]);
-        self.spoil_list(asked, best, listed, figures);
-        self.spoil_entries(asked, best, last, store);
-        self.spoil_counts(asked, figures);
+        self.spoil_list(within, best, listed, figures);
+        self.spoil_entries(within, best, last, store);
+        self.spoil_counts(within, figures);
+        self.spoil_closed(asked, best, last, &mut figures[2]);
         0
     }
 
-    /// The code, with faults in the test of the place list.
+    /// The code, with faults in the test of the place list and in those of windows.
     fn budget_code(&self, asked: Asked, lent: &Lent, listed: usize) -> u32 {
-        let Asked { places, start, spans, .. } = asked;
-        let (code, per_place) = (feed::refusal(places, start, spans, lent, Some(listed)), places as usize);
-        let without_list = feed::refusal(places, start, spans, lent, None);
+        let (code, per_place) = (self.windows_code(asked, lent, Some(listed)), asked.places as usize);
+        let without_list = || feed::refusal(asked, lent, None);
         match self.variant {
-            Some(PlaceListTestedAfterSpans) if code == 22 && without_list != 0 => without_list,
-            Some(PlaceListNotTested) => without_list,
+            Some(PlaceListTestedAfterSpans) if code == 22 && without_list() != 0 => without_list(),
+            Some(PlaceListNotTested) => without_list(),
             Some(PlaceListTestedBeforeLists) if code == 17 && listed < per_place => 22,
-            Some(LongerPlaceListRefused) if !(14..=17).contains(&code) && listed > per_place => 22,
+            Some(LongerPlaceListRefused) if ![14, 15, 24, 16, 17].contains(&code) && listed > per_place => 22,
             _ => code,
         }
     }
 
-    fn budget_used(&self, asked: Asked) -> u32 {
+    fn budget_used(&self, within: Within) -> u32 {
         match self.variant {
-            Some(PlaceAtTheBudgetLeftOut) => asked.budget.saturating_sub(1),
+            Some(PlaceAtTheBudgetLeftOut) => within.budget.saturating_sub(1),
             Some(PlaceBeyondTheBudgetListed) => {
-                asked.search(NONE).first_waiting().map_or(asked.budget, |first| first.key)
+                within.search(NONE).first_waiting().map_or(within.budget, |first| first.key)
             }
-            _ => asked.budget,
+            _ => within.budget,
         }
     }
 
     /// Faults in the place list and in the number of its places.
-    fn spoil_list(&self, asked: Asked, best: &[u32], listed: &mut [u32], figures: &mut [u32; 4]) {
+    fn spoil_list(&self, within: Within, best: &[u32], listed: &mut [u32], figures: &mut [u32; 4]) {
         let number = figures[3] as usize;
         let loss = |place: &u32| best[*place as usize];
         match self.variant {
@@ -76,40 +79,40 @@ impl Mock {
                 listed[..number].sort_by_key(|place| (loss(place), Reverse(*place)));
             }
             Some(ListedOneTooMany) => figures[3] += 1,
-            Some(UnreachedPlacesListed) if asked.budget == NONE => {
-                let unreached = (0..asked.places).filter(|place| loss(place) == NONE);
+            Some(UnreachedPlacesListed) if within.budget == NONE => {
+                let unreached = (0..within.asked.places).filter(|place| loss(place) == NONE);
                 listed[number..].iter_mut().zip(unreached).for_each(|(word, place)| *word = place);
-                figures[3] = asked.places;
+                figures[3] = within.asked.places;
             }
             Some(FirstWaitingPlaceInTheList) => {
-                if let Some(first) = asked.search(NONE).first_waiting() {
+                if let Some(first) = within.search(NONE).first_waiting() {
                     listed[number] = first.item;
                 }
             }
             Some(ListFilledWithNone) => listed[number..].fill(NONE),
-            Some(LongerListFilled) => listed[asked.places as usize..].fill(NONE),
+            Some(LongerListFilled) => listed[within.asked.places as usize..].fill(NONE),
             _ => {}
         }
     }
 
     /// Faults in the table and in the store: what still waits is left there.
-    fn spoil_entries(&self, asked: Asked, best: &mut [u32], last: &mut [u32], store: &mut [u32]) {
+    fn spoil_entries(&self, within: Within, best: &mut [u32], last: &mut [u32], store: &mut [u32]) {
         match self.variant {
-            Some(WaitingLossesShown) => best.copy_from_slice(&asked.search(NONE).best),
-            Some(WaitingSpansShown) => last.copy_from_slice(&asked.search(NONE).last),
-            Some(WaitingPlacesLeftInStore) => store.copy_from_slice(&store::encode(&asked.search(NONE).queues)),
+            Some(WaitingLossesShown) => best.copy_from_slice(&within.search(NONE).best),
+            Some(WaitingSpansShown) => last.copy_from_slice(&within.search(NONE).last),
+            Some(WaitingPlacesLeftInStore) => store.copy_from_slice(&store::encode(&within.search(NONE).queues)),
             _ => {}
         }
     }
 
     /// Faults in the calls that are counted.
-    fn spoil_counts(&self, asked: Asked, figures: &mut [u32; 4]) {
+    fn spoil_counts(&self, within: Within, figures: &mut [u32; 4]) {
         match self.variant {
-            Some(SearchNotStopped) => figures[..3].copy_from_slice(&asked.full_figures()),
-            Some(StoppingTakingCounted) => figures[0] += asked.search(NONE).take(1),
-            Some(EmptyingCounted) => figures[0] += asked.search(NONE).take(usize::MAX),
+            Some(SearchNotStopped) => figures[..3].copy_from_slice(&within.full_figures()),
+            Some(StoppingTakingCounted) => figures[0] += within.search(NONE).take(1),
+            Some(EmptyingCounted) => figures[0] += within.search(NONE).take(usize::MAX),
             Some(OffersBeyondPruned) => {
-                let pruned = asked.search(asked.budget);
+                let pruned = within.search(within.budget);
                 (figures[0], figures[1]) = (pruned.links, pruned.cuts);
             }
             _ => {}
@@ -126,19 +129,21 @@ struct Search {
     cuts: u32,
 }
 
-impl Asked<'_> {
+impl Within<'_> {
     /// Stops where the first place waiting is beyond the budget; losses above `largest` are not offered.
     fn search(&self, largest: u32) -> Search {
-        let entries = vec![NONE; self.places as usize];
-        let queues = Queues::new(self.places);
+        let Asked { places, start, spans, .. } = self.asked;
+        let entries = vec![NONE; places as usize];
+        let queues = Queues::new(places);
         let mut search = Search { queues, best: entries.clone(), last: entries, links: 0, cuts: 0 };
-        search.offer(self.start, 0, NONE);
+        search.offer(start, 0, NONE);
         while search.first_waiting().is_some_and(|first| first.key <= self.budget) {
             let taken = search.make(Call::ExtractMin { heap: 0 });
-            for span in (0..self.spans.from.len()).filter(|&span| self.spans.from[span] == taken.item) {
-                let loss = taken.key + self.spans.loss[span];
+            let usable_from_there = |&span: &usize| spans.from[span] == taken.item && self.asked.is_usable(span);
+            for span in (0..spans.from.len()).filter(usable_from_there) {
+                let loss = taken.key + spans.loss[span];
                 if loss <= largest {
-                    search.offer(self.spans.to[span], loss, span as u32);
+                    search.offer(spans.to[span], loss, span as u32);
                 }
             }
         }
@@ -146,11 +151,12 @@ impl Asked<'_> {
     }
 
     fn full_figures(&self) -> [u32; 3] {
-        let mut lists = [self.places as usize; 2].map(|length| vec![0; length]);
-        let (mut store, mut figures) = (vec![0; store::length(self.places as usize)], [0; 3]);
+        let places = self.asked.places as usize;
+        let mut lists = [places; 2].map(|length| vec![0; length]);
+        let (mut store, mut figures) = (vec![0; store::length(places)], [0; 3]);
         let [best, last] = &mut lists;
         let lent = FeedLists { best, last, store: &mut store };
-        Faithful.feed_table(self.places, self.start, self.spans, lent, &mut figures);
+        Faithful.feed_table(self.asked, lent, &mut figures);
         figures
     }
 }

@@ -1,35 +1,49 @@
-//! Faults in feed calls and in reading maps.
+//! Faults in feed calls.
 
 use super::Mock;
 use super::Variant::*;
 use crate::engine::{Engine, Faithful, FeedLists};
-use reference::feed::Spans;
+use reference::feed::{Asked, Lent, Spans};
 use reference::{store, Call, Queues, NONE};
 
 impl Mock {
-    pub(super) fn faulty_table(
-        &self,
-        places: u32,
-        start: u32,
-        spans: Spans,
-        lists: FeedLists,
-        figures: &mut [u32; 3],
-    ) -> u32 {
+    pub(super) fn faulty_table(&self, asked: Asked, lists: FeedLists, figures: &mut [u32; 3]) -> u32 {
+        let repaired: Vec<u32> = asked.spans.loss.iter().map(|&loss| loss.max(1)).collect();
+        let loss = if self.is(ZeroLossAccepted) { &repaired } else { asked.spans.loss };
+        let asked = Asked { spans: Spans { loss, ..asked.spans }, ..asked };
         let FeedLists { best, last, store } = lists;
-        let found = store.to_vec();
-        let repaired: Vec<u32> = spans.loss.iter().map(|&loss| loss.max(1)).collect();
-        let spans = if self.is(ZeroLossAccepted) { Spans { loss: &repaired, ..spans } } else { spans };
-        let lent = FeedLists { best, last, store };
-        let mut code = Faithful.feed_table(places, start, spans, lent, figures);
-        if self.is(OrderTestedBeforeLoss) && code == 19 && spans.from.windows(2).any(|pair| pair[1] < pair[0]) {
-            code = 20;
-        }
+        let code = self.table_code(asked, &Lent { best, last, words: store });
         if code != 0 {
             if self.is(FeedListsTouchedOnRefusal) {
                 best.fill(NONE);
             }
+            *figures = [0; 3];
             return code;
         }
+        let found = store.to_vec();
+        let windows = self.windows_used(asked);
+        let lent = FeedLists { best: &mut *best, last: &mut *last, store: &mut *store };
+        if Faithful.feed_table(windows.of(asked), lent, figures) != 0 {
+            // Accepted by fault: the code is wrong, whatever the table.
+            return 0;
+        }
+        self.spoil_table(windows.of(asked), FeedLists { best, last, store }, figures, &found);
+        self.spoil_closed(asked, best, last, &mut figures[2]);
+        0
+    }
+
+    fn table_code(&self, asked: Asked, lent: &Lent) -> u32 {
+        let falls = || asked.spans.from.windows(2).any(|pair| pair[1] < pair[0]);
+        match self.windows_code(asked, lent, None) {
+            19 if self.is(OrderTestedBeforeLoss) && falls() => 20,
+            code => code,
+        }
+    }
+
+    /// Faults in the table, the store and the counts of a call that is done; `found` is the store as it was.
+    fn spoil_table(&self, asked: Asked, lists: FeedLists, figures: &mut [u32; 3], found: &[u32]) {
+        let FeedLists { best, last, store } = lists;
+        let Asked { places, start, spans, .. } = asked;
         match self.variant {
             Some(TableOfAllNone) => {
                 best.fill(NONE);
@@ -39,13 +53,13 @@ impl Mock {
                 best.iter_mut().zip([0, 7, 12]).for_each(|(word, loss)| *word = loss);
                 last.iter_mut().zip([NONE, 0, 2]).for_each(|(word, span)| *word = span);
             }
-            Some(FirstSpanFound) => last.copy_from_slice(&first_spans(places, start, spans)),
+            Some(FirstSpanFound) => last.copy_from_slice(&first_spans(asked)),
             Some(FeedStoreLeftFull) => {
                 let mut queues = Queues::new(places);
                 queues.answer(Some(Call::Insert { heap: 0, item: start, key: 0 }));
                 store.copy_from_slice(&store::encode(&queues));
             }
-            Some(FeedStoreLeftAsFound) => store.copy_from_slice(&found),
+            Some(FeedStoreLeftAsFound) => store.copy_from_slice(found),
             Some(FeedCountsZero) => figures[..2].fill(0),
             Some(StartShowsASpan) => {
                 let into = (0..spans.to.len()).find(|&span| spans.to[span] == start);
@@ -53,32 +67,12 @@ impl Mock {
             }
             _ => {}
         }
-        0
-    }
-
-    pub(super) fn faulty_map(&self, text: &[u8], lists: [&mut [u32]; 3], figures: &mut [u32; 3]) -> u32 {
-        let [from, to, loss] = lists;
-        if self.is(MapRoomTestedFirst) && (from.len() != to.len() || from.len() != loss.len()) {
-            *figures = [0; 3];
-            return 16;
-        }
-        let without_empty_lines =
-            text.split_inclusive(|&byte| byte == b'\n').filter(|line| line != b"\n").collect::<Vec<_>>().concat();
-        let text = if self.is(MapEmptyLineSkipped) { &without_empty_lines } else { &self.misread(text)[..] };
-        let before = *figures;
-        let code = Faithful.read_map(text, [&mut *from, to, loss], figures);
-        if code != 0 && self.is(MapListsTouchedOnRefusal) {
-            from.iter_mut().for_each(|word| *word = 0);
-        }
-        if code != 0 && self.is(MapFiguresLeftOnRefusal) {
-            *figures = before;
-        }
-        code
     }
 }
 
 /// For each place the span that first gave its final loss, in the order of the takings.
-fn first_spans(places: u32, start: u32, spans: Spans) -> Vec<u32> {
+fn first_spans(asked: Asked) -> Vec<u32> {
+    let Asked { places, start, spans, .. } = asked;
     let mut known = vec![NONE; places as usize];
     let (mut taken, mut last) = (vec![false; places as usize], vec![NONE; places as usize]);
     known[start as usize] = 0;
@@ -87,7 +81,8 @@ fn first_spans(places: u32, start: u32, spans: Spans) -> Vec<u32> {
     };
     while let Some(place) = nearest(&known, &taken) {
         taken[place] = true;
-        for span in (0..spans.from.len()).filter(|&span| spans.from[span] as usize == place) {
+        let usable_from_there = |&span: &usize| spans.from[span] as usize == place && asked.is_usable(span);
+        for span in (0..spans.from.len()).filter(usable_from_there) {
             let to = spans.to[span] as usize;
             if known[place] + spans.loss[span] < known[to] {
                 known[to] = known[place] + spans.loss[span];

@@ -3,12 +3,16 @@
 mod budgets;
 mod feeds;
 mod lines;
+mod maps;
 mod numbers;
 mod places;
+mod programs;
 mod runs;
+mod windows;
 
 use crate::engine::{BudgetLists, Engine, FeedLists, Part};
-use reference::feed::Spans;
+use reference::feed::Asked;
+use reference::map::FIELDS;
 use reference::run::{LINE_ROOM, MAX_BYTES, MAX_LINES, MODEM_ITEMS};
 use reference::{program, store};
 
@@ -69,15 +73,36 @@ variants! {
     // Feed calls with a budget: code 22.
     [Budget]
         PlaceListTestedAfterSpans PlaceListTestedBeforeLists LongerPlaceListRefused PlaceListNotTested;
+    // Windows: which spans are used, and which are counted. In the part of one call only that call has the fault.
+    [Feed Budget FeedProgram]
+        UsableAtTheClosingMinute ClosedAtTheOpeningMinute OpeningIgnored ClosingIgnored WindowsIgnored
+        ClosedSpanEndsTheTrying ClosedSpansNotCounted EveryClosedSpanCounted ClosedSpanShownOnTies;
+    // Windows: what is refused.
+    [Feed Budget FeedProgram]
+        WindowTestedBeforeOrder WindowTestedBeforePlaces WindowsTestedAfterAllSpans AlwaysOpenWindowRefused
+        WindowOfOneMinuteRefused ClosingAt1441Accepted AnyClosingAccepted EmptyWindowAccepted TurnedWindowAccepted
+        ClosedSpansNotTested WindowCutTo16Bits;
+    [Feed Budget] OpeningListNotCompared ClosingListNotCompared;
+    // The minute of a call.
+    [Feed Budget FeedProgram]
+        MinuteTestedBeforePlaces MinuteTestedBeforeStart MinuteTestedAfterSpans LastMinuteRefused Minute1440Accepted
+        MinuteNotTested MinuteCutTo16Bits;
+    [Feed Budget] MinuteTestedAfterSpanLists MinuteTestedAfterResultLists;
+    [Budget] MinuteTestedAfterPlaceList;
     // Map texts.
-    [Map] MapListsTouchedOnRefusal MapRoomTestedFirst MapEmptyLineSkipped MapFiguresLeftOnRefusal;
+    [Map]
+        MapListsTouchedOnRefusal MapRoomTestedFirst MapEmptyLineSkipped MapFiguresLeftOnRefusal
+        MapMinuteAfterSpans MapOpeningListNotCompared MapClosingListNotCompared MapWindowListsFilled;
+    [Map FeedProgram]
+        MapWindowsExchanged MapThreeNumbersAccepted MapFourNumbersAccepted MapSixthNumberIgnored
+        MapTwoNumberHeadAccepted MapFourthHeadNumberIgnored MapMinuteMissing MapStartAndMinuteExchanged
+        MapWindowsTested MapMinuteTested;
     // Programs.
     [QueueProgram FeedProgram] ProgramOmitsLastLineEnd ProgramReadsOneByteLess;
     [QueueProgram] ProgramHoldsOneItemMore;
     [FeedProgram] ProgramShowsNoneAsNumber ProgramHoldsOnePlaceMore ProgramHoldsOneSpanMore;
 }
 
-use budgets::Asked;
 use Variant::*;
 
 /// The wrong engine. `None` runs the same code without a fault.
@@ -90,6 +115,11 @@ pub struct Mock {
 impl Mock {
     fn is(&self, variant: Variant) -> bool {
         self.variant == Some(variant)
+    }
+
+    /// The engine that an entry of a part shows: with the fault where this part is to catch it, else without.
+    fn in_part(&self, part: Part) -> Mock {
+        Mock { variant: self.variant.filter(|_| self.has(part)), only: self.only }
     }
 
     /// What a program reads of its input: all, or no more than 60,000 bytes.
@@ -121,24 +151,16 @@ impl Engine for Mock {
         u32::from(self.accepts(store).is_some())
     }
 
-    fn feed_table(&self, places: u32, start: u32, spans: Spans, lists: FeedLists, figures: &mut [u32; 3]) -> u32 {
-        self.faulty_table(places, start, spans, lists, figures)
+    fn feed_table(&self, asked: Asked, lists: FeedLists, figures: &mut [u32; 3]) -> u32 {
+        self.in_part(Part::Feed).faulty_table(asked, lists, figures)
     }
 
-    fn feed_budget(
-        &self,
-        places: u32,
-        start: u32,
-        spans: Spans,
-        budget: u32,
-        lists: BudgetLists,
-        figures: &mut [u32; 4],
-    ) -> u32 {
-        self.faulty_budget(Asked { places, start, spans, budget }, lists, figures)
+    fn feed_budget(&self, asked: Asked, budget: u32, lists: BudgetLists, figures: &mut [u32; 4]) -> u32 {
+        self.in_part(Part::Budget).faulty_budget(asked, budget, lists, figures)
     }
 
-    fn read_map(&self, text: &[u8], lists: [&mut [u32]; 3], figures: &mut [u32; 3]) -> u32 {
-        self.faulty_map(text, lists, figures)
+    fn read_map(&self, text: &[u8], lists: [&mut [u32]; FIELDS], figures: &mut [u32; 4]) -> u32 {
+        self.in_part(Part::Map).faulty_map(text, lists, figures)
     }
 
     fn queue_program(&self, input: &[u8]) -> Vec<u8> {
@@ -156,15 +178,10 @@ impl Engine for Mock {
     }
 
     fn feed_program(&self, input: &[u8]) -> Vec<u8> {
-        let most = program::ITEMS + usize::from(self.is(ProgramHoldsOnePlaceMore));
-        let spans = program::SPANS + usize::from(self.is(ProgramHoldsOneSpanMore));
-        let mut printed = program::feed_sized(&self.misread(self.read(input)), most, spans);
+        let mut printed = self.faulty_feed_program(self.read(input));
         if self.is(ProgramOmitsLastLineEnd) {
             printed.pop();
         }
-        if self.is(ProgramShowsNoneAsNumber) {
-            printed = String::from_utf8_lossy(&printed).replace('-', "4294967295").into_bytes();
-        }
-        printed
+        printed.into_bytes()
     }
 }
