@@ -78,7 +78,8 @@ abbrev pub AllOpen : ℕ → Windows → List ℕ → Type 0
 AllOpen minute w [] = Unit {0}
 AllOpen minute w (e ∷ c) = (getD (w .opens) e 0 ≤ minute) × (minute < getD (w .closes) e 0) × AllOpen minute w c
 
--- The chains of a map at a minute are those of the same spans, all of them usable, in whose windows the minute is.
+-- The chains of a map at a minute are those that its lists have with every span usable, if the minute is in the window of
+-- each of their spans.
 pub record ChainsOpen : Type 0 where
   pub within : (places start minute : ℕ) (lists : SpanLists) (w : Windows) (c : List ℕ) (p : ℕ)
       → Chain (mapAt places start minute lists w) c p → Chain (mapOf places start lists) c p × AllOpen minute w c

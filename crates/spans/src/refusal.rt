@@ -172,6 +172,7 @@ pub fn feed_code(
     let day = minute_code(minute);
     let lists = span_lists_code(from.len(), to.len(), loss.len(), opens.len(), closes.len());
     let early = first_code(place, first_code(day, lists));
+    // The tests after these need few places, and lists of one length.
     if early != 0 {
         return early;
     }
