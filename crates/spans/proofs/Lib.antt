@@ -1,3 +1,4 @@
 pub mod SpansCode
+pub mod Faultless
 pub mod FeedCodes
 pub mod Range

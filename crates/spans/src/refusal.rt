@@ -4,7 +4,7 @@ ghost use mathlib.Core.Bool.{cond, not, _&&_, _||_};
 ghost use Prim.Native.Nat.{ℕ, _≤_};
 ghost use lib.Dec.{eqb, ltb, leb};
 ghost use Rattle.paths.specs.Map.{spanLists, windows, atMinute, mapAt, lastMinute};
-ghost use Rattle.paths.specs.Codes.{fault, firstCode, spansCode, resultListsFit, feedCode};
+ghost use Rattle.paths.specs.Codes.{fault, windowFault, firstCode, spansCode, resultListsFit, feedCode};
 ghost use Rattle.spans.specs.Lists.{OneLength};
 use super::window::window_fault;
 use store::size_for;
@@ -41,8 +41,60 @@ fn first_code(code: u32, next: u32) -> u32
     code
 }
 
-// The code of the lowest-numbered faulty span, or 0. Faults are the same at every minute.
-fn spans_code(
+// Whether a span or its window has a fault, without a branch.
+fn is_faulty(
+    places: u32,
+    from: u32,
+    to: u32,
+    loss: u32,
+    before: u32,
+    opens: u32,
+    closes: u32,
+) -> bool
+    ensures { λ r. ⌜ r ≡ not (eqb (firstCode (fault places from to loss before) (windowFault opens closes)) 0) ⌝ }
+{
+    let span = (places <= from) | (places <= to) | (loss == 0) | (1000000 < loss) | (from < before);
+    span | (closes <= opens) | (1440 < closes)
+}
+
+// Whether no span is faulty. No span ends the loop, so that several are tested at a time. Faults are the same at every
+// minute.
+fn faultless(
+    places: u32,
+    from: &[u32],
+    to: &[u32],
+    loss: &[u32],
+    opens: &[u32],
+    closes: &[u32],
+) -> bool
+    requires { ⌜ OneLength (spanLists (now from) (now to) (now loss)) (windows (now opens) (now closes)) ⌝ }
+    ensures { λ r. ⌜ ((minute : ℕ) → r ≡ eqb (spansCode places
+        (spanLists (now (from .entry)) (now (to .entry)) (now (loss .entry)))
+        (atMinute minute (windows (now (opens .entry)) (now (closes .entry))))) 0) ⌝ }
+{
+    let mut e = 0;
+    let mut before = 0;
+    let mut faulty = false;
+    while e < from.len() {
+        let span_from = from[e];
+        faulty = faulty
+            | is_faulty(
+                places,
+                span_from,
+                to[e],
+                loss[e],
+                before,
+                opens[e],
+                closes[e],
+            );
+        before = span_from;
+        e += 1;
+    }
+    !faulty
+}
+
+// The code of the lowest-numbered faulty span, or 0.
+fn lowest_fault(
     places: u32,
     from: &[u32],
     to: &[u32],
@@ -69,6 +121,26 @@ fn spans_code(
         e += 1;
     }
     0
+}
+
+// The same, at once where no span is faulty.
+fn spans_code(
+    places: u32,
+    from: &[u32],
+    to: &[u32],
+    loss: &[u32],
+    opens: &[u32],
+    closes: &[u32],
+) -> u32
+    requires { ⌜ OneLength (spanLists (now from) (now to) (now loss)) (windows (now opens) (now closes)) ⌝ }
+    ensures { λ r. ⌜ ((minute : ℕ) → r ≡ spansCode places
+        (spanLists (now (from .entry)) (now (to .entry)) (now (loss .entry)))
+        (atMinute minute (windows (now (opens .entry)) (now (closes .entry))))) ⌝ }
+{
+    if faultless(places, from, to, loss, opens, closes) {
+        return 0;
+    }
+    lowest_fault(places, from, to, loss, opens, closes)
 }
 
 // 14 for no place or too many, 15 for a start that is none of them, or 0.
