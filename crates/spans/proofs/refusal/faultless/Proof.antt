@@ -1,5 +1,5 @@
--- `spans::refusal::faultless` meets its contract. The invariant: `faulty` says whether a span below e is, and `before` is
--- where the span before e comes from.
+-- `spans::refusal::faultless` meets its contract. The invariant: `faulty` says whether a span below e is faulty, and
+-- `before` is where the span before e comes from.
 use Prim.Native.Nat.{ℕ, _-_, _≤_}
 use mathlib.Core.Path.{_≡_, refl}
 use mathlib.Core.Bool.{not}

@@ -1,5 +1,5 @@
--- `spans::refusal::lowest_fault` meets its contract. The invariant: no span below e is faulty, and `before` is where the
--- span before e comes from.
+-- `spans::refusal::lowest_fault` meets its contract. The invariant: no span below e is faulty, and `before` is where
+-- the span before e comes from.
 use Prim.Native.Nat.{ℕ, _-_, _≤_}
 use mathlib.Core.Path.{_≡_, refl}
 use native.Mathlib.Omega.{arith}
