@@ -79,8 +79,8 @@ module _ (m : Map) where
       level zero h = omega arith
       level (suc e) h = A .rising e h
 
-  module _ (bestN lastN listedN storeN : ℕ) where
-    fits : feedCode m bestN lastN listedN storeN ≡ 0 → Fits m bestN lastN listedN storeN
+  module _ (bestN lastN jointsN listedN storeN : ℕ) where
+    fits : feedCode m bestN lastN jointsN listedN storeN ≡ 0 → Fits m bestN lastN jointsN listedN storeN
     unfolding feedCode previous
     fits z =
         let c₁ = no-cond (eqb (m .places) 0 || ltb 4096 (m .places)) 14 _ (λ q. omega arith) z in
@@ -89,7 +89,8 @@ module _ (m : Map) where
         let c₃ =
         no-cond (not (spanListsFit (m .lists) && windowListsFit (spans m) (m .supply))) 16 _ (λ q. omega arith)
         (c₀ .1) in
-        let c₄ = no-cond (not (resultListsFit (m .places) bestN lastN storeN)) 17 _ (λ q. omega arith) (c₃ .1) in
+        let c₄ =
+        no-cond (not (resultListsFit (m .places) bestN lastN jointsN storeN)) 17 _ (λ q. omega arith) (c₃ .1) in
         let c₅ = no-cond (ltb listedN (m .places)) 22 _ (λ q. omega arith) (c₄ .1) in
         let f = no-or (eqb (m .places) 0) (ltb 4096 (m .places)) (c₁ .0) in
         let k =
@@ -97,7 +98,8 @@ module _ (m : Map) where
         let g = and-split _ (leb (spans m) 16384) (k .0) in
         let g′ = and-split (eqb (length (m .lists .to)) (spans m)) (eqb (length (m .lists .loss)) (spans m)) (g .0) in
         let h = and-split _ (eqb storeN (storeSize (m .places))) (not-false _ (c₄ .0)) in
-        let h′ = and-split (eqb bestN (m .places)) (eqb lastN (m .places)) (h .0) in
+        let h′ = and-split _ (eqb jointsN (m .places)) (h .0) in
+        let h″ = and-split (eqb bestN (m .places)) (eqb lastN (m .places)) (h′ .0) in
         let n : m .places ≢ 0 = eqb-false (m .places) 0 (f .0) in
         let s : (e : ℕ) → e < spans m → Faultless e =
         λ e k. faultless e (each-none (m .places) (m .lists) (m .supply) (spans m) (c₅ .1) e k) in
@@ -118,13 +120,14 @@ module _ (m : Map) where
                 supplied =
                     supply-fits (spans m) (m .supply) (not-false _ (c₀ .0)) (k .1) (λ e h. s e h .window);
               };
-          best = eqb-true bestN (m .places) (h′ .0);
-          last = eqb-true lastN (m .places) (h′ .1);
+          best = eqb-true bestN (m .places) (h″ .0);
+          last = eqb-true lastN (m .places) (h″ .1);
+          joints = eqb-true jointsN (m .places) (h′ .1);
           listed = ltb-false listedN (m .places) (c₅ .0);
           store = eqb-true storeN (storeSize (m .places)) (h .1);
         }
 
-    accepts : Fits m bestN lastN listedN storeN → feedCode m bestN lastN listedN storeN ≡ 0
+    accepts : Fits m bestN lastN jointsN listedN storeN → feedCode m bestN lastN jointsN listedN storeN ≡ 0
     unfolding feedCode
     accepts F =
         let A = F .accepted in
@@ -139,6 +142,7 @@ module _ (m : Map) where
           supply-lists (spans m) (m .supply) (A .supplied),
           eq-eqb bestN (m .places) (F .best),
           eq-eqb lastN (m .places) (F .last),
+          eq-eqb jointsN (m .places) (F .joints),
           eq-eqb storeN (storeSize (m .places)) (F .store),
           le-ltb listedN (m .places) (F .listed),
         )

@@ -54,10 +54,10 @@ module _
   same-faults zero h = refl
   same-faults (suc k) h = rw (same-faults k (omega arith), faultless k (omega arith))
 
-  same-code : (bestN lastN listedN storeN : ℕ)
-      → feedCode m bestN lastN listedN storeN ≡ feedCode free bestN lastN listedN storeN
+  same-code : (bestN lastN jointsN listedN storeN : ℕ)
+      → feedCode m bestN lastN jointsN listedN storeN ≡ feedCode free bestN lastN jointsN listedN storeN
   unfolding feedCode minuteFits windowListsFit
-  same-code bestN lastN listedN storeN =
+  same-code bestN lastN jointsN listedN storeN =
       rw (
         le-leb minute lastMinute day,
         eq-eqb (length (w .opens)) (spans m) (W .opensN),
@@ -73,22 +73,22 @@ module _
       in-usable minute (getD (w .opens) e 0) (getD (w .closes) e 0) (omega (arith, W .opens e h))
       (omega (arith, day, W .closes e h))
 
-  same-try : (own : Bool) (d e : ℕ) (s : Search) → try own true m d e s ≡ try own true free d e s
+  same-try : (own : Bool) (d h e : ℕ) (s : Search) → try own true m d h e s ≡ try own true free d h e s
   unfolding try
-  same-try false d e s = refl
-  same-try true d e s = refl
+  same-try false d h e s = refl
+  same-try true d h e s = refl
 
-  same-tried : (u d : ℕ) (s : Search) (k : ℕ) → k ≤ spans m → tried m u d k s ≡ tried free u d k s
+  same-tried : (u d h : ℕ) (s : Search) (k : ℕ) → k ≤ spans m → tried m u d h k s ≡ tried free u d h k s
   unfolding tried usableBy
-  same-tried u d s zero h = refl
-  same-tried u d s (suc k) h =
-      rw (same-tried u d s k (omega arith), usable-all k (omega arith))
-      (same-try (eqb (fromOf m k) u) d k (tried free u d k s))
+  same-tried u d h s zero i = refl
+  same-tried u d h s (suc k) i =
+      rw (same-tried u d h s k (omega arith), usable-all k (omega arith))
+      (same-try (eqb (fromOf m k) u) d h k (tried free u d h k s))
 
   same-step : (n : NextPlace) (s : Search) → step m n s ≡ step free n s
   unfolding step visit
   same-step halts s = refl
-  same-step (takes u) s = same-tried u _ _ (spans m) (le-refl _)
+  same-step (takes u) s = same-tried u _ _ _ (spans m) (le-refl _)
 
   same-steps : (stop : Stop) (k : ℕ) → steps stop m k ≡ steps stop free k
   unfolding steps begin
@@ -116,7 +116,8 @@ module _
   full : (lent : ResultLists) → feedResult m lent ≡ feedResult free lent
   unfolding feedResult
   full lent =
-      rw (same-code (length (lent .best)) (length (lent .last)) places (length (lent .store)))
+      rw
+      (same-code (length (lent .best)) (length (lent .last)) (length (lent .joints)) places (length (lent .store)))
       (same-feed (codeFor free lent places) unlimited lent)
 
   same-budget : (code budget : ℕ) (lent : ResultLists) (listed : List ℕ)
@@ -130,7 +131,9 @@ module _
       → budgetResult budget m lent listed ≡ budgetResult budget free lent listed
   unfolding budgetResult
   within budget lent listed =
-      rw (same-code (length (lent .best)) (length (lent .last)) (length listed) (length (lent .store)))
+      rw
+      (same-code (length (lent .best)) (length (lent .last)) (length (lent .joints)) (length listed)
+      (length (lent .store)))
       (same-budget (codeFor free lent (length listed)) budget lent listed)
 
 pub allDayFeeds : AllDayFeeds

@@ -71,24 +71,27 @@ module _ (m : Map) (A : Accepted m) where
         getD-all {A = ℕ} n a 0,
       )
 
-  pub begin-invariant : Invariant m a 0 (spans m) waits₀ (set (replicate n 0) a 0) best₀ (replicate n none)
+  -- the losses and the numbers of spans are the same lists
+  pub begin-invariant : Invariant m a 0 (spans m) waits₀ (set (replicate n 0) a 0) best₀ (replicate n none) best₀
   begin-invariant =
       record {
         waitsN = simp (length-set, length-replicate);
         keyN = simp (length-set, length-replicate);
         bestN = simp (length-set, length-replicate);
         lastN = simp length-replicate;
+        jointsN = simp (length-set, length-replicate);
         bit = byItem a (rw waits-a (le-refl _)) (λ q z. rw (waits-o q z) zero-le);
         met = byItem a (λ _. rw best-a (λ e. omega arith)) (λ q z w. absurd (w (waits-o q z)));
         keyed =
             byItem a (λ _. rw best-a (getD-set-same (replicate n 0) a 0 0 (in-all 0)))
             (λ q z w. absurd (w (waits-o q z)));
-        begun = (best-a, getD-all n a none);
-        unmet = λ q _. getD-all n q none;
+        begun = (best-a, getD-all n a none, best-a);
+        unmet = λ q z. (getD-all n q none, z);
         given = byItem a (λ _ z. absurd (z refl)) (λ q z w. absurd (w (best-o q z)));
         relaxed = λ e _ t _. absurd (none-settled (fromOf m e) t);
         past = λ q t. absurd (none-settled q t);
         future = λ q _. zero-le;
         small =
             byItem a (λ _. rw (best-a, all-unsettled) (omega arith)) (λ q z w. absurd (w (best-o q z)));
+        short = λ q _. le-refl _;
       }

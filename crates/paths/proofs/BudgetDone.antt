@@ -31,7 +31,8 @@ module _ (b : ℕ) (m : Map) (lent : ResultLists) (listed : List ℕ) where
   list-right e =
       let places : List ℕ = placesTaken (upTo b) m in
       let F =
-      codeZero .only m (length (lent .best)) (length (lent .last)) (length listed) (length (lent .store)) e in
+      codeZero .only m (length (lent .best)) (length (lent .last)) (length (lent .joints)) (length listed)
+      (length (lent .store)) e in
       record {
         within = omega (arith, takings-few (beyond (upTo b)) m (m .places), F .listed);
         listing =
@@ -72,7 +73,8 @@ steps-same m A (suc k) =
         (omega (
           arith,
           I .keyed u w,
-          met-small m A (B .lastTaken) (B .reach) (s .queue .waits) (s .queue .key) (s .best) (s .last) I u
+          met-small m A (B .lastTaken) (B .reach) (s .queue .waits) (s .queue .key) (s .best) (s .last)
+              (s .joints) I u
               (I .met u w),
         ))
 
@@ -97,13 +99,16 @@ largestBudget m lent listed = go (codeFor m lent (length listed)) refl
         (take ((budgetAs c none m lent listed) .number) ((budgetAs c none m lent listed) .listed))
     go zero e _ =
         let F =
-        codeZero .only m (length (lent .best)) (length (lent .last)) (length listed) (length (lent .store)) e in
+        codeZero .only m (length (lent .best)) (length (lent .last)) (length (lent .joints)) (length listed)
+        (length (lent .store)) e in
         let full : codeFor m lent (m .places) ≡ 0 =
-        codeZero .accepts m (length (lent .best)) (length (lent .last)) (m .places) (length (lent .store))
+        codeZero .accepts m (length (lent .best)) (length (lent .last)) (length (lent .joints)) (m .places)
+        (length (lent .store))
         (record {
           accepted = F .accepted;
           best = F .best;
           last = F .last;
+          joints = F .joints;
           listed = le-refl _;
           store = F .store;
         }) in

@@ -10,6 +10,7 @@ use Rattle.rules.specs.Answers.{isEmpty, refusal, refused, unlessRefused, answe
 use Rattle.paths.specs.Map.{usableBy}
 use Rattle.paths.specs.Queue.{waiting, nextOf, next}
 use Rattle.paths.specs.Search.{
+  winsTie,
   judge,
   update,
   offer,
@@ -35,9 +36,9 @@ use Rattle.paths.specs.Codes.{
 }
 use Rattle.paths.specs.Feed.{linksOf, cutsOf, feedAs, feedResult, budgetAs, budgetResult}
 use Rattle.paths.specs.ByHand.{
-  ninesThree,
+  nines,
+  done,
   onThree,
-  doneThree,
   refusedThree,
   paperMap,
   tieMap,
@@ -55,10 +56,10 @@ use Rattle.paths.specs.ByHand.{
 }
 
 pub workedMaps : WorkedMaps
-unfolding ninesThree onThree doneThree refusedThree paperMap tieMap refusedMaps onFour doneFour equalMap unreachedMap
+unfolding nines done onThree refusedThree paperMap tieMap refusedMaps onFour doneFour equalMap unreachedMap
     budgetRows starMap starLinks onTwo refusedTwo budgetResult budgetAs feedResult feedAs hideWaiting takings linksOf
     cutsOf feedCode minuteFits windowListsFit storeSize codeBelow spanCode previous supplyFault fault usableBy search
-    steps begin step visit tried try offer update judge next nextOf waiting answers answer unlessRefused refused
+    steps begin step visit tried try offer update judge winsTie next nextOf waiting answers answer unlessRefused refused
     refusal isEmpty perform decreaseKey hasParent extract removeRoot setFree release insert consolidate
     consolidateWithin occupied linkTrees climb isFree link cutIf cutOut cutWithin cascadingCut nodeKind cut minimum
     leastIn leastOf comesBefore setAll without sumBy

@@ -70,11 +70,18 @@ pub record Costs (m : Map) (s : Search) : Type 0 where
   pub taken-is : taken + unsettled (s .queue .waits) (s .best) ≡ m .places
   pub pays : allowed (empty (m .places)) (s .calls) + 3 * entered ≤ 4 * suc (s .examined) + taken * R entered
 
--- a span that makes no call; it may change the span shown
-no-call : (m : Map) (s : Search) (last : List ℕ) → Costs m s
+-- a span that makes no call; it may change the span and the number of spans shown
+no-call : (m : Map) (s : Search) (last joints : List ℕ) → Costs m s
     → Costs m
-    (record { queue = s .queue; best = s .best; last = last; calls = s .calls; examined = suc (s .examined) })
-no-call m s last C =
+    (record {
+      queue = s .queue;
+      best = s .best;
+      last = last;
+      joints = joints;
+      calls = s .calls;
+      examined = suc (s .examined);
+    })
+no-call m s last joints C =
     record {
       served = C .served;
       entered = C .entered;
@@ -89,19 +96,19 @@ module _ (stop : Stop) (m : Map) (A : Accepted m) where
   n = m .places
 
   -- An offer that makes a call; `more` is 1 if the place was not met, else 0.
-  call-costs : (u d k r : ℕ) (s : Search) → TryingOf m u d k r s → IsSpan m k → fromOf m k ≡ u → (v : Verdict)
-      → Case s (toOf m k) (d + lossOf m k) k v → Costs m s →
-      let t : Search = update v (toOf m k) (d + lossOf m k) k (examine s) in
+  call-costs : (u d hu k r : ℕ) (s : Search) → TryingOf m u d hu k r s → IsSpan m k → fromOf m k ≡ u → (v : Verdict)
+      → Case s (toOf m k) (d + lossOf m k) (suc hu) k v → Costs m s →
+      let t : Search = update v (toOf m k) (d + lossOf m k) (suc hu) k (examine s) in
       (c : Call) (more : ℕ) → t .calls ≡ s .calls ++ (Yields c ∷ [])
       → t .best ≡ set (s .best) (toOf m k) (d + lossOf m k)
       → t .examined ≡ suc (s .examined) → unsettled (t .queue .waits) (t .best) ≡ r
       → isNone (bestAt s (toOf m k)) ≡ more → price (forestsAfter m s) c + 3 * more ≤ 4 → Costs m t
-  call-costs u d k r s T is fu v case C c more ec eb ex left em h =
+  call-costs u d hu k r s T is fu v case C c more ec eb ex left em h =
       let p : ℕ = toOf m k in
       let l : ℕ = d + lossOf m k in
       let grows = mul-le-mul-left (C .taken) (R-mono (C .entered) (more + C .entered) (omega arith)) in
       record {
-        served = update-served stop m A u d k r s T is fu v case (C .served);
+        served = update-served stop m A u d hu k r s T is fu v case (C .served);
         entered = more + C .entered;
         taken = C .taken;
         entered-is =
@@ -111,7 +118,7 @@ module _ (stop : Stop) (m : Map) (A : Accepted m) where
               C .entered-is,
               sumBy-set isNone (s .best) p l none (omega (arith, T .invariant .bestN, A .toIn k (is .0))),
               em,
-              isNone-no l (λ e. omega (arith, sum-fits m A u d k r s T is fu)),
+              isNone-no l (λ e. omega (arith, sum-fits m A u d hu k r s T is fu)),
             ));
         taken-is = omega (arith, C .taken-is, left, T .left);
         pays =
@@ -119,19 +126,19 @@ module _ (stop : Stop) (m : Map) (A : Accepted m) where
             (omega (arith, C .pays, allowance-le (forestsAfter m s) c, grows));
       }
 
-  update-costs : (u d k r : ℕ) (s : Search) → TryingOf m u d k r s → IsSpan m k → fromOf m k ≡ u → (v : Verdict)
-      → Case s (toOf m k) (d + lossOf m k) k v → Costs m s
-      → Costs m (update v (toOf m k) (d + lossOf m k) k (examine s))
+  update-costs : (u d hu k r : ℕ) (s : Search) → TryingOf m u d hu k r s → IsSpan m k → fromOf m k ≡ u → (v : Verdict)
+      → Case s (toOf m k) (d + lossOf m k) (suc hu) k v → Costs m s
+      → Costs m (update v (toOf m k) (d + lossOf m k) (suc hu) k (examine s))
   unfolding update price
-  update-costs u d k r s T is fu unmet (at-unmet z o) C =
-      call-costs u d k r s T is fu unmet (at-unmet z o) C (Insert 0 (toOf m k) (d + lossOf m k)) 1 refl refl refl
-      (update-trying m A u d k r s T is fu unmet (at-unmet z o) .left) (ap isNone z ∙ isNone-yes) (omega arith)
-  update-costs u d k r s T is fu smaller (at-smaller x o w y) C =
-      call-costs u d k r s T is fu smaller (at-smaller x o w y) C (DecreaseKey (toOf m k) (d + lossOf m k)) 0 refl refl
-      refl (update-trying m A u d k r s T is fu smaller (at-smaller x o w y) .left)
+  update-costs u d hu k r s T is fu unmet (at-unmet z o) C =
+      call-costs u d hu k r s T is fu unmet (at-unmet z o) C (Insert 0 (toOf m k) (d + lossOf m k)) 1 refl refl refl
+      (update-trying m A u d hu k r s T is fu unmet (at-unmet z o) .left) (ap isNone z ∙ isNone-yes) (omega arith)
+  update-costs u d hu k r s T is fu smaller (at-smaller x o w y) C =
+      call-costs u d hu k r s T is fu smaller (at-smaller x o w y) C (DecreaseKey (toOf m k) (d + lossOf m k)) 0 refl
+      refl refl (update-trying m A u d hu k r s T is fu smaller (at-smaller x o w y) .left)
       (isNone-no (bestAt s (toOf m k)) x) (omega arith)
-  update-costs u d k r s T is fu tie c C = no-call m s _ C
-  update-costs u d k r s T is fu worse c C = no-call m s _ C
+  update-costs u d hu k r s T is fu tie c C = no-call m s _ _ C
+  update-costs u d hu k r s T is fu worse c C = no-call m s _ _ C
 
   extracted-costs : (k : ℕ) (s : Search) → Between stop m k s → (u : ℕ) → next stop (s .queue) ≡ takes u → Costs m s
       → ServedOf m (extracted u s) → Costs m (extracted u s)
@@ -181,5 +188,5 @@ module _ (stop : Stop) (m : Map) (A : Accepted m) where
       record {
         begins = begin-costs;
         taken = λ k s B u e C. extracted-costs k s B u e C (served stop m A .taken k s B u e (C .served));
-        offers = record { examined = λ _ _ _ _ s _ C. no-call m s _ C; offered = update-costs };
+        offers = record { examined = λ _ _ _ _ _ s _ C. no-call m s _ _ C; offered = update-costs };
       }

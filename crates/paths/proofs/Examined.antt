@@ -37,6 +37,7 @@ use Rattle.paths.specs.Search.{
   find,
   bestAt,
   lastAt,
+  jointsAt,
 }
 use Rattle.paths.specs.Theorems.{between, trying, leavingReached, ExaminedExact, ExaminedAtMost}
 use Rattle.paths.proofs.Waiting.{next-takes, waits-below}
@@ -68,32 +69,33 @@ sumTo-grows f a (suc b) h = go (eqb a (suc b)) refl (sumTo-grows f a b)
     go true e ih = rw (eqb-true a (suc b) e) (le-refl _)
     go false e ih = let n : a ≢ suc b = eqb-false a (suc b) e in omega (arith, ih (omega arith))
 
-update-examined : (v : Verdict) (p l e : ℕ) (s : Search) → (update v p l e s) .examined ≡ s .examined
+update-examined : (v : Verdict) (p l h e : ℕ) (s : Search) → (update v p l h e s) .examined ≡ s .examined
 unfolding update
-update-examined unmet p l e s = refl
-update-examined smaller p l e s = refl
-update-examined tie p l e s = refl
-update-examined worse p l e s = refl
+update-examined unmet p l h e s = refl
+update-examined smaller p l h e s = refl
+update-examined tie p l h e s = refl
+update-examined worse p l h e s = refl
 
 -- the spans of u below k are counted
-tried-examined : (m : Map) (u d : ℕ) (s : Search) (k : ℕ)
-    → (tried m u d k s) .examined ≡ s .examined + sumTo k (λ e. delta u (fromOf m e))
+tried-examined : (m : Map) (u d hu : ℕ) (s : Search) (k : ℕ)
+    → (tried m u d hu k s) .examined ≡ s .examined + sumTo k (λ e. delta u (fromOf m e))
 unfolding tried try offer sumTo delta
-tried-examined m u d s zero = omega arith
-tried-examined m u d s (suc k) = go (eqb (fromOf m k) u) (usable m k) (tried-examined m u d s k)
+tried-examined m u d hu s zero = omega arith
+tried-examined m u d hu s (suc k) = go (eqb (fromOf m k) u) (usable m k) (tried-examined m u d hu s k)
   where
     t : Search
-    t = tried m u d k s
+    t = tried m u d hu k s
 
     go : (a b : Bool) → t .examined ≡ s .examined + sumTo k (λ e. delta u (fromOf m e))
-        → (try a b m d k t) .examined ≡ s .examined + (sumTo k (λ e. delta u (fromOf m e)) + cond a 1 0)
+        → (try a b m d hu k t) .examined ≡ s .examined + (sumTo k (λ e. delta u (fromOf m e)) + cond a 1 0)
     go false b h = omega arith
     go true false h = omega arith
     go true true h =
         omega (
           arith,
-          update-examined (judge (bestAt t (toOf m k)) (lastAt t (toOf m k)) (d + lossOf m k) k) (toOf m k)
-              (d + lossOf m k) k (examine t),
+          update-examined
+              (judge (bestAt t (toOf m k)) (jointsAt t (toOf m k)) (lastAt t (toOf m k)) (d + lossOf m k) (suc hu) k)
+              (toOf m k) (d + lossOf m k) (suc hu) k (examine t),
         )
 
 -- examined are the spans that leave settled places
@@ -126,17 +128,18 @@ module _ (stop : Stop) (m : Map) (A : Accepted m) where
     visit-exact : Exact m s → Exact m (visit m u s)
     unfolding visit
     visit-exact h =
-        tried-examined m u (bestAt s u) (extracted u s) (spans m) ∙ with-u h
+        tried-examined m u (bestAt s u) (jointsAt s u) (extracted u s) (spans m) ∙ with-u h
         ∙ sumTo-cong (spans m) _ _ (λ f _. sym (after-all (fromOf m f)))
       where
-        after-all : (q : ℕ) → settledAt (tried m u (bestAt s u) (spans m) (extracted u s)) q ≡ settledAt s q + delta u q
+        after-all : (q : ℕ)
+            → settledAt (tried m u (bestAt s u) (jointsAt s u) (spans m) (extracted u s)) q ≡ settledAt s q + delta u q
         after-all =
             tried-keeps m A (λ t. (q : ℕ) → settledAt t q ≡ settledAt s q + delta u q)
-            (update-settles m A (λ q. settledAt s q + delta u q)) u (bestAt s u) _ (extracted u s)
+            (update-settles m A (λ q. settledAt s q + delta u q)) u (bestAt s u) (jointsAt s u) _ (extracted u s)
             (extracted-trying stop m A k s B u n) one-more (spans m) (le-refl _)
 
     trying-most : Exact m s → (e : ℕ) → e ≤ spans m
-        → (tried m u (bestAt s u) e (extracted u s)) .examined ≤ spans m
+        → (tried m u (bestAt s u) (jointsAt s u) e (extracted u s)) .examined ≤ spans m
     trying-most h e l =
         let one : (q : ℕ) → settledAt s q + delta u q ≤ 1 =
         λ q. rw (sym (one-more q)) (settled-le (getD ((extracted u s) .queue .waits) q 0) (bestAt s q)) in
@@ -144,7 +147,7 @@ module _ (stop : Stop) (m : Map) (A : Accepted m) where
         (λ f _. one (fromOf m f)) in
         omega (
           arith,
-          tried-examined m u (bestAt s u) (extracted u s) e,
+          tried-examined m u (bestAt s u) (jointsAt s u) (extracted u s) e,
           sumTo-grows (λ f. delta u (fromOf m f)) e (spans m) l,
           with-u h,
           top,

@@ -9,19 +9,24 @@ use Rattle.paths.specs.Search.{beyond, search, find}
 use Rattle.paths.specs.Feed.{ResultLists, codeFor, feedAs, feedResult}
 use Rattle.paths.specs.Theorems.{between, Right, FeedDone}
 use Rattle.paths.proofs.Table.{finderTable}
+use Rattle.paths.proofs.LossesAlone.{lossesAlone}
+use Rattle.paths.proofs.Tree.{tableTree}
 use Rattle.paths.proofs.Examined.{examinedExact, examinedAtMost}
 use Rattle.paths.proofs.Accepts.{codeZero}
 
 -- a map that gets code 0 is accepted
 pub done-accepted : (m : Map) (lent : ResultLists) (listedN : ℕ) → codeFor m lent listedN ≡ 0 → Accepted m
 done-accepted m lent listedN e =
-    codeZero .only m (length (lent .best)) (length (lent .last)) listedN (length (lent .store)) e .accepted
+    codeZero .only m (length (lent .best)) (length (lent .last)) (length (lent .joints)) listedN (length (lent .store))
+    e .accepted
 
 pub done-right : (limit : Limit) (m : Map) (lent : ResultLists) → Accepted m → Right limit m (feedAs 0 limit m lent)
 unfolding feedAs search
 done-right limit m lent A =
     record {
       table = finderTable limit m A;
+      losses = lossesAlone .least limit m _ _ _ (finderTable limit m A);
+      tree = tableTree limit m A _ _ _ (finderTable limit m A);
       store = refl;
       examined = examinedExact limit m A;
       atMost = examinedAtMost (beyond limit) m A (find limit m) (between (m .places));

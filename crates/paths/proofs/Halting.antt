@@ -33,10 +33,10 @@ passed stop m A =
           (λ q x t. h q (sym (getD-set-other (s .queue .waits) u q 0 0 x) ∙ t .0, t .1));
       offers =
           record {
-            examined = λ _ _ _ _ s _ h. h;
+            examined = λ _ _ _ _ _ s _ h. h;
             offered =
-                λ u d k r s T i f v c h q t.
-                let K = stays-settled m A u d k r s T i f v c q t in
+                λ u d hu k r s T i f v c h q t.
+                let K = stays-settled m A u d hu k r s T i f v c q t in
                 ap stop (K .loss) ∙ h q (K .settled);
           };
     }

@@ -1,6 +1,7 @@
 -- The proofs about the search, bottom to top.
 pub mod ByHand
 pub mod WindowsByHand
+pub mod JointsByHand
 pub mod Waiting
 pub mod Stopping
 pub mod Invariant
@@ -14,12 +15,16 @@ pub mod Begin
 pub mod Steps
 pub mod Takings
 pub mod Hiding
+pub mod Least
 pub mod Chains
 pub mod Settling
 pub mod Halting
 pub mod Table
 pub mod BudgetTable
+pub mod LossesAlone
+pub mod Tree
 pub mod Ascending
+pub mod CallsByLoss
 pub mod Calls
 pub mod AllFree
 pub mod Log

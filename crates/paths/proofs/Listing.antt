@@ -24,6 +24,7 @@ use Rattle.paths.specs.Search.{
   search,
   find,
   bestAt,
+  jointsAt,
   shownBest,
   takenBy,
   takings,
@@ -64,19 +65,19 @@ module _ (stop : Stop) (m : Map) (A : Accepted m) where
   offers-keep : (l : List ℕ) → KeptByOffers m (ListsSettled l)
   offers-keep l =
       record {
-        examined = λ _ _ _ _ s _ L. record { once = L .once; ascending = L .ascending };
+        examined = λ _ _ _ _ _ s _ L. record { once = L .once; ascending = L .ascending };
         offered =
-            λ u d k r s T i f v c L.
-            let s′ : Search = update v (toOf m k) (d + lossOf m k) k (examine s) in
+            λ u d hu k r s T i f v c L.
+            let s′ : Search = update v (toOf m k) (d + lossOf m k) (suc hu) k (examine s) in
             let once : (q : ℕ) → occurs q l ≡ settledAt s′ q =
-            λ q. sym (update-settles m A (λ q. occurs q l) .offered u d k r s T i f v c (λ q. sym (L .once q)) q) in
+            λ q. sym (update-settles m A (λ q. occurs q l) .offered u d hu k r s T i f v c (λ q. sym (L .once q)) q) in
             record {
               once = once;
               ascending =
                   ascending-same (s .best) (s′ .best) l
                   (λ q h.
                   let t = member-settled l s′ once q h in
-                  let K = stays-settled m A u d k r s T i f v c q t in
+                  let K = stays-settled m A u d hu k r s T i f v c q t in
                   met-word (s′ .best) q (t .1) ∙ K .loss ∙ sym (met-word (s .best) q (K .settled .1)))
                   (L .ascending);
             };
@@ -124,7 +125,7 @@ module _ (stop : Stop) (m : Map) (A : Accepted m) where
           let B = steps-between stop m A k in
           let F = steps-keep stop m A TakenFirst (taken-first stop m A) k in
           tried-keeps m A (ListsSettled (takings stop m k ++ (u ∷ []))) (offers-keep (takings stop m k ++ (u ∷ []))) u
-          (bestAt s u) _ (extracted u s) (extracted-trying stop m A k s B u e)
+          (bestAt s u) (jointsAt s u) _ (extracted u s) (extracted-trying stop m A k s B u e)
           (extracted-lists k s B u e F (takings stop m k) L) _ (le-refl _)
 
 pub finderListing : FinderListing

@@ -18,42 +18,59 @@ use Rattle.paths.specs.Search.{
   smaller,
   tie,
   worse,
+  winsTie,
   judge,
   update,
   bestAt,
   lastAt,
+  jointsAt,
 }
 use Rattle.paths.proofs.Invariant.{isNone, isNone-no, isNone-yes, unsettled, Invariant, TakenLast}
-use Rattle.paths.proofs.Judge.{judge-unmet, judge-smaller, judge-larger, judge-tie, judge-late}
+use Rattle.paths.proofs.Judge.{
+  Wins,
+  NoWorse,
+  wins-tie,
+  keeps-tie,
+  judge-unmet,
+  judge-smaller,
+  judge-larger,
+  judge-tie,
+  judge-kept,
+}
 use Rattle.paths.proofs.Improve.{improve, improve-last, improve-unsettled}
 use Rattle.paths.proofs.Pass.{pass}
 
--- The spans below k of place u, which was taken with loss d, are tried; r places are not settled.
-pub record Trying (m : Map) (u d k r : ℕ) (waits key best last : List ℕ) : Type 0 where
-  pub invariant : Invariant m u d k waits key best last
-  pub takenLast : TakenLast m u d waits best
+-- The spans below k of place u, which was taken with loss d over hu spans, are tried; r places are not settled.
+pub record Trying (m : Map) (u d hu k r : ℕ) (waits key best last joints : List ℕ) : Type 0 where
+  pub invariant : Invariant m u d k waits key best last joints
+  pub takenLast : TakenLast m u d hu waits best joints
   pub left : unsettled waits best ≡ r
 
-abbrev pub TryingOf : Map → ℕ → ℕ → ℕ → ℕ → Search → Type 0
-TryingOf m u d k r s = Trying m u d k r (s .queue .waits) (s .queue .key) (s .best) (s .last)
+abbrev pub TryingOf : Map → ℕ → ℕ → ℕ → ℕ → ℕ → Search → Type 0
+TryingOf m u d hu k r s = Trying m u d hu k r (s .queue .waits) (s .queue .key) (s .best) (s .last) (s .joints)
 
--- What is so where span e offers loss l to place p, for each verdict. A place that gains by an offer is not settled.
-pub data Case (s : Search) (p l e : ℕ) : Verdict → Type 0 where
-  at-unmet : bestAt s p ≡ none → getD (s .queue .waits) p 0 ≡ 0 → Case s p l e unmet
+-- What is so where span e offers loss l over h spans to place p, for each verdict. A place that gains by an offer is
+-- not settled.
+pub data Case (s : Search) (p l h e : ℕ) : Verdict → Type 0 where
+  at-unmet : bestAt s p ≡ none → getD (s .queue .waits) p 0 ≡ 0 → Case s p l h e unmet
   at-smaller : bestAt s p ≢ none → l < bestAt s p → getD (s .queue .waits) p 0 ≡ 1
-      → getD (s .queue .key) p 0 ≡ bestAt s p → Case s p l e smaller
-  at-tie : bestAt s p ≢ none → bestAt s p ≡ l → e < lastAt s p → getD (s .queue .waits) p 0 ≡ 1
-      → getD (s .queue .key) p 0 ≡ bestAt s p → Case s p l e tie
-  at-worse : bestAt s p ≢ none → bestAt s p ≤ l → (bestAt s p ≡ l → lastAt s p ≤ e) → Case s p l e worse
+      → getD (s .queue .key) p 0 ≡ bestAt s p → Case s p l h e smaller
+  at-tie : bestAt s p ≢ none → bestAt s p ≡ l → Wins h e (jointsAt s p) (lastAt s p) → getD (s .queue .waits) p 0 ≡ 1
+      → getD (s .queue .key) p 0 ≡ bestAt s p → Case s p l h e tie
+  at-worse : bestAt s p ≢ none → bestAt s p ≤ l → (bestAt s p ≡ l → NoWorse (jointsAt s p) (lastAt s p) h e)
+      → Case s p l h e worse
 
 module _
-    (m : Map) (A : Accepted m) (u d k r : ℕ) (s : Search) (T : TryingOf m u d k r s) (is : IsSpan m k)
+    (m : Map) (A : Accepted m) (u d hu k r : ℕ) (s : Search) (T : TryingOf m u d hu k r s) (is : IsSpan m k)
     (fu : fromOf m k ≡ u) where
   abbrev p : ℕ
   p = toOf m k
 
   abbrev l : ℕ
   l = d + lossOf m k
+
+  abbrev h : ℕ
+  h = suc hu
 
   abbrev waits : List ℕ
   waits = s .queue .waits
@@ -88,47 +105,52 @@ module _
   keyed w = T .invariant .keyed p (λ z. omega (arith, w))
 
   -- the verdict on the offer, and what is so then
-  pub judged : Case s p l k (judge (bestAt s p) (lastAt s p) l k)
+  pub judged : Case s p l h k (judge (bestAt s p) (jointsAt s p) (lastAt s p) l h k)
   judged =
-      go (eqb (bestAt s p) none) (ltb l (bestAt s p)) (eqb l (bestAt s p)) (ltb k (lastAt s p)) refl refl refl refl
+      go (eqb (bestAt s p) none) (ltb l (bestAt s p)) (eqb l (bestAt s p))
+      (winsTie (jointsAt s p) (lastAt s p) h k) refl refl refl refl
     where
       go : (a b c f : Bool) → eqb (bestAt s p) none ≡ a → ltb l (bestAt s p) ≡ b → eqb l (bestAt s p) ≡ c
-          → ltb k (lastAt s p) ≡ f → Case s p l k (judge (bestAt s p) (lastAt s p) l k)
+          → winsTie (jointsAt s p) (lastAt s p) h k ≡ f
+          → Case s p l h k (judge (bestAt s p) (jointsAt s p) (lastAt s p) l h k)
       go true b c f ea eb ec ef =
           let z = eqb-true (bestAt s p) none ea in
-          rw (judge-unmet (bestAt s p) (lastAt s p) l k z) (at-unmet z (out-of-queue z))
+          rw (judge-unmet (bestAt s p) (jointsAt s p) (lastAt s p) l h k z) (at-unmet z (out-of-queue z))
       go false true c f ea eb ec ef =
           let n = eqb-false (bestAt s p) none ea in
           let o = ltb-true l (bestAt s p) eb in
           let w = in-queue n (omega (arith, o)) in
-          rw (judge-smaller (bestAt s p) (lastAt s p) l k n o) (at-smaller n o w (keyed w))
+          rw (judge-smaller (bestAt s p) (jointsAt s p) (lastAt s p) l h k n o) (at-smaller n o w (keyed w))
       go false false true true ea eb ec ef =
           let n = eqb-false (bestAt s p) none ea in
           let o = eqb-true l (bestAt s p) ec in
-          let j = ltb-true k (lastAt s p) ef in
           let w = in-queue n (omega (arith, o)) in
-          rw (judge-tie (bestAt s p) (lastAt s p) l k n (ltb-false l (bestAt s p) eb) o j)
-          (at-tie n (sym o) j w (keyed w))
+          rw (judge-tie (bestAt s p) (jointsAt s p) (lastAt s p) l h k n (ltb-false l (bestAt s p) eb) o ef)
+          (at-tie n (sym o) (wins-tie (jointsAt s p) (lastAt s p) h k ef) w (keyed w))
       go false false true false ea eb ec ef =
           let n = eqb-false (bestAt s p) none ea in
-          let h = ltb-false l (bestAt s p) eb in
-          let j = ltb-false k (lastAt s p) ef in
-          rw (judge-late (bestAt s p) (lastAt s p) l k n h j) (at-worse n h (λ _. j))
+          let i = ltb-false l (bestAt s p) eb in
+          rw (judge-kept (bestAt s p) (jointsAt s p) (lastAt s p) l h k n i ef)
+          (at-worse n i (λ _. keeps-tie (jointsAt s p) (lastAt s p) h k ef))
       go false false false f ea eb ec ef =
           let n = eqb-false (bestAt s p) none ea in
-          let h = ltb-false l (bestAt s p) eb in
+          let i = ltb-false l (bestAt s p) eb in
           let x : l ≢ bestAt s p = eqb-false l (bestAt s p) ec in
-          rw (judge-larger (bestAt s p) (lastAt s p) l k n h x) (at-worse n h (λ e. absurd (x (sym e))))
+          rw (judge-larger (bestAt s p) (jointsAt s p) (lastAt s p) l h k n i x)
+          (at-worse n i (λ e. absurd (x (sym e))))
 
-  better : isNone (bestAt s p) + getD waits p 0 ≡ 1 → l ≤ bestAt s p → (bestAt s p ≡ l → k < lastAt s p)
-      → Trying m u d (suc k) r (set waits p 1) (set key p l) (set (s .best) p l) (set (s .last) p k)
+  better : isNone (bestAt s p) + getD waits p 0 ≡ 1 → l ≤ bestAt s p
+      → (bestAt s p ≡ l → Wins h k (jointsAt s p) (lastAt s p))
+      → Trying m u d hu (suc k) r (set waits p 1) (set key p l) (set (s .best) p l) (set (s .last) p k)
+      (set (s .joints) p h)
   better gap low eq =
       let I = T .invariant in
       let L = T .takenLast in
       record {
-        invariant = improve m A u d k waits key (s .best) (s .last) I L is fu gap low eq;
-        takenLast = improve-last m A u d k waits key (s .best) (s .last) I L is fu gap low eq;
-        left = improve-unsettled m A u d k waits key (s .best) (s .last) I L is fu gap low eq ∙ T .left;
+        invariant = improve m A u d hu k waits key (s .best) (s .last) (s .joints) I L is fu gap low eq;
+        takenLast = improve-last m A u d hu k waits key (s .best) (s .last) (s .joints) I L is fu gap low eq;
+        left =
+            improve-unsettled m A u d hu k waits key (s .best) (s .last) (s .joints) I L is fu gap low eq ∙ T .left;
       }
 
   gap-met : bestAt s p ≢ none → getD waits p 0 ≡ 1 → isNone (bestAt s p) + getD waits p 0 ≡ 1
@@ -138,7 +160,7 @@ module _
   kept-waits w = rw w at (set-getD waits p 0)
 
   -- Where a list is not written, writing what stands there gives it: so all verdicts but the last are one lemma.
-  pub update-trying : (v : Verdict) → Case s p l k v → TryingOf m u d (suc k) r (update v p l k s)
+  pub update-trying : (v : Verdict) → Case s p l h k v → TryingOf m u d hu (suc k) r (update v p l h k s)
   unfolding update
   update-trying unmet (at-unmet z o) =
       better (omega (arith, o, isNone-yes, ap isNone z)) (omega (arith, sum-fits))
@@ -152,8 +174,9 @@ module _
   update-trying worse (at-worse n le eq) =
       record {
         invariant =
-            pass m u d k waits key (s .best) (s .last) (T .invariant)
-            (λ _ _. record { le = rw (fu, T .takenLast .at) le; tie = rw (fu, T .takenLast .at) eq });
+            pass m u d k waits key (s .best) (s .last) (s .joints) (T .invariant)
+            (λ _ _.
+            record { le = rw (fu, T .takenLast .at) le; tie = rw (fu, T .takenLast .at, T .takenLast .over) eq });
         takenLast = T .takenLast;
         left = T .left;
       }

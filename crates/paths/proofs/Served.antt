@@ -1,6 +1,6 @@
 -- The calls of a search, made on the forests: none is refused, each taking answers the place that the search takes, and
 -- in the end the forests are empty.
-use Prim.Native.Nat.{ℕ, _+_, _≤_, _<_}
+use Prim.Native.Nat.{ℕ, suc, _+_, _≤_, _<_}
 use mathlib.Core.Path.{_≡_, refl, ap, _∙_}
 use mathlib.Core.Logic.{_≢_}
 use mathlib.Core.List.{List, [], _∷_, _++_}
@@ -106,19 +106,19 @@ module _ (stop : Stop) (m : Map) (A : Accepted m) where
       (enter-served n (noneWait n) [] none-yet (m .start) 0 (rw (length-replicate {A = ℕ} n 0) (A .startIn))
       (getD-all {A = ℕ} n (m .start) 0))
 
-  pub update-served : (u d k r : ℕ) (s : Search) → TryingOf m u d k r s → IsSpan m k → fromOf m k ≡ u → (v : Verdict)
-      → Case s (toOf m k) (d + lossOf m k) k v → ServedOf m s
-      → ServedOf m (update v (toOf m k) (d + lossOf m k) k (examine s))
+  pub update-served : (u d hu k r : ℕ) (s : Search) → TryingOf m u d hu k r s → IsSpan m k → fromOf m k ≡ u
+      → (v : Verdict) → Case s (toOf m k) (d + lossOf m k) (suc hu) k v → ServedOf m s
+      → ServedOf m (update v (toOf m k) (d + lossOf m k) (suc hu) k (examine s))
   unfolding update InRange
-  update-served u d k r s T is fu unmet (at-unmet z o) S =
-      served-more n (s .queue) (s .calls) S _ _ _ _ _ (omega (arith, sum-fits m A u d k r s T is fu))
+  update-served u d hu k r s T is fu unmet (at-unmet z o) S =
+      served-more n (s .queue) (s .calls) S _ _ _ _ _ (omega (arith, sum-fits m A u d hu k r s T is fu))
       (enter-served n (s .queue) (s .calls) S (toOf m k) (d + lossOf m k)
       (omega (arith, T .invariant .waitsN, A .toIn k (is .0))) o)
-  update-served u d k r s T is fu smaller (at-smaller _ o w q) S =
+  update-served u d hu k r s T is fu smaller (at-smaller _ o w q) S =
       served-more n (s .queue) (s .calls) S _ _ _ _ _ tt
       (lower-served n (s .queue) (s .calls) S (toOf m k) (d + lossOf m k) (λ z. omega (arith, w)) (omega (arith, q)))
-  update-served u d k r s T is fu tie c S = S
-  update-served u d k r s T is fu worse c S = S
+  update-served u d hu k r s T is fu tie c S = S
+  update-served u d hu k r s T is fu worse c S = S
 
   take-does : (k : ℕ) (s : Search) → Between stop m k s → (u : ℕ) → next stop (s .queue) ≡ takes u → ServedOf m s
       → Does (answer (forestsAfter m s) (Yields (ExtractMin 0))) u (getD (s .queue .key) u 0)
@@ -134,7 +134,7 @@ module _ (stop : Stop) (m : Map) (A : Accepted m) where
         taken =
             λ k s B u e S.
             served-more n (s .queue) (s .calls) S (Yields (ExtractMin 0)) _ _ _ _ tt (take-does k s B u e S);
-        offers = record { examined = λ _ _ _ _ s _ S. S; offered = update-served };
+        offers = record { examined = λ _ _ _ _ _ s _ S. S; offered = update-served };
       }
 
 pub viewAgrees : ViewAgrees

@@ -1,5 +1,5 @@
 -- Which places are settled, as a number; offers settle none.
-use Prim.Native.Nat.{ℕ, _+_, _≤_, zero-le}
+use Prim.Native.Nat.{ℕ, suc, _+_, _≤_, zero-le}
 use mathlib.Core.Path.{_≡_, refl, sym, _∙_}
 use mathlib.Core.Logic.{_≢_}
 use mathlib.Core.Bool.{Bool, true, false, cond, not}
@@ -73,7 +73,7 @@ shown-settled s q = rw (hide-at (s .queue .waits) (s .best) q) (go (eqb (getD (s
 
 -- A place that is settled after an offer was so before, with the same loss: the place that gains by one waits.
 module _
-    (m : Map) (A : Accepted m) (u d k r : ℕ) (s : Search) (T : TryingOf m u d k r s) (is : IsSpan m k)
+    (m : Map) (A : Accepted m) (u d hu k r : ℕ) (s : Search) (T : TryingOf m u d hu k r s) (is : IsSpan m k)
     (fu : fromOf m k ≡ u) where
   abbrev p : ℕ
   p = toOf m k
@@ -81,12 +81,15 @@ module _
   abbrev l : ℕ
   l = d + lossOf m k
 
+  abbrev h : ℕ
+  h = suc hu
+
   pub record StaysSettled (s′ : Search) (q : ℕ) : Type 0 where
     pub settled : Settled (s .queue .waits) (s .best) q
     pub loss : bestAt s′ q ≡ bestAt s q
 
-  pub stays-settled : (v : Verdict) → Case s p l k v → (q : ℕ) →
-      let s′ : Search = update v p l k (examine s) in
+  pub stays-settled : (v : Verdict) → Case s p l h k v → (q : ℕ) →
+      let s′ : Search = update v p l h k (examine s) in
       Settled (s′ .queue .waits) (s′ .best) q → StaysSettled s′ q
   unfolding update
   stays-settled unmet (at-unmet z o) =
@@ -111,12 +114,12 @@ module _
 -- offers settle no place
 pub update-settles : (m : Map) → Accepted m → (f : ℕ → ℕ) → KeptByOffers m (λ s. (q : ℕ) → settledAt s q ≡ f q)
 unfolding update
-update-settles m A f = record { examined = λ _ _ _ _ s _ h. h; offered = offered }
+update-settles m A f = record { examined = λ _ _ _ _ _ s _ h. h; offered = offered }
   where
-    offered : (u d k r : ℕ) (s : Search) → TryingOf m u d k r s → IsSpan m k → fromOf m k ≡ u → (v : Verdict)
-        → Case s (toOf m k) (d + lossOf m k) k v → ((q : ℕ) → settledAt s q ≡ f q) → (q : ℕ)
-        → settledAt (update v (toOf m k) (d + lossOf m k) k (examine s)) q ≡ f q
-    offered u d k r s T is fu v c h = go v c
+    offered : (u d hu k r : ℕ) (s : Search) → TryingOf m u d hu k r s → IsSpan m k → fromOf m k ≡ u → (v : Verdict)
+        → Case s (toOf m k) (d + lossOf m k) (suc hu) k v → ((q : ℕ) → settledAt s q ≡ f q) → (q : ℕ)
+        → settledAt (update v (toOf m k) (d + lossOf m k) (suc hu) k (examine s)) q ≡ f q
+    offered u d hu k r s T is fu v c t = go v c
       where
         p : ℕ
         p = toOf m k
@@ -124,17 +127,20 @@ update-settles m A f = record { examined = λ _ _ _ _ s _ h. h; offered = offere
         l : ℕ
         l = d + lossOf m k
 
-        one : getD (s .queue .waits) p 0 ≡ 1 → (x : ℕ) → isSettled (getD (s .queue .waits) p 0) x ≡ f p
-        one w x = waits-not _ x (λ e. omega (arith, w)) ∙ sym (waits-not _ (bestAt s p) (λ e. omega (arith, w))) ∙ h p
+        h : ℕ
+        h = suc hu
 
-        go : (v : Verdict) → Case s p l k v → (q : ℕ) → settledAt (update v p l k (examine s)) q ≡ f q
+        one : getD (s .queue .waits) p 0 ≡ 1 → (x : ℕ) → isSettled (getD (s .queue .waits) p 0) x ≡ f p
+        one w x = waits-not _ x (λ e. omega (arith, w)) ∙ sym (waits-not _ (bestAt s p) (λ e. omega (arith, w))) ∙ t p
+
+        go : (v : Verdict) → Case s p l h k v → (q : ℕ) → settledAt (update v p l h k (examine s)) q ≡ f q
         go unmet (at-unmet z o) =
             let i = getD-set-same (s .queue .waits) p 1 0 (omega (arith, T .invariant .waitsN, A .toIn k (is .0))) in
             byItem p
             (rw i (waits-not 1 _ (λ e. omega arith))
-            ∙ sym (not-settled (getD (s .queue .waits) p 0) (bestAt s p) (λ x. x .1 z)) ∙ h p)
-            (λ q n. rw (getD-set-other (s .queue .waits) p q 1 0 n, getD-set-other (s .best) p q l none n) (h q))
+            ∙ sym (not-settled (getD (s .queue .waits) p 0) (bestAt s p) (λ x. x .1 z)) ∙ t p)
+            (λ q n. rw (getD-set-other (s .queue .waits) p q 1 0 n, getD-set-other (s .best) p q l none n) (t q))
         go smaller (at-smaller _ o w _) =
-            byItem p (one w _) (λ q n. rw (getD-set-other (s .best) p q l none n) (h q))
-        go tie c = h
-        go worse c = h
+            byItem p (one w _) (λ q n. rw (getD-set-other (s .best) p q l none n) (t q))
+        go tie c = t
+        go worse c = t

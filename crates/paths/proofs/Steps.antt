@@ -7,7 +7,7 @@ use native.Mathlib.Omega.{arith}
 use lib.ListN.{getD, set}
 use Rattle.paths.specs.Map.{Map, spans, Accepted}
 use Rattle.paths.specs.Queue.{Stop, NextPlace, halts, takes, next}
-use Rattle.paths.specs.Search.{Search, tried, extracted, visit, step, begin, steps, search, bestAt}
+use Rattle.paths.specs.Search.{Search, tried, extracted, visit, step, begin, steps, search, bestAt, jointsAt}
 use Rattle.paths.specs.Theorems.{SearchHalts, Moment, between, trying}
 use Rattle.paths.proofs.Waiting.{TakesNext, next-takes}
 use Rattle.paths.proofs.Invariant.{unsettled, Invariant}
@@ -20,7 +20,8 @@ use Rattle.paths.proofs.Tried.{KeptByOffers, tried-trying, tried-keeps}
 pub record Between (stop : Stop) (m : Map) (k : ℕ) (s : Search) : Type 0 where
   pub lastTaken : ℕ
   pub reach : ℕ
-  pub invariant : Invariant m lastTaken reach (spans m) (s .queue .waits) (s .queue .key) (s .best) (s .last)
+  pub invariant :
+      Invariant m lastTaken reach (spans m) (s .queue .waits) (s .queue .key) (s .best) (s .last) (s .joints)
   pub goes : (u : ℕ) → next stop (s .queue) ≡ takes u → unsettled (s .queue .waits) (s .best) + k ≡ m .places
 
 module _ (stop : Stop) (m : Map) (A : Accepted m) where
@@ -36,28 +37,29 @@ module _ (stop : Stop) (m : Map) (A : Accepted m) where
     least q w = taken-next .first q w .0
 
     -- none of its spans is tried yet
-    pub extracted-trying : TryingOf m u (bestAt s u) 0 rest (extracted u s)
+    pub extracted-trying : TryingOf m u (bestAt s u) (jointsAt s u) 0 rest (extracted u s)
     extracted-trying =
         let I = B .invariant in
         record {
           invariant =
-              take m (B .lastTaken) (B .reach) (s .queue .waits) (s .queue .key) (s .best) (s .last) I u
+              take m (B .lastTaken) (B .reach) (s .queue .waits) (s .queue .key) (s .best) (s .last) (s .joints) I u
               (taken-next .inside) least;
           takenLast =
-              take-last m (B .lastTaken) (B .reach) (s .queue .waits) (s .queue .key) (s .best) (s .last) I u
-              (taken-next .inside) least;
+              take-last m (B .lastTaken) (B .reach) (s .queue .waits) (s .queue .key) (s .best) (s .last) (s .joints) I
+              u (taken-next .inside) least;
           left = refl;
         }
 
     pub extracted-rest : rest + 1 ≡ unsettled (s .queue .waits) (s .best)
     extracted-rest =
-        take-unsettled m (B .lastTaken) (B .reach) (s .queue .waits) (s .queue .key) (s .best) (s .last) (B .invariant)
-        u (taken-next .inside) least
+        take-unsettled m (B .lastTaken) (B .reach) (s .queue .waits) (s .queue .key) (s .best) (s .last) (s .joints)
+        (B .invariant) u (taken-next .inside) least
 
     visited : Between stop m (suc k) (visit m u s)
     unfolding visit
     visited =
-        let t = tried-trying m A u (bestAt s u) rest (extracted u s) extracted-trying (spans m) (le-refl _) in
+        let t =
+        tried-trying m A u (bestAt s u) (jointsAt s u) rest (extracted u s) extracted-trying (spans m) (le-refl _) in
         record {
           lastTaken = u;
           reach = bestAt s u;
@@ -99,12 +101,13 @@ module _ (stop : Stop) (m : Map) (A : Accepted m) where
   module _ (P : Search → Type 0) (K : Kept P) where
     -- while the spans of u are tried
     pub trying-keeps : (k : ℕ) (u : ℕ) → next stop ((steps stop m k) .queue) ≡ takes u → P (steps stop m k) → (e : ℕ)
-        → e ≤ spans m → P (tried m u (bestAt (steps stop m k) u) e (extracted u (steps stop m k)))
+        → e ≤ spans m
+        → P (tried m u (bestAt (steps stop m k) u) (jointsAt (steps stop m k) u) e (extracted u (steps stop m k)))
     trying-keeps k u e h =
         let s : Search = steps stop m k in
         let B : Between stop m k s = steps-between k in
-        tried-keeps m A P (K .offers) u (bestAt s u) (rest k s B u e) (extracted u s) (extracted-trying k s B u e)
-        (K .taken k s B u e h)
+        tried-keeps m A P (K .offers) u (bestAt s u) (jointsAt s u) (rest k s B u e) (extracted u s)
+        (extracted-trying k s B u e) (K .taken k s B u e h)
 
     pub steps-keep : (k : ℕ) → P (steps stop m k)
     unfolding steps step visit

@@ -16,7 +16,8 @@ use Rattle.paths.proofs.Invariant.{unsettled, Settled, Invariant, Taken
 
 -- The place x, which waits with the least key, is taken.
 module _
-    (m : Map) (u d : ℕ) (waits key best last : List ℕ) (I : Invariant m u d (spans m) waits key best last) (x : ℕ)
+    (m : Map) (u d : ℕ) (waits key best last joints : List ℕ)
+    (I : Invariant m u d (spans m) waits key best last joints) (x : ℕ)
     (wx : getD waits x 0 ≢ 0) (least : (q : ℕ) → getD waits q 0 ≢ 0 → getD key x 0 ≤ getD key q 0) where
   abbrev gone : List ℕ
   gone = set waits x 0
@@ -44,13 +45,14 @@ module _
     s .1,
   )
 
-  pub take : Invariant m x (getD best x none) 0 gone (set key x 0) best last
+  pub take : Invariant m x (getD best x none) 0 gone (set key x 0) best last joints
   take =
       record {
         waitsN = simp length-set (I .waitsN);
         keyN = simp length-set (I .keyN);
         bestN = I .bestN;
         lastN = I .lastN;
+        jointsN = I .jointsN;
         bit = byItem x (rw gone-x zero-le) (λ q n. rw (gone-o q n) (I .bit q));
         met = λ q w. I .met q (stays q w .1);
         keyed = λ q w. rw (getD-set-other key x q 0 0 (stays q w .0)) (I .keyed q (stays q w .1));
@@ -59,7 +61,13 @@ module _
         given =
             λ q a b.
             let G = I .given q a b in
-            record { is = G .is; to = G .to; origin = still (fromOf m (getD last q none)) (G .origin); sum = G .sum };
+            record {
+              is = G .is;
+              to = G .to;
+              origin = still (fromOf m (getD last q none)) (G .origin);
+              sum = G .sum;
+              count = G .count;
+            };
         relaxed =
             λ e i s f.
             let n : fromOf m e ≢ x = λ z. omega (arith, f z) in
@@ -69,7 +77,14 @@ module _
             (λ q n s. le-trans (I .past q (sym (gone-o q n) ∙ s .0, s .1)) (I .future x wx));
         future = λ q w. let s = stays q w in omega (arith, least q (s .1), I .keyed x wx, I .keyed q (s .1));
         small = λ q a. omega (arith, I .small q a, take-unsettled);
+        short = I .short;
       }
 
-  pub take-last : TakenLast m x (getD best x none) gone best
-  take-last = record { away = gone-x; at = refl; room = omega (arith, I .small x (I .met x wx), take-unsettled) }
+  pub take-last : TakenLast m x (getD best x none) (getD joints x none) gone best joints
+  take-last =
+      record {
+        away = gone-x;
+        at = refl;
+        over = refl;
+        room = omega (arith, I .small x (I .met x wx), take-unsettled);
+      }

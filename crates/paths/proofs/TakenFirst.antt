@@ -1,5 +1,5 @@
 -- Each settled place comes before each that waits: by loss, then by number. So places are taken in ascending order.
-use Prim.Native.Nat.{ℕ, _+_, _≤_, _<_}
+use Prim.Native.Nat.{ℕ, suc, _+_, _≤_, _<_}
 use mathlib.Core.Path.{_≡_, sym, ap, _∙_}
 use mathlib.Core.Logic.{_≢_}
 use mathlib.Core.List.{List}
@@ -83,13 +83,16 @@ module _ (stop : Stop) (m : Map) (A : Accepted m) where
 
   -- an offer is of more than the loss of any settled place
   module _
-      (u d k r : ℕ) (s : Search) (T : TryingOf m u d k r s) (is : IsSpan m k) (fu : fromOf m k ≡ u)
-      (h : TakenFirst s) where
+      (u d hu k r : ℕ) (s : Search) (T : TryingOf m u d hu k r s) (is : IsSpan m k) (fu : fromOf m k ≡ u)
+      (F : TakenFirst s) where
     abbrev p : ℕ
     p = toOf m k
 
     abbrev l : ℕ
     l = d + lossOf m k
+
+    abbrev h : ℕ
+    h = suc hu
 
     abbrev best′ : List ℕ
     best′ = set (s .best) p l
@@ -105,23 +108,23 @@ module _ (stop : Stop) (m : Map) (A : Accepted m) where
 
     others : (q w : ℕ) → w ≢ p → Settled (s .queue .waits) (s .best) q → getD best′ q none ≡ bestAt s q
         → Waits (s .queue .waits) w → Before best′ q w
-    others q w n t e x = rw (e, getD-set-other (s .best) p w l none n) (h q w t x)
+    others q w n t e x = rw (e, getD-set-other (s .best) p w l none n) (F q w t x)
 
-    offered-first : (v : Verdict) → Case s p l k v → TakenFirst (update v p l k (examine s))
+    offered-first : (v : Verdict) → Case s p l h k v → TakenFirst (update v p l h k (examine s))
     unfolding update
     offered-first unmet (at-unmet z o) =
         λ q w t x.
-        let K = stays-settled m A u d k r s T is fu unmet (at-unmet z o) q t in
+        let K = stays-settled m A u d hu k r s T is fu unmet (at-unmet z o) q t in
         byItem {P = λ w. Waits (set (s .queue .waits) p 1) w → Before best′ q w} p (λ _. gains q (K .settled) (K .loss))
         (λ w n x.
         others q w n (K .settled) (K .loss) (rw (getD-set-other (s .queue .waits) p w 1 0 n) at x)) w x
     offered-first smaller (at-smaller a o b c) =
         λ q w t x.
-        let K = stays-settled m A u d k r s T is fu smaller (at-smaller a o b c) q t in
+        let K = stays-settled m A u d hu k r s T is fu smaller (at-smaller a o b c) q t in
         byItem {P = λ w. Waits (s .queue .waits) w → Before best′ q w} p (λ _. gains q (K .settled) (K .loss))
         (λ w n x. others q w n (K .settled) (K .loss) x) w x
-    offered-first tie c = h
-    offered-first worse c = h
+    offered-first tie c = F
+    offered-first worse c = F
 
   pub taken-first : Kept stop m A TakenFirst
   unfolding begin
@@ -131,7 +134,7 @@ module _ (stop : Stop) (m : Map) (A : Accepted m) where
         taken = extracted-first;
         offers =
             record {
-              examined = λ _ _ _ _ s _ h. h;
-              offered = λ u d k r s T i f v c h. offered-first u d k r s T i f h v c;
+              examined = λ _ _ _ _ _ s _ h. h;
+              offered = λ u d hu k r s T i f v c h. offered-first u d hu k r s T i f h v c;
             };
       }

@@ -10,6 +10,7 @@ use Rattle.rules.specs.Answers.{isEmpty, refusal, refused, unlessRefused, answe
 use Rattle.paths.specs.Map.{usableAt, usableBy}
 use Rattle.paths.specs.Queue.{waiting, nextOf, next}
 use Rattle.paths.specs.Search.{
+  winsTie,
   judge,
   update,
   offer,
@@ -36,9 +37,9 @@ use Rattle.paths.specs.Codes.{
 }
 use Rattle.paths.specs.Feed.{linksOf, cutsOf, feedAs, feedResult, budgetAs, budgetResult}
 use Rattle.paths.specs.ByHand.{
-  ninesThree,
+  nines,
+  done,
   onThree,
-  doneThree,
   refusedThree,
   onFour,
   doneFour,
@@ -61,11 +62,11 @@ use Rattle.paths.specs.WindowsByHand.{
 }
 
 pub workedWindows : WorkedWindows
-unfolding ninesThree onThree doneThree refusedThree onFour doneFour onTwo refusedTwo paperSpans morningMap
+unfolding nines done onThree refusedThree onFour doneFour onTwo refusedTwo paperSpans morningMap
     firstMinuteMap turnsMap onWindows doneWindows windowRows windowBudgets pairAt badMinutes badWindows budgetResult
     budgetAs feedResult feedAs hideWaiting takings linksOf cutsOf feedCode minuteFits windowListsFit storeSize
     codeBelow spanCode previous supplyFault windowFault fault usableBy usableAt search steps begin step visit tried
-    try offer update judge next nextOf waiting answers answer unlessRefused refused refusal isEmpty perform
+    try offer update judge winsTie next nextOf waiting answers answer unlessRefused refused refusal isEmpty perform
     decreaseKey hasParent extract removeRoot setFree release insert consolidate consolidateWithin occupied linkTrees
     climb isFree link cutIf cutOut cutWithin cascadingCut nodeKind cut minimum leastIn leastOf comesBefore setAll
     without sumBy

@@ -1,5 +1,5 @@
--- Feed calls worked by hand: the map of the scope paper, one where an equal loss lowers the span shown, the paper's
--- example of each code, and calls with a budget.
+-- Feed calls worked by hand: the map of the scope paper, one where two chains have the same loss, the paper's example
+-- of each code, and calls with a budget.
 use Prim.Native.Nat.{ℕ, _-_}
 use mathlib.Core.Path.{_≡_}
 use mathlib.Core.List.{List, [], _∷_, _++_, map}
@@ -13,31 +13,34 @@ use Rattle.paths.specs.Table.{unlimited, upTo}
 use Rattle.paths.specs.Search.{find}
 use Rattle.paths.specs.Feed.{linksOf, ResultLists, resultLists, Feed, feedResult, BudgetFeed, budgetResult}
 
--- result lists and a store for three places, all full of nines, and a feed call that is lent them
-unfoldable pub ninesThree : ResultLists
-ninesThree = resultLists (replicate 3 9) (replicate 3 9) (replicate (storeSize 3) 9)
+-- result lists and a store for n places, all full of nines
+unfoldable pub nines : ℕ → ResultLists
+nines n = resultLists (replicate n 9) (replicate n 9) (replicate n 9) (replicate (storeSize n) 9)
 
-unfoldable pub onThree : Map → Feed
-onThree m = feedResult m ninesThree
-
-unfoldable pub doneThree : ℕ → ℕ → ℕ → List ℕ → List ℕ → Feed
-doneThree links cuts examined best last =
+-- a feed call that is done: its figures, and the table that it leaves beside an empty store
+unfoldable pub done : ℕ → ℕ → ℕ → List ℕ → List ℕ → List ℕ → Feed
+done links cuts examined best last joints =
     record {
       code = 0;
       links = links;
       cuts = cuts;
       examined = examined;
-      left = resultLists best last (encode (empty 3));
+      left = resultLists best last joints (encode (empty (length best)));
     }
 
+-- a feed call that is lent lists for three places, and one that is refused
+unfoldable pub onThree : Map → Feed
+onThree m = feedResult m (nines 3)
+
 unfoldable pub refusedThree : ℕ → Feed
-refusedThree code = record { code = code; links = 0; cuts = 0; examined = 0; left = ninesThree }
+refusedThree code = record { code = code; links = 0; cuts = 0; examined = 0; left = nines 3 }
 
 -- the map of the paper: place 2 is first met at loss 20, then lowered to 12
 unfoldable pub paperMap : Map
 paperMap = mapOf 3 0 (spanLists (0 ∷ 0 ∷ 1 ∷ []) (1 ∷ 2 ∷ 2 ∷ []) (7 ∷ 20 ∷ 5 ∷ []))
 
--- from place 2, place 1 is reached at loss 2 by span 2, then at the same loss by span 0
+-- From place 2, place 1 is met at loss 2 by span 2, which is a chain of one span. Span 0 has a lower number and ends a
+-- chain of the same loss, but of two spans.
 unfoldable pub tieMap : Map
 tieMap = mapOf 3 2 (spanLists (0 ∷ 2 ∷ 2 ∷ []) (1 ∷ 0 ∷ 1 ∷ []) (1 ∷ 1 ∷ 2 ∷ []))
 
@@ -52,7 +55,7 @@ refusedMaps =
 -- ---- with a budget
 
 -- A call that is lent four words for its places: the map and the budget; the places listed and the spans examined; the
--- table's losses and its spans. None of these calls makes a link or a cut.
+-- table's losses, its spans and its numbers of spans. None of these calls makes a link or a cut.
 pub record BudgetRow : Type 0 where
   pub map : Map
   pub budget : ℕ
@@ -60,18 +63,27 @@ pub record BudgetRow : Type 0 where
   pub examined : ℕ
   pub best : List ℕ
   pub last : List ℕ
+  pub joints : List ℕ
 
-abbrev pub budgetRow : Map → ℕ → List ℕ → ℕ → List ℕ → List ℕ → BudgetRow
-budgetRow map budget places examined best last =
-    record { map = map; budget = budget; places = places; examined = examined; best = best; last = last }
+abbrev pub budgetRow : Map → ℕ → List ℕ → ℕ → List ℕ → List ℕ → List ℕ → BudgetRow
+budgetRow map budget places examined best last joints =
+    record {
+      map = map;
+      budget = budget;
+      places = places;
+      examined = examined;
+      best = best;
+      last = last;
+      joints = joints;
+    }
 
 unfoldable pub onFour : BudgetRow → BudgetFeed
-onFour r = budgetResult (r .budget) (r .map) ninesThree (replicate 4 9)
+onFour r = budgetResult (r .budget) (r .map) (nines 3) (replicate 4 9)
 
 unfoldable pub doneFour : BudgetRow → BudgetFeed
 doneFour r =
     record {
-      feed = doneThree 0 0 (r .examined) (r .best) (r .last);
+      feed = done 0 0 (r .examined) (r .best) (r .last) (r .joints);
       number = length (r .places);
       listed = r .places ++ replicate (4 - length (r .places)) 9;
     }
@@ -86,21 +98,21 @@ unreachedMap = mapOf 3 0 (spanLists (0 ∷ []) (1 ∷ []) (7 ∷ []))
 
 unfoldable pub budgetRows : List BudgetRow
 budgetRows =
-    budgetRow paperMap 0 (0 ∷ []) 2 (0 ∷ none ∷ none ∷ []) (none ∷ none ∷ none ∷ [])
-    ∷ budgetRow paperMap 6 (0 ∷ []) 2 (0 ∷ none ∷ none ∷ []) (none ∷ none ∷ none ∷ [])
-    ∷ budgetRow paperMap 7 (0 ∷ 1 ∷ []) 3 (0 ∷ 7 ∷ none ∷ []) (none ∷ 0 ∷ none ∷ [])
-    ∷ budgetRow paperMap 11 (0 ∷ 1 ∷ []) 3 (0 ∷ 7 ∷ none ∷ []) (none ∷ 0 ∷ none ∷ [])
-    ∷ budgetRow paperMap 12 (0 ∷ 1 ∷ 2 ∷ []) 3 (0 ∷ 7 ∷ 12 ∷ []) (none ∷ 0 ∷ 2 ∷ [])
-    ∷ budgetRow paperMap 4294967295 (0 ∷ 1 ∷ 2 ∷ []) 3 (0 ∷ 7 ∷ 12 ∷ []) (none ∷ 0 ∷ 2 ∷ [])
-    ∷ budgetRow tieMap 2 (2 ∷ 0 ∷ 1 ∷ []) 3 (1 ∷ 2 ∷ 0 ∷ []) (1 ∷ 0 ∷ none ∷ [])
-    ∷ budgetRow equalMap 4 (0 ∷ []) 2 (0 ∷ none ∷ none ∷ []) (none ∷ none ∷ none ∷ [])
-    ∷ budgetRow equalMap 5 (0 ∷ 1 ∷ 2 ∷ []) 2 (0 ∷ 5 ∷ 5 ∷ []) (none ∷ 1 ∷ 0 ∷ [])
-    ∷ budgetRow unreachedMap 4294967295 (0 ∷ 1 ∷ []) 1 (0 ∷ 7 ∷ none ∷ []) (none ∷ 0 ∷ none ∷ [])
+    budgetRow paperMap 0 (0 ∷ []) 2 (0 ∷ none ∷ none ∷ []) (none ∷ none ∷ none ∷ []) (0 ∷ none ∷ none ∷ [])
+    ∷ budgetRow paperMap 6 (0 ∷ []) 2 (0 ∷ none ∷ none ∷ []) (none ∷ none ∷ none ∷ []) (0 ∷ none ∷ none ∷ [])
+    ∷ budgetRow paperMap 7 (0 ∷ 1 ∷ []) 3 (0 ∷ 7 ∷ none ∷ []) (none ∷ 0 ∷ none ∷ []) (0 ∷ 1 ∷ none ∷ [])
+    ∷ budgetRow paperMap 11 (0 ∷ 1 ∷ []) 3 (0 ∷ 7 ∷ none ∷ []) (none ∷ 0 ∷ none ∷ []) (0 ∷ 1 ∷ none ∷ [])
+    ∷ budgetRow paperMap 12 (0 ∷ 1 ∷ 2 ∷ []) 3 (0 ∷ 7 ∷ 12 ∷ []) (none ∷ 0 ∷ 2 ∷ []) (0 ∷ 1 ∷ 2 ∷ [])
+    ∷ budgetRow paperMap 4294967295 (0 ∷ 1 ∷ 2 ∷ []) 3 (0 ∷ 7 ∷ 12 ∷ []) (none ∷ 0 ∷ 2 ∷ []) (0 ∷ 1 ∷ 2 ∷ [])
+    ∷ budgetRow tieMap 2 (2 ∷ 0 ∷ 1 ∷ []) 3 (1 ∷ 2 ∷ 0 ∷ []) (1 ∷ 2 ∷ none ∷ []) (1 ∷ 1 ∷ 0 ∷ [])
+    ∷ budgetRow equalMap 4 (0 ∷ []) 2 (0 ∷ none ∷ none ∷ []) (none ∷ none ∷ none ∷ []) (0 ∷ none ∷ none ∷ [])
+    ∷ budgetRow equalMap 5 (0 ∷ 1 ∷ 2 ∷ []) 2 (0 ∷ 5 ∷ 5 ∷ []) (none ∷ 1 ∷ 0 ∷ []) (0 ∷ 1 ∷ 1 ∷ [])
+    ∷ budgetRow unreachedMap 4294967295 (0 ∷ 1 ∷ []) 1 (0 ∷ 7 ∷ none ∷ []) (none ∷ 0 ∷ none ∷ []) (0 ∷ 1 ∷ none ∷ [])
     ∷ []
 
 -- A place list of two words is refused before the spans are tested, with all that was lent unchanged.
 unfoldable pub onTwo : Map → BudgetFeed
-onTwo m = budgetResult 0 m ninesThree (replicate 2 9)
+onTwo m = budgetResult 0 m (nines 3) (replicate 2 9)
 
 unfoldable pub refusedTwo : ℕ → BudgetFeed
 refusedTwo code = record { feed = refusedThree code; number = 0; listed = replicate 2 9 }
@@ -120,8 +132,8 @@ pub record WorkedMaps : Type 0 where
       (find unlimited paperMap) .calls
       ≡ Yields (Insert 0 0 0) ∷ Yields (ExtractMin 0) ∷ Yields (Insert 0 1 7) ∷ Yields (Insert 0 2 20)
       ∷ Yields (ExtractMin 0) ∷ Yields (DecreaseKey 2 12) ∷ Yields (ExtractMin 0) ∷ []
-  pub paper : onThree paperMap ≡ doneThree 0 0 3 (0 ∷ 7 ∷ 12 ∷ []) (none ∷ 0 ∷ 2 ∷ [])
-  pub tie : onThree tieMap ≡ doneThree 0 0 3 (1 ∷ 2 ∷ 0 ∷ []) (1 ∷ 0 ∷ none ∷ [])
+  pub paper : onThree paperMap ≡ done 0 0 3 (0 ∷ 7 ∷ 12 ∷ []) (none ∷ 0 ∷ 2 ∷ []) (0 ∷ 1 ∷ 2 ∷ [])
+  pub tie : onThree tieMap ≡ done 0 0 3 (1 ∷ 2 ∷ 0 ∷ []) (1 ∷ 2 ∷ none ∷ []) (1 ∷ 1 ∷ 0 ∷ [])
   pub refusals : map onThree refusedMaps ≡ map refusedThree (14 ∷ 15 ∷ 16 ∷ 17 ∷ 18 ∷ 19 ∷ 20 ∷ [])
   pub budgets : map onFour budgetRows ≡ map doneFour budgetRows
   pub links : map starLinks (0 ∷ 1 ∷ 2 ∷ 3 ∷ []) ≡ 0 ∷ 1 ∷ 1 ∷ 1 ∷ []

@@ -64,19 +64,19 @@ unfoldable pub windowListsFit : ℕ → Supply → Bool
 windowListsFit n always = true
 windowListsFit n (atMinute minute w) = eqb (length (w .opens)) n && eqb (length (w .closes)) n
 
--- bestN and lastN words in the result lists, storeN in the store
-abbrev pub resultListsFit : ℕ → ℕ → ℕ → ℕ → Bool
-resultListsFit places bestN lastN storeN =
-    eqb bestN places && eqb lastN places && eqb storeN (storeSize places)
+-- bestN, lastN and jointsN words in the result lists, storeN in the store
+abbrev pub resultListsFit : ℕ → ℕ → ℕ → ℕ → ℕ → Bool
+resultListsFit places bestN lastN jointsN storeN =
+    eqb bestN places && eqb lastN places && eqb jointsN places && eqb storeN (storeSize places)
 
 -- The first condition that a feed call meets, by its code; 0: it meets none. The place list, which only a call with a
 -- budget is lent, has listedN words.
-unfoldable pub feedCode : Map → ℕ → ℕ → ℕ → ℕ → ℕ
-feedCode m bestN lastN listedN storeN =
+unfoldable pub feedCode : Map → ℕ → ℕ → ℕ → ℕ → ℕ → ℕ
+feedCode m bestN lastN jointsN listedN storeN =
     cond (eqb (m .places) 0 || ltb 4096 (m .places)) 14
     (cond (leb (m .places) (m .start)) 15
     (cond (not (minuteFits (m .supply))) 24
     (cond (not (spanListsFit (m .lists) && windowListsFit (spans m) (m .supply))) 16
-    (cond (not (resultListsFit (m .places) bestN lastN storeN)) 17
+    (cond (not (resultListsFit (m .places) bestN lastN jointsN storeN)) 17
     (cond (ltb listedN (m .places)) 22
     (spansCode (m .places) (m .lists) (m .supply)))))))

@@ -9,7 +9,7 @@ use Rattle.rules.specs.Answers.{answers}
 use Rattle.rules.specs.Words.{encode}
 use Rattle.paths.specs.Map.{Map}
 use Rattle.paths.specs.Table.{Limit, unlimited, upTo}
-use Rattle.paths.specs.Search.{find, shownBest, shownLast, placesTaken}
+use Rattle.paths.specs.Search.{find, shownBest, shownLast, shownJoints, placesTaken}
 use Rattle.paths.specs.Codes.{feedCode}
 
 -- the links and cuts that a list of calls answers on empty queues for n items
@@ -19,14 +19,15 @@ linksOf n calls = sumBy (λ a. a .links) (answers (empty n) calls)
 unfoldable pub cutsOf : ℕ → List Line → ℕ
 cutsOf n calls = sumBy (λ a. a .cuts) (answers (empty n) calls)
 
--- what a feed call is lent and writes: the table's losses, its spans, and a store
+-- what a feed call is lent and writes: the table's losses, its spans, its numbers of spans, and a store
 pub record ResultLists : Type 0 where
   pub best : List ℕ
   pub last : List ℕ
+  pub joints : List ℕ
   pub store : List ℕ
 
-abbrev pub resultLists : List ℕ → List ℕ → List ℕ → ResultLists
-resultLists best last store = record { best = best; last = last; store = store }
+abbrev pub resultLists : List ℕ → List ℕ → List ℕ → List ℕ → ResultLists
+resultLists best last joints store = record { best = best; last = last; joints = joints; store = store }
 
 -- the four numbers of the answer, and the lists as they are left
 pub record Feed : Type 0 where
@@ -45,12 +46,13 @@ feedAs zero limit m lent =
       links = linksOf (m .places) (s .calls);
       cuts = cutsOf (m .places) (s .calls);
       examined = s .examined;
-      left = resultLists (shownBest s) (shownLast s) (encode (empty (m .places)));
+      left = resultLists (shownBest s) (shownLast s) (shownJoints s) (encode (empty (m .places)));
     }
 feedAs (suc code) limit m lent = record { code = suc code; links = 0; cuts = 0; examined = 0; left = lent }
 
 abbrev pub codeFor : Map → ResultLists → ℕ → ℕ
-codeFor m lent listedN = feedCode m (length (lent .best)) (length (lent .last)) listedN (length (lent .store))
+codeFor m lent listedN =
+    feedCode m (length (lent .best)) (length (lent .last)) (length (lent .joints)) listedN (length (lent .store))
 
 -- The full feed call is lent no place list, so 22 finds nothing: it is as if one were lent that is long enough.
 unfoldable pub feedResult : Map → ResultLists → Feed

@@ -9,3 +9,5 @@ pub mod Feed
 pub mod ByHand
 pub mod WindowsByHand
 pub mod Theorems
+pub mod LossSearch
+pub mod JointsByHand

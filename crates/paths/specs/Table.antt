@@ -11,7 +11,7 @@ use Rattle.rules.specs.Lists.{indicator, occurs}
 use Rattle.rules.specs.Forests.{none}
 use Rattle.rules.specs.Order.{precedes}
 use Rattle.paths.specs.Map.{Map}
-use Rattle.paths.specs.Chains.{Chain, chainLoss, Least}
+use Rattle.paths.specs.Chains.{Chain, chainLoss, hops, Least}
 
 -- ---- the table
 
@@ -24,25 +24,29 @@ abbrev pub WithinLimit : Limit → ℕ → Type 0
 WithinLimit unlimited l = Unit {0}
 WithinLimit (upTo budget) l = l ≤ budget
 
--- The loss of a least chain to p is l, and e is the lowest-numbered span that ends one.
-pub record Reached (m : Map) (p l e : ℕ) : Type 0 where
+-- A least chain to p has loss l and h spans, and e is the lowest-numbered span that ends one.
+pub record Reached (m : Map) (p l e h : ℕ) : Type 0 where
   pub before : List ℕ
   pub least : Least m p (e ∷ before)
   pub loss : chainLoss m (e ∷ before) ≡ l
+  pub count : hops (e ∷ before) ≡ h
   pub lowest : (f : ℕ) (c : List ℕ) → Least m p (f ∷ c) → e ≤ f
 
--- The loss l and the span e are shown at p: 0 and none at the start, none and none where no chain is within the limit.
-pub data Entry (limit : Limit) (m : Map) (p l e : ℕ) : Type 0 where
-  atStart : p ≡ m .start → l ≡ 0 → e ≡ none → Entry limit m p l e
-  reached : p ≢ m .start → Reached m p l e → WithinLimit limit l → Entry limit m p l e
-  unreached : ((c : List ℕ) → Chain m c p → WithinLimit limit (chainLoss m c) → ⊥) → l ≡ none → e ≡ none
-      → Entry limit m p l e
+-- The loss l, the span e and the number of spans h are shown at p: 0, none and 0 at the start, where no span is needed,
+-- and three times none where no chain is within the limit.
+pub data Entry (limit : Limit) (m : Map) (p l e h : ℕ) : Type 0 where
+  atStart : p ≡ m .start → l ≡ 0 → e ≡ none → h ≡ 0 → Entry limit m p l e h
+  reached : p ≢ m .start → Reached m p l e h → WithinLimit limit l → Entry limit m p l e h
+  unreached : ((c : List ℕ) → Chain m c p → WithinLimit limit (chainLoss m c) → ⊥) → l ≡ none → e ≡ none → h ≡ none
+      → Entry limit m p l e h
 
--- The two lists, of one word per place, are the table of m under the limit; without one they are the full table.
-pub record Table (limit : Limit) (m : Map) (best last : List ℕ) : Type 0 where
+-- The three lists, of one word per place, are the table of m under the limit; without one they are the full table.
+pub record Table (limit : Limit) (m : Map) (best last joints : List ℕ) : Type 0 where
   pub bestN : length best ≡ m .places
   pub lastN : length last ≡ m .places
-  pub entries : (p : ℕ) → p < m .places → Entry limit m p (getD best p none) (getD last p none)
+  pub jointsN : length joints ≡ m .places
+  pub entries : (p : ℕ) → p < m .places
+      → Entry limit m p (getD best p none) (getD last p none) (getD joints p none)
 
 -- ---- the place list
 

@@ -1,7 +1,8 @@
 -- What is proved of the feed finder. Each statement is a type; its proof is in proofs/, under the same name in lower
 -- case.
-use Prim.Native.Nat.{ℕ, _+_, _*_, _-_, _≤_, _<_}
+use Prim.Native.Nat.{ℕ, zero, suc, _+_, _*_, _-_, _≤_, _<_}
 use mathlib.Core.Path.{_≡_}
+use mathlib.Core.Logic.{_≢_}
 use mathlib.Core.List.{List, [], _∷_}
 use mathlib.Core.Bool.{cond}
 use lib.ListN.{length, getD, take, drop}
@@ -26,7 +27,7 @@ use Rattle.paths.specs.Map.{
   dayEnd,
   Accepted,
 }
-use Rattle.paths.specs.Chains.{Chain, chainLoss}
+use Rattle.paths.specs.Chains.{Chain, chainLoss, Least}
 use Rattle.paths.specs.Table.{Limit, unlimited, upTo, WithinLimit, Table, isReached, Listing}
 use Rattle.paths.specs.Queue.{Stop, halts, takes, next}
 use Rattle.paths.specs.Search.{
@@ -36,9 +37,11 @@ use Rattle.paths.specs.Search.{
   steps,
   search,
   bestAt,
+  jointsAt,
   find,
   shownBest,
   shownLast,
+  shownJoints,
   placesTaken,
 }
 use Rattle.paths.specs.Codes.{feedCode}
@@ -51,25 +54,64 @@ use Rattle.paths.specs.Feed.{linksOf, cutsOf, ResultLists, Feed, feedRes
 abbrev pub FinderTable : Type 0
 FinderTable =
     (limit : Limit) (m : Map) → Accepted m
-    → Table limit m (shownBest (find limit m)) (shownLast (find limit m))
+    → Table limit m (shownBest (find limit m)) (shownLast (find limit m)) (shownJoints (find limit m))
 
 abbrev pub TableUnique : Type 0
 TableUnique =
-    (limit : Limit) (m : Map) (best last best′ last′ : List ℕ) → Table limit m best last → Table limit m best′ last′
-    → (best ≡ best′) × (last ≡ last′)
+    (limit : Limit) (m : Map) (best last joints best′ last′ joints′ : List ℕ) → Table limit m best last joints
+    → Table limit m best′ last′ joints′ → (best ≡ best′) × (last ≡ last′) × (joints ≡ joints′)
 
 abbrev pub NoneUnreached : Type 0
 NoneUnreached =
-    (limit : Limit) (m : Map) → Accepted m → (best last : List ℕ) → Table limit m best last → (p : ℕ) (c : List ℕ)
-    → Chain m c p → WithinLimit limit (chainLoss m c) → getD best p none < none
+    (limit : Limit) (m : Map) → Accepted m → (best last joints : List ℕ) → Table limit m best last joints
+    → (p : ℕ) (c : List ℕ) → Chain m c p → WithinLimit limit (chainLoss m c) → getD best p none < none
 
 -- The table under a budget is the full table where the loss is at most the budget, and none elsewhere.
 abbrev pub BudgetTable : Type 0
 BudgetTable =
-    (budget : ℕ) (m : Map) (best last best′ last′ : List ℕ)
-    → Table unlimited m best last → Table (upTo budget) m best′ last′ → (p : ℕ) → p < m .places
+    (budget : ℕ) (m : Map) (best last joints best′ last′ joints′ : List ℕ)
+    → Table unlimited m best last joints → Table (upTo budget) m best′ last′ joints′ → (p : ℕ) → p < m .places
     → (getD best′ p none ≡ cond (leb (getD best p none) budget) (getD best p none) none)
     × (getD last′ p none ≡ cond (leb (getD best p none) budget) (getD last p none) none)
+    × (getD joints′ p none ≡ cond (leb (getD best p none) budget) (getD joints p none) none)
+
+-- ---- fewer joints on a tie
+
+-- The least loss to p by the order by loss alone, whatever the number of spans: no chain has less than l, and none is
+-- the loss where no chain is within the limit.
+pub data LeastLoss (limit : Limit) (m : Map) (p l : ℕ) : Type 0 where
+  ofChain : (c : List ℕ) → Chain m c p → chainLoss m c ≡ l → ((d : List ℕ) → Chain m d p → l ≤ chainLoss m d)
+      → WithinLimit limit l → LeastLoss limit m p l
+  noChain : ((c : List ℕ) → Chain m c p → WithinLimit limit (chainLoss m c) → ⊥) → l ≡ none → LeastLoss limit m p l
+
+-- The losses of the table are these, and there are no others: the number of spans changes no loss.
+pub record LossesAlone : Type 0 where
+  pub least : (limit : Limit) (m : Map) (best last joints : List ℕ) → Table limit m best last joints
+      → (p : ℕ) → p < m .places → LeastLoss limit m p (getD best p none)
+  pub unique : (limit : Limit) (m : Map) (p l l′ : ℕ) → LeastLoss limit m p l → LeastLoss limit m p l′ → l ≡ l′
+
+-- The table as a tree. From p the span shown is followed back to the place that it comes from, k times: the spans that
+-- were followed, and the place where this ends.
+unfoldable pub spansBack : Map → List ℕ → ℕ → ℕ → List ℕ
+spansBack m last zero p = []
+spansBack m last (suc k) p = getD last p none ∷ spansBack m last k (fromOf m (getD last p none))
+
+unfoldable pub placeBack : Map → List ℕ → ℕ → ℕ → ℕ
+placeBack m last zero p = p
+placeBack m last (suc k) p = placeBack m last k (fromOf m (getD last p none))
+
+-- From a place that shows a loss this leads to the start in as many steps as the place shows spans, and not in fewer;
+-- and the spans followed are a least chain to the place, with the loss shown.
+pub record LeadsBack (m : Map) (last : List ℕ) (p l h : ℕ) : Type 0 where
+  pub ends : placeBack m last h p ≡ m .start
+  pub notBefore : (k : ℕ) → k < h → placeBack m last k p ≢ m .start
+  pub least : Least m p (spansBack m last h p)
+  pub loss : chainLoss m (spansBack m last h p) ≡ l
+
+abbrev pub TableTree : Type 0
+TableTree =
+    (limit : Limit) (m : Map) → Accepted m → (best last joints : List ℕ) → Table limit m best last joints
+    → (p : ℕ) → p < m .places → getD best p none ≢ none → LeadsBack m last p (getD best p none) (getD joints p none)
 
 -- ---- supply windows
 
@@ -78,8 +120,8 @@ abbrev pub AllOpen : ℕ → Windows → List ℕ → Type 0
 AllOpen minute w [] = Unit {0}
 AllOpen minute w (e ∷ c) = (getD (w .opens) e 0 ≤ minute) × (minute < getD (w .closes) e 0) × AllOpen minute w c
 
--- The chains of a map at a minute are those that its lists have with every span usable, if the minute is in the window of
--- each of their spans.
+-- The chains of a map at a minute are those that its lists have with every span usable, if the minute is in the window
+-- of each of their spans.
 pub record ChainsOpen : Type 0 where
   pub within : (places start minute : ℕ) (lists : SpanLists) (w : Windows) (c : List ℕ) (p : ℕ)
       → Chain (mapAt places start minute lists w) c p → Chain (mapOf places start lists) c p × AllOpen minute w c
@@ -116,10 +158,12 @@ ListingUnique = (best listed listed′ : List ℕ) → Listing best listed → L
 
 -- A place is listed exactly if a chain within the limit leads to it.
 pub record ListedExactly : Type 0 where
-  pub listed : (limit : Limit) (m : Map) → Accepted m → (best last places : List ℕ) → Table limit m best last
-      → Listing best places → (p : ℕ) (c : List ℕ) → Chain m c p → WithinLimit limit (chainLoss m c) → occurs p places ≡ 1
-  pub only : (limit : Limit) (m : Map) (best last places : List ℕ) → Table limit m best last → Listing best places
-      → (p : ℕ) → 1 ≤ occurs p places → (c : List ℕ) × Chain m c p × WithinLimit limit (chainLoss m c)
+  pub listed : (limit : Limit) (m : Map) → Accepted m → (best last joints places : List ℕ)
+      → Table limit m best last joints → Listing best places → (p : ℕ) (c : List ℕ) → Chain m c p
+      → WithinLimit limit (chainLoss m c) → occurs p places ≡ 1
+  pub only : (limit : Limit) (m : Map) (best last joints places : List ℕ) → Table limit m best last joints
+      → Listing best places → (p : ℕ) → 1 ≤ occurs p places
+      → (c : List ℕ) × Chain m c p × WithinLimit limit (chainLoss m c)
 
 -- ---- the queue
 
@@ -131,7 +175,8 @@ SearchHalts = (stop : Stop) (m : Map) → Accepted m → next stop ((search stop
 pub data Moment (stop : Stop) (m : Map) : Search → Type 0 where
   between : (k : ℕ) → Moment stop m (steps stop m k)
   trying : (k u e : ℕ) → next stop ((steps stop m k) .queue) ≡ takes u → e ≤ spans m
-      → Moment stop m (tried m u (bestAt (steps stop m k) u) e (extracted u (steps stop m k)))
+      → Moment stop m
+      (tried m u (bestAt (steps stop m k) u) (jointsAt (steps stop m k) u) e (extracted u (steps stop m k)))
 
 -- the forests that the calls of a search leave
 abbrev pub forestsAfter : Map → Search → Forests
@@ -196,22 +241,27 @@ Ceiling =
 -- ---- the call
 
 -- Code 0 is given exactly to an accepted map with result lists, a place list and a store of the right sizes.
-pub record Fits (m : Map) (bestN lastN listedN storeN : ℕ) : Type 0 where
+pub record Fits (m : Map) (bestN lastN jointsN listedN storeN : ℕ) : Type 0 where
   pub accepted : Accepted m
   pub best : bestN ≡ m .places
   pub last : lastN ≡ m .places
+  pub joints : jointsN ≡ m .places
   pub listed : m .places ≤ listedN
   pub store : storeN ≡ storeSize (m .places)
 
 pub record CodeZero : Type 0 where
-  pub accepts : (m : Map) (bestN lastN listedN storeN : ℕ) → Fits m bestN lastN listedN storeN
-      → feedCode m bestN lastN listedN storeN ≡ 0
-  pub only : (m : Map) (bestN lastN listedN storeN : ℕ) → feedCode m bestN lastN listedN storeN ≡ 0
-      → Fits m bestN lastN listedN storeN
+  pub accepts : (m : Map) (bestN lastN jointsN listedN storeN : ℕ) → Fits m bestN lastN jointsN listedN storeN
+      → feedCode m bestN lastN jointsN listedN storeN ≡ 0
+  pub only : (m : Map) (bestN lastN jointsN listedN storeN : ℕ) → feedCode m bestN lastN jointsN listedN storeN ≡ 0
+      → Fits m bestN lastN jointsN listedN storeN
 
--- What a feed call that is done leaves: the table, an empty store, and the count of spans examined.
+-- What a feed call that is done leaves: the table, whose losses are the least by loss alone and whose spans are a tree,
+-- an empty store, and the count of spans examined.
 pub record Right (limit : Limit) (m : Map) (r : Feed) : Type 0 where
-  pub table : Table limit m (r .left .best) (r .left .last)
+  pub table : Table limit m (r .left .best) (r .left .last) (r .left .joints)
+  pub losses : (p : ℕ) → p < m .places → LeastLoss limit m p (getD (r .left .best) p none)
+  pub tree : (p : ℕ) → p < m .places → getD (r .left .best) p none ≢ none
+      → LeadsBack m (r .left .last) p (getD (r .left .best) p none) (getD (r .left .joints) p none)
   pub store : r .left .store ≡ encode (empty (m .places))
   pub examined : r .examined ≡ leavingReached m (r .left .best)
   pub atMost : r .examined ≤ spans m

@@ -8,8 +8,8 @@ use Rattle.rules.specs.Forests.{none}
 use Rattle.paths.specs.Map.{SpanLists, spanLists, noSpans, windows, Map, mapAt}
 use Rattle.paths.specs.Feed.{Feed}
 use Rattle.paths.specs.ByHand.{
+  done,
   onThree,
-  doneThree,
   refusedThree,
   BudgetRow,
   budgetRow,
@@ -38,45 +38,48 @@ turnsMap minute =
 
 -- ---- calls that are done
 
--- the map at a minute, the spans examined, the table's losses and its spans
+-- the map at a minute, the spans examined, the table's losses, its spans and its numbers of spans
 pub record WindowRow : Type 0 where
   pub map : Map
   pub examined : ℕ
   pub best : List ℕ
   pub last : List ℕ
+  pub joints : List ℕ
 
-abbrev pub windowRow : Map → ℕ → List ℕ → List ℕ → WindowRow
-windowRow map examined best last = record { map = map; examined = examined; best = best; last = last }
+abbrev pub windowRow : Map → ℕ → List ℕ → List ℕ → List ℕ → WindowRow
+windowRow map examined best last joints =
+    record { map = map; examined = examined; best = best; last = last; joints = joints }
 
 unfoldable pub onWindows : WindowRow → Feed
 onWindows r = onThree (r .map)
 
 unfoldable pub doneWindows : WindowRow → Feed
-doneWindows r = doneThree 0 0 (r .examined) (r .best) (r .last)
+doneWindows r = done 0 0 (r .examined) (r .best) (r .last) (r .joints)
 
 -- the span's last closed minute, its opening minute, its last minute, its closing minute; then the other maps
 unfoldable pub windowRows : List WindowRow
 windowRows =
-    windowRow (morningMap 359) 3 (0 ∷ 7 ∷ 20 ∷ []) (none ∷ 0 ∷ 1 ∷ [])
-    ∷ windowRow (morningMap 360) 3 (0 ∷ 7 ∷ 12 ∷ []) (none ∷ 0 ∷ 2 ∷ [])
-    ∷ windowRow (morningMap 719) 3 (0 ∷ 7 ∷ 12 ∷ []) (none ∷ 0 ∷ 2 ∷ [])
-    ∷ windowRow (morningMap 720) 3 (0 ∷ 7 ∷ 20 ∷ []) (none ∷ 0 ∷ 1 ∷ [])
-    ∷ windowRow (morningMap 0) 3 (0 ∷ 7 ∷ 20 ∷ []) (none ∷ 0 ∷ 1 ∷ [])
-    ∷ windowRow (morningMap 1439) 3 (0 ∷ 7 ∷ 20 ∷ []) (none ∷ 0 ∷ 1 ∷ [])
-    ∷ windowRow (firstMinuteMap 0) 3 (0 ∷ 7 ∷ 12 ∷ []) (none ∷ 0 ∷ 2 ∷ [])
-    ∷ windowRow (firstMinuteMap 1) 2 (0 ∷ none ∷ none ∷ []) (none ∷ none ∷ none ∷ [])
-    ∷ windowRow (turnsMap 719) 2 (0 ∷ 7 ∷ none ∷ []) (none ∷ 0 ∷ none ∷ [])
-    ∷ windowRow (turnsMap 720) 2 (0 ∷ 7 ∷ none ∷ []) (none ∷ 1 ∷ none ∷ [])
+    windowRow (morningMap 359) 3 (0 ∷ 7 ∷ 20 ∷ []) (none ∷ 0 ∷ 1 ∷ []) (0 ∷ 1 ∷ 1 ∷ [])
+    ∷ windowRow (morningMap 360) 3 (0 ∷ 7 ∷ 12 ∷ []) (none ∷ 0 ∷ 2 ∷ []) (0 ∷ 1 ∷ 2 ∷ [])
+    ∷ windowRow (morningMap 719) 3 (0 ∷ 7 ∷ 12 ∷ []) (none ∷ 0 ∷ 2 ∷ []) (0 ∷ 1 ∷ 2 ∷ [])
+    ∷ windowRow (morningMap 720) 3 (0 ∷ 7 ∷ 20 ∷ []) (none ∷ 0 ∷ 1 ∷ []) (0 ∷ 1 ∷ 1 ∷ [])
+    ∷ windowRow (morningMap 0) 3 (0 ∷ 7 ∷ 20 ∷ []) (none ∷ 0 ∷ 1 ∷ []) (0 ∷ 1 ∷ 1 ∷ [])
+    ∷ windowRow (morningMap 1439) 3 (0 ∷ 7 ∷ 20 ∷ []) (none ∷ 0 ∷ 1 ∷ []) (0 ∷ 1 ∷ 1 ∷ [])
+    ∷ windowRow (firstMinuteMap 0) 3 (0 ∷ 7 ∷ 12 ∷ []) (none ∷ 0 ∷ 2 ∷ []) (0 ∷ 1 ∷ 2 ∷ [])
+    ∷ windowRow (firstMinuteMap 1) 2 (0 ∷ none ∷ none ∷ []) (none ∷ none ∷ none ∷ []) (0 ∷ none ∷ none ∷ [])
+    ∷ windowRow (turnsMap 719) 2 (0 ∷ 7 ∷ none ∷ []) (none ∷ 0 ∷ none ∷ []) (0 ∷ 1 ∷ none ∷ [])
+    ∷ windowRow (turnsMap 720) 2 (0 ∷ 7 ∷ none ∷ []) (none ∷ 1 ∷ none ∷ []) (0 ∷ 1 ∷ none ∷ [])
     ∷ []
 
 -- the same with budgets
 unfoldable pub windowBudgets : List BudgetRow
 windowBudgets =
-    budgetRow (morningMap 359) 12 (0 ∷ 1 ∷ []) 3 (0 ∷ 7 ∷ none ∷ []) (none ∷ 0 ∷ none ∷ [])
-    ∷ budgetRow (morningMap 360) 12 (0 ∷ 1 ∷ 2 ∷ []) 3 (0 ∷ 7 ∷ 12 ∷ []) (none ∷ 0 ∷ 2 ∷ [])
-    ∷ budgetRow (morningMap 720) 20 (0 ∷ 1 ∷ 2 ∷ []) 3 (0 ∷ 7 ∷ 20 ∷ []) (none ∷ 0 ∷ 1 ∷ [])
+    budgetRow (morningMap 359) 12 (0 ∷ 1 ∷ []) 3 (0 ∷ 7 ∷ none ∷ []) (none ∷ 0 ∷ none ∷ []) (0 ∷ 1 ∷ none ∷ [])
+    ∷ budgetRow (morningMap 360) 12 (0 ∷ 1 ∷ 2 ∷ []) 3 (0 ∷ 7 ∷ 12 ∷ []) (none ∷ 0 ∷ 2 ∷ []) (0 ∷ 1 ∷ 2 ∷ [])
+    ∷ budgetRow (morningMap 720) 20 (0 ∷ 1 ∷ 2 ∷ []) 3 (0 ∷ 7 ∷ 20 ∷ []) (none ∷ 0 ∷ 1 ∷ []) (0 ∷ 1 ∷ 1 ∷ [])
     ∷ budgetRow (firstMinuteMap 1) 4294967295 (0 ∷ []) 2 (0 ∷ none ∷ none ∷ []) (none ∷ none ∷ none ∷ [])
-    ∷ budgetRow (turnsMap 720) 7 (0 ∷ 1 ∷ []) 2 (0 ∷ 7 ∷ none ∷ []) (none ∷ 1 ∷ none ∷ [])
+    (0 ∷ none ∷ none ∷ [])
+    ∷ budgetRow (turnsMap 720) 7 (0 ∷ 1 ∷ []) 2 (0 ∷ 7 ∷ none ∷ []) (none ∷ 1 ∷ none ∷ []) (0 ∷ 1 ∷ none ∷ [])
     ∷ []
 
 -- ---- refusals
