@@ -1,11 +1,14 @@
 -- A place was taken: what is known of the search while its spans are tried.
 use Prim.Native.Nat.{ℕ, _+_, _≤_, _<_}
-use mathlib.Core.Path.{_≡_}
+use mathlib.Core.Path.{_≡_, ap, _∙_}
 use mathlib.Core.List.{List}
 use native.Mathlib.Omega.{arith}
+use lib.ListN.{length, getD}
+use Rattle.rules.specs.Forests.{none}
+use Rattle.rules.proofs.Default.{getD-any}
 use Rattle.paths.specs.Map.{Map, spans}
 use Rattle.paths.specs.Queue.{Stop}
-use Rattle.paths.specs.Search.{Search, tried, extracted, steps, bestAt}
+use Rattle.paths.specs.Search.{Search, tried, extracted, steps, bestAt, jointsAt}
 use Rattle.paths.specs.Feed.{ResultLists}
 use Rattle.paths.proofs.Waiting.{next-takes, waits-below}
 use Rattle.paths.proofs.Offers.{TryingOf}
@@ -25,7 +28,7 @@ use Rattle.finder.specs.SearchState.{Taken}
 
 -- after the spans below e of place u, which was taken after k steps
 abbrev pub at : Stop → Map → ℕ → ℕ → ℕ → Search
-at stop m k u e = tried m u (bestAt (steps stop m k) u) e (extracted u (steps stop m k))
+at stop m k u e = tried m u (bestAt (steps stop m k) u) (jointsAt (steps stop m k) u) e (extracted u (steps stop m k))
 
 module _
     {stop : Stop} {m : Map} {minute : ℕ} {index to loss opens closes : List ℕ} {u d : ℕ} {l₀ : ResultLists}
@@ -53,9 +56,9 @@ module _
       )
 
   -- the invariant, and the calls made, before span e
-  pub tryingAt : (e : ℕ) → e ≤ spans m → TryingOf m u (bestAt before u) e left (at stop m k u e)
+  pub tryingAt : (e : ℕ) → e ≤ spans m → TryingOf m u (bestAt before u) (jointsAt before u) e left (at stop m k u e)
   tryingAt e h =
-      tried-trying m (K .accepted) u (bestAt before u) left (extracted u before)
+      tried-trying m (K .accepted) u (bestAt before u) (jointsAt before u) left (extracted u before)
       (extracted-trying stop m (K .accepted) k before betweenTurns u (K .next-is)) e h
 
   pub servedAt : (e : ℕ) → e ≤ spans m → ServedOf m (at stop m k u e)
@@ -73,3 +76,16 @@ module _
 
   pub place-small : u < 4096
   place-small = omega (arith, K .accepted .few, place-in)
+
+  -- its number of spans, which the code reads, is that of the search, and one more fits a word
+  pub in-joints : u < length (l₀ .joints)
+  in-joints = omega (arith, ap length (K .tracks .joints-is), betweenTurns .invariant .jointsN, place-in)
+
+  pub hops-is : getD (l₀ .joints) u 0 ≡ jointsAt before u
+  hops-is = getD-any (l₀ .joints) u 0 none in-joints ∙ ap (λ j. getD j u none) (K .tracks .joints-is)
+
+  pub hops-small : getD (l₀ .joints) u 0 ≤ 4096000000
+  hops-small =
+      let I = betweenTurns .invariant in
+      let met = I .met u (next-takes stop (before .queue) u (K .next-is) .inside) in
+      omega (arith, hops-is, I .short u met, I .small u met, K .accepted .few)

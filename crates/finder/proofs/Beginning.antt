@@ -42,20 +42,21 @@ module _ (places start : ℕ) (l : ResultLists) (R : BeginReady places start l) 
   none-logged store₁ e = record { words = e; links = refl; cuts = refl }
 
   -- after the insertion the code stands where the search begins
-  pub begun : (best₁ last₁ store₁ : List ℕ) → best₁ ≡ replicate (length (l .best)) none
-      → last₁ ≡ replicate (length (l .last)) none
+  pub begun : (best₁ last₁ joints₁ store₁ : List ℕ) → best₁ ≡ replicate (length (l .best)) none
+      → last₁ ≡ replicate (length (l .last)) none → joints₁ ≡ replicate (length (l .joints)) none
       → store₁ ≡ encode (empty places) → (reply : Reply) (store′ : List ℕ)
       → Performed store₁ (Insert 0 start 0) noCall reply store′
-      → Begun places start (resultLists (set best₁ start 0) last₁ store′)
+      → Begun places start (resultLists (set best₁ start 0) last₁ (set joints₁ start 0) store′)
       (record { visited = 0; met = 1; examined = 0; tally = reply .tally })
   unfolding begin after
-  begun best₁ last₁ store₁ eb el es reply store′ P =
+  begun best₁ last₁ joints₁ store₁ eb el ej es reply store′ P =
       record {
         visited-is = refl;
         tracks =
             record {
               best-is = ap (λ b. set b start 0) (eb ∙ ap (λ n. replicate n none) (R .bestN));
               last-is = el ∙ ap (λ n. replicate n none) (R .lastN);
+              joints-is = ap (λ b. set b start 0) (ej ∙ ap (λ n. replicate n none) (R .jointsN));
               logged =
                   call-logged places [] store₁ noCall (none-logged store₁ es)
                   (emptyWellFormed places (R .sized .small)) (Insert 0 start 0) reply store′ P;

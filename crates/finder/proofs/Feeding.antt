@@ -11,7 +11,7 @@ use Rattle.rules.specs.Words.{encode}
 use Rattle.relax.specs.declared.Progress.{Progress}
 use Rattle.paths.specs.Map.{Map, Accepted}
 use Rattle.paths.specs.Table.{Limit, unlimited}
-use Rattle.paths.specs.Search.{Search, beyond, search, find, hideWaiting, shownBest, shownLast}
+use Rattle.paths.specs.Search.{Search, beyond, search, find, hideWaiting, shownBest, shownLast, shownJoints}
 use Rattle.paths.specs.Codes.{feedCode}
 use Rattle.paths.specs.Feed.{ResultLists, resultLists, feedAs, codeFor, feedResult}
 use Rattle.paths.specs.Theorems.{between, Fits}
@@ -41,17 +41,18 @@ module _ (limit : Limit) (m : Map) (lent : ResultLists) where
       }
 
   -- The figures are those of the search, and the lists left show the table.
-  pub fed-done : Accepted m → (l : ResultLists) (r : Progress) → Found (beyond limit) m l r → (best last : List ℕ)
-      → best ≡ shownBest (find limit m) → last ≡ shownLast (find limit m)
-      → FedAs m (feedAs 0 limit m lent) (doneFed r) (resultLists best last (encode (empty (m .places))))
+  pub fed-done : Accepted m → (l : ResultLists) (r : Progress) → Found (beyond limit) m l r
+      → (best last joints : List ℕ) → best ≡ shownBest (find limit m) → last ≡ shownLast (find limit m)
+      → joints ≡ shownJoints (find limit m)
+      → FedAs m (feedAs 0 limit m lent) (doneFed r) (resultLists best last joints (encode (empty (m .places))))
   unfolding feedAs search
-  fed-done A l r F best last b e =
+  fed-done A l r F best last joints b e j =
       let T = F .tracks in
       record {
         code-is = refl;
         links-is = T .logged .links;
         cuts-is = T .logged .cuts;
-        left-is = rw (b, e);
+        left-is = rw (b, e, j);
         examined-most =
             omega (
               arith,
@@ -62,18 +63,20 @@ module _ (limit : Limit) (m : Map) (lent : ResultLists) where
       }
 
 -- code 0: the map is accepted, and what was lent has the right sizes
-pub code-fits : (m : Map) (bestN lastN listedN storeN code : ℕ) → code ≡ feedCode m bestN lastN listedN storeN
-    → code ≡ 0 → Fits m bestN lastN listedN storeN
-code-fits m bestN lastN listedN storeN code is z = codeZero .only m bestN lastN listedN storeN (sym is ∙ z)
+pub code-fits : (m : Map) (bestN lastN jointsN listedN storeN code : ℕ)
+    → code ≡ feedCode m bestN lastN jointsN listedN storeN → code ≡ 0 → Fits m bestN lastN jointsN listedN storeN
+code-fits m bestN lastN jointsN listedN storeN code is z =
+    codeZero .only m bestN lastN jointsN listedN storeN (sym is ∙ z)
 
 pub begins : (m : Map) (lent : ResultLists) (listedN code : ℕ) → code ≡ codeFor m lent listedN → code ≡ 0
     → BeginReady (m .places) (m .start) lent
 begins m lent listedN code is z =
-    let F = code-fits m _ _ listedN _ code is z in
+    let F = code-fits m _ _ _ listedN _ code is z in
     record {
       startIn = F .accepted .startIn;
       bestN = F .best;
       lastN = F .last;
+      jointsN = F .joints;
       sized = record { size = F .store; small = F .accepted .few };
     }
 
@@ -94,12 +97,13 @@ module _ (m : Map) (lent : ResultLists) (code : ℕ) (is : code ≡ codeFor m le
       → Feeds m lent (doneFed r) left
   unfolding feedResult
   feeds-done z left r F =
-      let A = code-fits m _ _ (m .places) _ code is z .accepted in
+      let A = code-fits m _ _ _ (m .places) _ code is z .accepted in
       let s : Search = find unlimited m in
       let shown : (words : List ℕ) → words ≡ hideWaiting (s .queue .waits) words =
       λ words. sym (hide-none (s .queue .waits) words (none-waits m A)) in
       let emptied : left .store ≡ encode (empty (m .places)) =
       F .tracks .logged .words ∙ ap encode (endsEmpty m A) in
       rw (sym is, z, emptied)
-      (fed-done unlimited m lent A left r F (left .best) (left .last) (F .tracks .best-is ∙ shown (s .best))
-      (F .tracks .last-is ∙ shown (s .last)))
+      (fed-done unlimited m lent A left r F (left .best) (left .last) (left .joints)
+      (F .tracks .best-is ∙ shown (s .best)) (F .tracks .last-is ∙ shown (s .last))
+      (F .tracks .joints-is ∙ shown (s .joints)))

@@ -21,11 +21,11 @@ use Rattle.finder.specs.Promise.{FedAs, FeedsWithin}
 use Rattle.finder.proofs.Ready.{logged-sized}
 use Rattle.finder.proofs.Beginning.{begun-stands}
 use Rattle.finder.proofs.Feeding.{fed-refused, fed-done, code-fits}
-use Rattle.finder.proofs.WaitsBeyond.{hidden-best, hidden-last}
+use Rattle.finder.proofs.WaitsBeyond.{hidden-best, hidden-last, hidden-joints}
 
 -- the search begins with no place listed
-pub list-ready : (budget : ℕ) {m : Map} {bestN lastN storeN : ℕ} {listed : List ℕ}
-    → Fits m bestN lastN (length listed) storeN → {l : ResultLists} {r : Progress}
+pub list-ready : (budget : ℕ) {m : Map} {bestN lastN jointsN storeN : ℕ} {listed : List ℕ}
+    → Fits m bestN lastN jointsN (length listed) storeN → {l : ResultLists} {r : Progress}
     → Begun (m .places) (m .start) l r → ListReady budget m l listed r
 list-ready budget F G =
     record {
@@ -38,11 +38,12 @@ list-ready budget F G =
 module _
     {budget : ℕ} {m : Map} {lent : List ℕ} {l : ResultLists} {listed : List ℕ} {r : Progress} (A : Accepted m)
     (F : FoundListed budget m lent l listed r) where
-  pub hide-ready : length (l .last) ≡ length (l .best)
+  pub hide-ready : (length (l .last) ≡ length (l .best)) × (length (l .joints) ≡ length (l .best))
   hide-ready =
       let T = F .found .tracks in
       let I = search-between (beyond (upTo budget)) m A .invariant in
-      ap length (T .last-is) ∙ I .lastN ∙ sym (ap length (T .best-is) ∙ I .bestN)
+      let places : m .places ≡ length (l .best) = sym (ap length (T .best-is) ∙ I .bestN) in
+      (ap length (T .last-is) ∙ I .lastN ∙ places, ap length (T .joints-is) ∙ I .jointsN ∙ places)
 
   pub empty-ready : Sized (m .places) (l .store)
   unfolding search
@@ -71,19 +72,21 @@ module _
 
   pub within-done : code ≡ 0 → (l : ResultLists) (listed : List ℕ) (r : Progress)
       → FoundListed budget m lentList l listed r → (left : ResultLists)
-      → Hidden budget (l .best) (l .last) (left .best) (left .last) → left .store ≡ encode (empty (m .places))
+      → Hidden budget (l .best) (l .last) (l .joints) (left .best) (left .last) (left .joints)
+      → left .store ≡ encode (empty (m .places))
       → FeedsWithin budget m lent lentList (record { fed = doneFed r; listed = r .visited }) left listed
   unfolding budgetAs
   within-done z l listed r F left H e =
-      let A = code-fits m _ _ (length lentList) _ code is z .accepted in
+      let A = code-fits m _ _ _ (length lentList) _ code is z .accepted in
       let T = F .found .tracks in
       let w = result-is ∙ ap (λ c. budgetAs c budget m lent lentList) z in
       record {
         fed-as =
             rw (w, e)
-            (fed-done (upTo budget) m lent A l r (F .found) (left .best) (left .last)
+            (fed-done (upTo budget) m lent A l r (F .found) (left .best) (left .last) (left .joints)
             (H .best-is ∙ rw (T .best-is) (hidden-best budget m A))
-            (H .last-is ∙ rw (T .best-is, T .last-is) (hidden-last budget m A)));
+            (H .last-is ∙ rw (T .best-is, T .last-is) (hidden-last budget m A))
+            (H .joints-is ∙ rw (T .best-is, T .joints-is) (hidden-joints budget m A)));
         number-is = rw w (F .number-is);
         listed-is = rw w (F .listed-is);
       }

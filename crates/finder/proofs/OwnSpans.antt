@@ -10,27 +10,28 @@ use Rattle.spans.proofs.Range.{sorted-all}
 use Rattle.paths.specs.Search.{Search, try, tried}
 
 -- spans of other places are passed over
-tried-skip : (m : Map) (u d : ℕ) (s : Search) (a n b : ℕ) → b ≡ a + n
-    → ((e : ℕ) → a ≤ e → e < b → fromOf m e ≢ u) → tried m u d b s ≡ tried m u d a s
+tried-skip : (m : Map) (u d h : ℕ) (s : Search) (a n b : ℕ) → b ≡ a + n
+    → ((e : ℕ) → a ≤ e → e < b → fromOf m e ≢ u) → tried m u d h b s ≡ tried m u d h a s
 unfolding tried try
-tried-skip m u d s a zero b q f = let z : b ≡ a = omega arith in ap (λ k. tried m u d k s) z
-tried-skip m u d s a (suc n) zero q f = absurd (omega arith)
-tried-skip m u d s a (suc n) (suc b) q f =
+tried-skip m u d h s a zero b q f = let z : b ≡ a = omega arith in ap (λ k. tried m u d h k s) z
+tried-skip m u d h s a (suc n) zero q f = absurd (omega arith)
+tried-skip m u d h s a (suc n) (suc b) q f =
     rw (ne-eqb (fromOf m b) u (f b (omega arith) (omega arith)))
-    (tried-skip m u d s a n b (omega arith) (λ e i j. f e i (omega arith)))
+    (tried-skip m u d h s a n b (omega arith) (λ e i j. f e i (omega arith)))
 
 pub sorted : (m : Map) → Accepted m → Sorted (m .lists .from)
 sorted m A = record { rising = A .rising }
 
 -- The walk begins at a span below which all leave lower places, and ends at the first that leaves a higher one.
-pub walk-begins : (m : Map) (u d : ℕ) (s : Search) (lo : ℕ) → ((e : ℕ) → e < lo → fromOf m e < u) → tried m u d lo s ≡ s
+pub walk-begins : (m : Map) (u d h : ℕ) (s : Search) (lo : ℕ) → ((e : ℕ) → e < lo → fromOf m e < u)
+    → tried m u d h lo s ≡ s
 unfolding tried
-walk-begins m u d s lo f = tried-skip m u d s 0 lo lo (omega arith) (λ e _ j z. let w = f e j in omega arith)
+walk-begins m u d h s lo f = tried-skip m u d h s 0 lo lo (omega arith) (λ e _ j z. let w = f e j in omega arith)
 
-pub walk-ends : (m : Map) → Accepted m → (u d : ℕ) (s : Search) (hi : ℕ) → hi ≤ spans m
-    → (hi < spans m → u < fromOf m hi) → tried m u d (spans m) s ≡ tried m u d hi s
-walk-ends m A u d s hi k f =
-    tried-skip m u d s hi (spans m - hi) (spans m) (omega arith)
+pub walk-ends : (m : Map) → Accepted m → (u d h : ℕ) (s : Search) (hi : ℕ) → hi ≤ spans m
+    → (hi < spans m → u < fromOf m hi) → tried m u d h (spans m) s ≡ tried m u d h hi s
+walk-ends m A u d h s hi k f =
+    tried-skip m u d h s hi (spans m - hi) (spans m) (omega arith)
     (λ e i j z.
     let w = f (omega arith) in
     let v = sorted-all (m .lists .from) (sorted m A) hi e i j in

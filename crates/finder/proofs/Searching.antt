@@ -69,7 +69,7 @@ module _
   -- the call takes the place that comes next in the search, with its loss
   pub taken : {reply : Reply} {store′ : List ℕ} → Performed (l .store) (ExtractMin 0) (go .tally) reply store′
       → Taken stop m minute index to loss opens closes (reply .item) (reply .key)
-      (resultLists (l .best) (l .last) store′)
+      (resultLists (l .best) (l .last) (l .joints) store′)
       (record { visited = go .visited; met = go .met; examined = go .examined; tally = reply .tally })
   taken {reply} {store′} P =
       let A = G .stands .accepted in
@@ -95,6 +95,7 @@ module _
             (record {
               best-is = H .best-is;
               last-is = H .last-is;
+              joints-is = H .joints-is;
               logged =
                   call-logged (m .places) (s .calls) (l .store) (go .tally) (H .logged) (S .formed) (ExtractMin 0) reply
                   store′ P;

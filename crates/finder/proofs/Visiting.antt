@@ -22,7 +22,7 @@ use Rattle.paths.specs.Map.{
   SupplyFits,
 }
 use Rattle.paths.specs.Queue.{Stop}
-use Rattle.paths.specs.Search.{Search, offer, try, tried, examine, steps, bestAt}
+use Rattle.paths.specs.Search.{Search, offer, try, tried, examine, steps, bestAt, jointsAt}
 use Rattle.paths.specs.Feed.{ResultLists}
 use Rattle.paths.specs.Theorems.{trying}
 use Rattle.paths.proofs.Invariant.{unsettled}
@@ -34,7 +34,7 @@ use Rattle.relax.specs.Tracks.{Tracks, examineOne}
 use Rattle.relax.specs.Advances.{Offerable, OfferReady, Advances}
 use Rattle.finder.specs.SearchState.{Taken}
 use Rattle.finder.proofs.Ready.{logged-ready}
-use Rattle.finder.proofs.AtPlace.{at, left, left-is, tryingAt, servedAt}
+use Rattle.finder.proofs.AtPlace.{at, left, left-is, tryingAt, servedAt, hops-is}
 use Rattle.finder.proofs.Walking.{Walking}
 
 module _
@@ -56,7 +56,7 @@ module _
     leaves-u : fromOf m e ≡ u
     leaves-u = W .own e (omega arith) j
 
-    tryingE : TryingOf m u (bestAt before u) e (left K) (at stop m k u e)
+    tryingE : TryingOf m u (bestAt before u) (jointsAt before u) e (left K) (at stop m k u e)
     tryingE = tryingAt K e (omega (arith, span-in))
 
     pub examined-small : go .examined < 4294967295
@@ -109,6 +109,8 @@ module _
               omega (arith, ap length (W .tracks .best-is), tryingE .invariant .bestN, K .accepted .toIn e span-in);
           inLast =
               omega (arith, ap length (W .tracks .last-is), tryingE .invariant .lastN, K .accepted .toIn e span-in);
+          inJoints =
+              omega (arith, ap length (W .tracks .joints-is), tryingE .invariant .jointsN, K .accepted .toIn e span-in);
           ready =
               logged-ready stop m (K .accepted) (at stop m k u e) (trying k u e (K .next-is) (omega (arith, span-in)))
               (W .tracks .logged);
@@ -121,6 +123,7 @@ module _
         record {
           best-is = W .tracks .best-is;
           last-is = W .tracks .last-is;
+          joints-is = W .tracks .joints-is;
           logged = W .tracks .logged;
           examined-is = omega (arith, W .tracks .examined-is);
           met-is = W .tracks .met-is;
@@ -144,7 +147,12 @@ module _
     unfolding examineOne tried
     walking-closed c =
         next-span refl
-        (rw (eq-eqb (fromOf m e) u leaves-u, usable-is, c, try-closed m (bestAt before u) e (at stop m k u e))
+        (rw (
+          eq-eqb (fromOf m e) u leaves-u,
+          usable-is,
+          c,
+          try-closed m (bestAt before u) (jointsAt before u) e (at stop m k u e),
+        )
         examined-tracks)
 
     -- the span is usable: it offers
@@ -159,16 +167,17 @@ module _
             inside = omega (arith, tryingE .invariant .waitsN, K .accepted .toIn e span-in);
             apart =
                 λ z.
-                out-of-queue m (K .accepted) u (bestAt before u) e (left K) (at stop m k u e) tryingE is-span leaves-u
-                z;
+                out-of-queue m (K .accepted) u (bestAt before u) (jointsAt before u) e (left K) (at stop m k u e)
+                tryingE is-span leaves-u z;
           }
 
       pub walking-on : {l′ : ResultLists} {r : Progress}
-          → Advances (getD to e 0) (offer (getD to e 0) (d + getD loss e 0) e) l (examineOne go) l′ r
+          → Advances (getD to e 0) (offer (getD to e 0) (d + getD loss e 0) (getD (l₀ .joints) u 0 + 1) e) l
+          (examineOne go) l′ r
           → Walking stop m k u end (e + 1) l′ r
       unfolding examineOne tried try
       walking-on M₀ =
-          let M = rw (K .lists .to-is, K .lists .loss-is, K .loss-is) at M₀ in
+          let M = rw (K .lists .to-is, K .lists .loss-is, K .loss-is, hops-is K, add-one) at M₀ in
           next-span (M .visited-is)
           (rw (eq-eqb (fromOf m e) u leaves-u, usable-is, o)
           (M .tracks (m .places) (suc k) (examine (at stop m k u e)) offerable examined-tracks))

@@ -12,7 +12,7 @@ use borrow.Author.Tests.{eqb-true, eqb-false, ltb-true, ltb-false}
 use Rattle.rules.specs.Forests.{none}
 use Rattle.paths.specs.Map.{Map, Accepted}
 use Rattle.paths.specs.Table.{upTo}
-use Rattle.paths.specs.Search.{Search, beyond, find, hideWaiting, shownBest, shownLast, bestAt}
+use Rattle.paths.specs.Search.{Search, beyond, find, hideWaiting, shownBest, shownLast, shownJoints, bestAt}
 use Rattle.paths.proofs.Hiding.{length-hide, hide-at}
 use Rattle.paths.proofs.Steps.{search-between}
 use Rattle.paths.proofs.Halting.{search-halted}
@@ -69,4 +69,9 @@ module _ (budget : ℕ) (m : Map) (A : Accepted m) where
   pub hidden-last : hidden budget (s .best) (s .last) ≡ shownLast s
   hidden-last =
       let I = search-between (beyond (upTo budget)) m A .invariant in
-      hidden-waiting (s .last) (I .lastN) (I .unmet)
+      hidden-waiting (s .last) (I .lastN) (λ p e. I .unmet p e .0)
+
+  pub hidden-joints : hidden budget (s .best) (s .joints) ≡ shownJoints s
+  hidden-joints =
+      let I = search-between (beyond (upTo budget)) m A .invariant in
+      hidden-waiting (s .joints) (I .jointsN) (λ p e. I .unmet p e .1)

@@ -10,7 +10,7 @@ use lib.Dec.{ltb}
 use borrow.Author.Tests.{ltb-true, ltb-false}
 use Rattle.paths.specs.Map.{Map, spans, fromOf}
 use Rattle.paths.specs.Queue.{Stop}
-use Rattle.paths.specs.Search.{Search, extracted, visit, step, steps, bestAt}
+use Rattle.paths.specs.Search.{Search, extracted, visit, step, steps, bestAt, jointsAt}
 use Rattle.paths.specs.Feed.{ResultLists}
 use Rattle.spans.specs.Range.{FirstSpan}
 use Rattle.relax.specs.declared.Progress.{Progress}
@@ -60,7 +60,9 @@ module _
         own =
             λ i a b. omega (arith, firstOf .above i a (omega (arith, endOf .within)), endOf .below i b);
         beyond = λ h. omega (arith, endOf .above end (le-refl _) h);
-        tracks = rw (walk-begins m u (bestAt before u) (extracted u before) first (firstOf .below)) (K .tracks);
+        tracks =
+            rw (walk-begins m u (bestAt before u) (jointsAt before u) (extracted u before) first (firstOf .below))
+            (K .tracks);
       }
     where
       first : ℕ
@@ -93,7 +95,8 @@ module _
     steps-next j =
         let q : end ≡ e = omega (arith, W .ordered) in
         rw (K .next-is)
-        (walk-ends m (K .accepted) u (bestAt before u) (extracted u before) end (W .within) (W .beyond)
+        (walk-ends m (K .accepted) u (bestAt before u) (jointsAt before u) (extracted u before) end (W .within)
+        (W .beyond)
         ∙ ap (λ i. at stop m k u i) q)
 
     visited-tracks : Tracks (m .places) (suc k) (at stop m k u e) l (visitOne go)
@@ -102,6 +105,7 @@ module _
         record {
           best-is = W .tracks .best-is;
           last-is = W .tracks .last-is;
+          joints-is = W .tracks .joints-is;
           logged = W .tracks .logged;
           examined-is = W .tracks .examined-is;
           met-is = W .tracks .met-is;

@@ -10,7 +10,8 @@ use Rattle.paths.specs.Search.{hideWaiting}
 abbrev pub beyondBudget : ℕ → List ℕ → List ℕ
 beyondBudget budget best = map (λ l. indicator (ltb budget l)) best
 
--- Both lists show none at these places, as they do at places that wait.
-pub record Hidden (budget : ℕ) (best last best′ last′ : List ℕ) : Type 0 where
+-- All three lists show none at these places, as they do at places that wait.
+pub record Hidden (budget : ℕ) (best last joints best′ last′ joints′ : List ℕ) : Type 0 where
   pub best-is : best′ ≡ hideWaiting (beyondBudget budget best) best
   pub last-is : last′ ≡ hideWaiting (beyondBudget budget best) last
+  pub joints-is : joints′ ≡ hideWaiting (beyondBudget budget best) joints

@@ -51,11 +51,12 @@ pub record Visits (stop : Stop) (m : Map) (go : Progress) (l : ResultLists) (r :
 
 -- ---- the search
 
--- two result lists and a store of the right sizes
+-- three result lists and a store of the right sizes
 pub record BeginReady (places start : ℕ) (l : ResultLists) : Type 0 where
   pub startIn : start < places
   pub bestN : length (l .best) ≡ places
   pub lastN : length (l .last) ≡ places
+  pub jointsN : length (l .joints) ≡ places
   pub sized : Sized places (l .store)
 
 -- The start alone waits. Nothing depends on the spans.

@@ -41,22 +41,25 @@ fn search_within(
     budget: u32,
     best: &mut [u32],
     last: &mut [u32],
+    joints: &mut [u32],
     listed: &mut [u32],
     store: &mut [u32],
     begun: Progress,
 ) -> Progress
     requires { ⌜ ((start : ℕ) × ListReady budget (mapAt places start minute (spanLists (now from) (now to) (now loss))
         (windows (now opens) (now closes)))
-        (resultLists (now best) (now last) (now store)) (now listed) begun) ⌝ }
+        (resultLists (now best) (now last) (now joints) (now store)) (now listed) begun) ⌝ }
     ensures { λ r. ⌜ ((start : ℕ)
         → ListReady budget
         (mapAt places start minute (spanLists (now (from .entry)) (now (to .entry)) (now (loss .entry)))
         (windows (now (opens .entry)) (now (closes .entry))))
-        (resultLists (now (best .entry)) (now (last .entry)) (now (store .entry))) (now (listed .entry)) begun
+        (resultLists (now (best .entry)) (now (last .entry)) (now (joints .entry)) (now (store .entry)))
+        (now (listed .entry)) begun
         → FoundListed budget
         (mapAt places start minute (spanLists (now (from .entry)) (now (to .entry)) (now (loss .entry)))
         (windows (now (opens .entry)) (now (closes .entry))))
-        (now (listed .entry)) (resultLists (now (best .exit)) (now (last .exit)) (now (store .exit)))
+        (now (listed .entry))
+        (resultLists (now (best .exit)) (now (last .exit)) (now (joints .exit)) (now (store .exit)))
         (now (listed .exit)) r) ⌝ }
 {
     let mut index: Index = [0; 4097];
@@ -78,6 +81,7 @@ fn search_within(
             closes,
             best,
             last,
+            joints,
             store,
             go,
         );
@@ -95,17 +99,18 @@ fn word_within(budget: u32, loss: u32, word: u32) -> u32
     word
 }
 
-// Losses beyond the budget, and the spans beside them, are made none.
-fn hide_beyond(budget: u32, best: &mut [u32], last: &mut [u32])
-    requires { ⌜ length (now last) ≡ length (now best) ⌝ }
-    ensures { λ _. ⌜ Hidden budget (now (best .entry)) (now (last .entry)) (now (best .exit)) (now (last .exit)) ⌝ }
+// Losses beyond the budget, and the words beside them, are made none.
+fn hide_beyond(budget: u32, best: &mut [u32], last: &mut [u32], joints: &mut [u32])
+    requires { ⌜ ((length (now last) ≡ length (now best)) × (length (now joints) ≡ length (now best))) ⌝ }
+    ensures { λ _. ⌜ Hidden budget (now (best .entry)) (now (last .entry)) (now (joints .entry))
+        (now (best .exit)) (now (last .exit)) (now (joints .exit)) ⌝ }
 {
     let mut p: usize = 0;
     while p < best.len() {
         let loss = best[p];
-        let span = last[p];
         best[p] = word_within(budget, loss, loss);
-        last[p] = word_within(budget, loss, span);
+        last[p] = word_within(budget, loss, last[p]);
+        joints[p] = word_within(budget, loss, joints[p]);
         p += 1;
     }
 }
@@ -124,14 +129,17 @@ pub fn feed_within(
     budget: u32,
     best: &mut [u32],
     last: &mut [u32],
+    joints: &mut [u32],
     listed: &mut [u32],
     store: &mut [u32],
 ) -> FedWithin
     ensures { λ r. ⌜ FeedsWithin budget
         (mapAt places start minute (spanLists (now (from .entry)) (now (to .entry)) (now (loss .entry)))
         (windows (now (opens .entry)) (now (closes .entry))))
-        (resultLists (now (best .entry)) (now (last .entry)) (now (store .entry))) (now (listed .entry))
-        r (resultLists (now (best .exit)) (now (last .exit)) (now (store .exit))) (now (listed .exit)) ⌝ }
+        (resultLists (now (best .entry)) (now (last .entry)) (now (joints .entry)) (now (store .entry)))
+        (now (listed .entry)) r
+        (resultLists (now (best .exit)) (now (last .exit)) (now (joints .exit)) (now (store .exit)))
+        (now (listed .exit)) ⌝ }
 {
     let code = feed_code(
         places,
@@ -144,6 +152,7 @@ pub fn feed_within(
         closes,
         best.len(),
         last.len(),
+        joints.len(),
         listed.len(),
         store.len(),
     );
@@ -151,7 +160,7 @@ pub fn feed_within(
         let fed = refused(code);
         return FedWithin { fed, listed: 0 };
     }
-    let begun = begin_search(places, start, best, last, store);
+    let begun = begin_search(places, start, best, last, joints, store);
     let found = search_within(
         places,
         minute,
@@ -163,11 +172,12 @@ pub fn feed_within(
         budget,
         best,
         last,
+        joints,
         listed,
         store,
         begun,
     );
-    hide_beyond(budget, best, last);
+    hide_beyond(budget, best, last, joints);
     make_empty(store, places as usize);
     let listed_places = found.visited;
     let fed = done(found);

@@ -71,13 +71,16 @@ fn begin_search(
     start: u32,
     best: &mut [u32],
     last: &mut [u32],
+    joints: &mut [u32],
     store: &mut [u32],
 ) -> Progress
-    requires { ⌜ BeginReady places start (resultLists (now best) (now last) (now store)) ⌝ }
-    ensures { λ r. ⌜ Begun places start (resultLists (now (best .exit)) (now (last .exit)) (now (store .exit))) r ⌝ }
+    requires { ⌜ BeginReady places start (resultLists (now best) (now last) (now joints) (now store)) ⌝ }
+    ensures { λ r. ⌜ Begun places start
+        (resultLists (now (best .exit)) (now (last .exit)) (now (joints .exit)) (now (store .exit))) r ⌝ }
 {
     fill(best, NONE);
     fill(last, NONE);
+    fill(joints, NONE);
     make_empty(store, places as usize);
     let none = Tally { links: 0, cuts: 0 };
     let reply = perform(
@@ -91,6 +94,7 @@ fn begin_search(
     );
     let i = start as usize;
     best[i] = 0;
+    joints[i] = 0;
     let tally = reply.tally;
     Progress {
         visited: 0,
@@ -111,19 +115,20 @@ fn search(
     closes: &[u32],
     best: &mut [u32],
     last: &mut [u32],
+    joints: &mut [u32],
     store: &mut [u32],
     begun: Progress,
 ) -> Progress
     requires { ⌜ ((start : ℕ) × Stands never (mapAt places start minute (spanLists (now from) (now to) (now loss))
         (windows (now opens) (now closes)))
-        (resultLists (now best) (now last) (now store)) begun) ⌝ }
+        (resultLists (now best) (now last) (now joints) (now store)) begun) ⌝ }
     ensures { λ r. ⌜ ((start : ℕ)
         → Stands never (mapAt places start minute (spanLists (now (from .entry)) (now (to .entry)) (now (loss .entry)))
         (windows (now (opens .entry)) (now (closes .entry))))
-        (resultLists (now (best .entry)) (now (last .entry)) (now (store .entry))) begun
+        (resultLists (now (best .entry)) (now (last .entry)) (now (joints .entry)) (now (store .entry))) begun
         → Found never (mapAt places start minute (spanLists (now (from .entry)) (now (to .entry)) (now (loss .entry)))
         (windows (now (opens .entry)) (now (closes .entry))))
-        (resultLists (now (best .exit)) (now (last .exit)) (now (store .exit))) r) ⌝ }
+        (resultLists (now (best .exit)) (now (last .exit)) (now (joints .exit)) (now (store .exit))) r) ⌝ }
 {
     let mut index: Index = [0; 4097];
     index_spans(places, from, &mut index);
@@ -138,6 +143,7 @@ fn search(
             closes,
             best,
             last,
+            joints,
             store,
             go,
         );
@@ -158,13 +164,14 @@ pub fn feed(
     closes: &[u32],
     best: &mut [u32],
     last: &mut [u32],
+    joints: &mut [u32],
     store: &mut [u32],
 ) -> Fed
     ensures { λ r. ⌜ Feeds
         (mapAt places start minute (spanLists (now (from .entry)) (now (to .entry)) (now (loss .entry)))
         (windows (now (opens .entry)) (now (closes .entry))))
-        (resultLists (now (best .entry)) (now (last .entry)) (now (store .entry)))
-        r (resultLists (now (best .exit)) (now (last .exit)) (now (store .exit))) ⌝ }
+        (resultLists (now (best .entry)) (now (last .entry)) (now (joints .entry)) (now (store .entry)))
+        r (resultLists (now (best .exit)) (now (last .exit)) (now (joints .exit)) (now (store .exit))) ⌝ }
 {
     let code = feed_code(
         places,
@@ -177,13 +184,14 @@ pub fn feed(
         closes,
         best.len(),
         last.len(),
+        joints.len(),
         places as usize,
         store.len(),
     );
     if code != 0 {
         return refused(code);
     }
-    let begun = begin_search(places, start, best, last, store);
+    let begun = begin_search(places, start, best, last, joints, store);
     let found = search(
         places,
         minute,
@@ -194,6 +202,7 @@ pub fn feed(
         closes,
         best,
         last,
+        joints,
         store,
         begun,
     );

@@ -21,6 +21,7 @@ fn try_spans(
     closes: &[u32],
     best: &mut [u32],
     last: &mut [u32],
+    joints: &mut [u32],
     store: &mut [u32],
     u: u32,
     d: u32,
@@ -28,14 +29,16 @@ fn try_spans(
 ) -> Progress
     requires { ⌜ ((stop : Stop) × (m : Map)
         × Taken stop m minute (now index) (now to) (now loss) (now opens) (now closes) u d
-        (resultLists (now best) (now last) (now store)) taken) ⌝ }
+        (resultLists (now best) (now last) (now joints) (now store)) taken) ⌝ }
     ensures { λ r. ⌜ ((stop : Stop) (m : Map)
         → Taken stop m minute (now (index .entry)) (now (to .entry)) (now (loss .entry)) (now (opens .entry))
         (now (closes .entry)) u d
-        (resultLists (now (best .entry)) (now (last .entry)) (now (store .entry))) taken
-        → Visits stop m taken (resultLists (now (best .exit)) (now (last .exit)) (now (store .exit))) r) ⌝ }
+        (resultLists (now (best .entry)) (now (last .entry)) (now (joints .entry)) (now (store .entry))) taken
+        → Visits stop m taken
+        (resultLists (now (best .exit)) (now (last .exit)) (now (joints .exit)) (now (store .exit))) r) ⌝ }
 {
     let i = u as usize;
+    let hops = joints[i] + 1;
     let end = index[i + 1] as usize;
     let mut e = index[i] as usize;
     let mut go = taken;
@@ -43,7 +46,7 @@ fn try_spans(
         let seen = go.examine();
         if usable_at(minute, opens[e], closes[e]) {
             let l = d + loss[e];
-            go = offered(best, last, store, to[e], l, e as u32, seen);
+            go = offered(best, last, joints, store, to[e], l, hops, e as u32, seen);
         } else {
             go = seen;
         }
@@ -62,17 +65,19 @@ pub fn visit_next(
     closes: &[u32],
     best: &mut [u32],
     last: &mut [u32],
+    joints: &mut [u32],
     store: &mut [u32],
     go: Progress,
 ) -> Progress
     requires { ⌜ ((stop : Stop) × (m : Map)
         × Goes stop m minute (now index) (now to) (now loss) (now opens) (now closes)
-        (resultLists (now best) (now last) (now store)) go) ⌝ }
+        (resultLists (now best) (now last) (now joints) (now store)) go) ⌝ }
     ensures { λ r. ⌜ ((stop : Stop) (m : Map)
         → Goes stop m minute (now (index .entry)) (now (to .entry)) (now (loss .entry)) (now (opens .entry))
         (now (closes .entry))
-        (resultLists (now (best .entry)) (now (last .entry)) (now (store .entry))) go
-        → Visits stop m go (resultLists (now (best .exit)) (now (last .exit)) (now (store .exit))) r) ⌝ }
+        (resultLists (now (best .entry)) (now (last .entry)) (now (joints .entry)) (now (store .entry))) go
+        → Visits stop m go
+        (resultLists (now (best .exit)) (now (last .exit)) (now (joints .exit)) (now (store .exit))) r) ⌝ }
 {
     let before = go.tally;
     let reply = perform(store, Call::ExtractMin { heap: 0 }, before);
@@ -92,6 +97,7 @@ pub fn visit_next(
         closes,
         best,
         last,
+        joints,
         store,
         reply.item,
         reply.key,

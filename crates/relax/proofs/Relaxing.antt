@@ -3,6 +3,7 @@ use Prim.Native.Nat.{ℕ, _+_, _≤_, _<_}
 use mathlib.Core.Path.{_≡_, refl, sym, ap, _∙_}
 use mathlib.Core.Logic.{_≢_}
 use mathlib.Core.List.{[], _∷_, _++_}
+use mathlib.Core.Bool.{Bool, true, false}
 use native.Mathlib.Omega.{arith}
 use lib.ListN.{length, getD, set}
 use Rattle.rules.specs.declared.Call.{Call}
@@ -15,25 +16,28 @@ use Rattle.rules.specs.WellFormed.{WellFormed}
 use Rattle.rules.proofs.Default.{getD-any}
 use Rattle.rules.proofs.Sums.{sumBy-set}
 use Rattle.relax.specs.declared.Progress.{Progress}
-use Rattle.paths.specs.Search.{Search, Verdict, unmet, smaller, tie, worse, judge, update, offer}
+use Rattle.paths.specs.Search.{Search, Verdict, unmet, smaller, tie, worse, winsTie, judge, update, offer}
 use Rattle.paths.specs.Feed.{ResultLists, resultLists}
 use Rattle.relax.specs.Tracks.{Tracks}
 use Rattle.relax.specs.Advances.{OfferReady, Improved, Advances}
-use Rattle.paths.proofs.Judge.{judge-unmet, judge-smaller, judge-larger, judge-tie, judge-late}
+use Rattle.paths.proofs.Judge.{judge-unmet, judge-smaller, judge-larger, judge-tie, judge-kept}
 use Rattle.relax.proofs.Logged.{call-logged}
 
-module _ (p loss span : ℕ) (l : ResultLists) (go : Progress) where
+module _ (p loss hops span : ℕ) (l : ResultLists) (go : Progress) where
   -- A queue call for p, as the search logs it.
-  module _ (call : Call) (met : ℕ) (l′ : ResultLists) (r : Progress) (I : Improved call p loss span met l go l′ r) where
+  module _
+      (call : Call) (met : ℕ) (l′ : ResultLists) (r : Progress)
+      (I : Improved call p loss hops span met l go l′ r) where
     improved-tracks : {n out : ℕ} {s t : Search} → WellFormed (after (empty n) (s .calls)) → Tracks n out s l go
-        → t .best ≡ set (s .best) p loss → t .last ≡ set (s .last) p span
+        → t .best ≡ set (s .best) p loss → t .last ≡ set (s .last) p span → t .joints ≡ set (s .joints) p hops
         → t .calls ≡ s .calls ++ (Yields call ∷ []) → t .examined ≡ s .examined
         → met ≡ out + sumBy (λ w. w) (t .queue .waits) → Tracks n out t l′ r
-    improved-tracks {n} {out} {s} {t} W H eb el ec ex em =
+    improved-tracks {n} {out} {s} {t} W H eb el ej ec ex em =
         rw (I .progress)
         (record {
           best-is = I .best-is ∙ ap (λ b. set b p loss) (H .best-is) ∙ sym eb;
           last-is = I .last-is ∙ ap (λ b. set b p span) (H .last-is) ∙ sym el;
+          joints-is = I .joints-is ∙ ap (λ b. set b p hops) (H .joints-is) ∙ sym ej;
           logged =
               rw ec
               (call-logged n (s .calls) (l .store) (go .tally) (H .logged) W call (I .reply) (l′ .store)
@@ -43,8 +47,8 @@ module _ (p loss span : ℕ) (l : ResultLists) (go : Progress) where
         })
 
   enter-advances : p < length (l .best) → getD (l .best) p 0 ≡ none → {l′ : ResultLists} {r : Progress}
-      → Improved (Insert 0 p loss) p loss span (go .met + 1) l go l′ r
-      → Advances p (update unmet p loss span) l go l′ r
+      → Improved (Insert 0 p loss) p loss hops span (go .met + 1) l go l′ r
+      → Advances p (update unmet p loss hops span) l go l′ r
   unfolding update
   enter-advances i u {l′} {r} I =
       record {
@@ -53,22 +57,27 @@ module _ (p loss span : ℕ) (l : ResultLists) (go : Progress) where
             λ n out s O H.
             let z : getD (s .best) p none ≡ none =
             rw (sym (H .best-is)) (getD-any (l .best) p none 0 i ∙ u) in
-            improved-tracks (Insert 0 p loss) (go .met + 1) l′ r I (O .formed) H refl refl refl refl
+            improved-tracks (Insert 0 p loss) (go .met + 1) l′ r I (O .formed) H refl refl refl refl refl
             (omega (arith, H .met-is, sumBy-set (λ w. w) (s .queue .waits) p 1 0 (O .inside), O .apart z));
       }
 
-  lower-advances : {l′ : ResultLists} {r : Progress} → Improved (DecreaseKey p loss) p loss span (go .met) l go l′ r
-      → Advances p (update smaller p loss span) l go l′ r
+  lower-advances : {l′ : ResultLists} {r : Progress}
+      → Improved (DecreaseKey p loss) p loss hops span (go .met) l go l′ r
+      → Advances p (update smaller p loss hops span) l go l′ r
   unfolding update
   lower-advances {l′} {r} I =
       record {
         visited-is = ap (λ (q : Progress). q .visited) (I .progress);
         tracks =
             λ n out s O H.
-            improved-tracks (DecreaseKey p loss) (go .met) l′ r I (O .formed) H refl refl refl refl (H .met-is);
+            improved-tracks (DecreaseKey p loss) (go .met) l′ r I (O .formed) H refl refl refl refl refl (H .met-is);
       }
 
-  tie-advances : Advances p (update tie p loss span) l go (resultLists (l .best) (set (l .last) p span) (l .store)) go
+  -- the lists with another span and number of spans at p
+  abbrev tied : ResultLists
+  tied = resultLists (l .best) (set (l .last) p span) (set (l .joints) p hops) (l .store)
+
+  tie-advances : Advances p (update tie p loss hops span) l go tied go
   unfolding update
   tie-advances =
       record {
@@ -78,34 +87,38 @@ module _ (p loss span : ℕ) (l : ResultLists) (go : Progress) where
             record {
               best-is = H .best-is;
               last-is = ap (λ b. set b p span) (H .last-is);
+              joints-is = ap (λ b. set b p hops) (H .joints-is);
               logged = H .logged;
               examined-is = H .examined-is;
               met-is = H .met-is;
             };
       }
 
-  worse-advances : Advances p (update worse p loss span) l go l go
+  worse-advances : Advances p (update worse p loss hops span) l go l go
   unfolding update
   worse-advances = record { visited-is = refl; tracks = λ n out s O H. H }
 
-  -- the loss and the span that the lists show p
+  -- the loss, the number of spans and the span that the lists show p
   abbrev hasLoss : ℕ
   hasLoss = getD (l .best) p none
+
+  abbrev hasHops : ℕ
+  hasHops = getD (l .joints) p none
 
   abbrev hasSpan : ℕ
   hasSpan = getD (l .last) p none
 
   -- the verdict is that on the words of the lists
-  judged-advances : (v : Verdict) → judge hasLoss hasSpan loss span ≡ v → {l′ : ResultLists} {r : Progress}
-      → Advances p (update v p loss span) l go l′ r → Advances p (offer p loss span) l go l′ r
+  judged-advances : (v : Verdict) → judge hasLoss hasHops hasSpan loss hops span ≡ v → {l′ : ResultLists} {r : Progress}
+      → Advances p (update v p loss hops span) l go l′ r → Advances p (offer p loss hops span) l go l′ r
   unfolding offer
   judged-advances v q M =
       record {
         visited-is = M .visited-is;
         tracks =
             λ n out s O H.
-            let j : judge (getD (s .best) p none) (getD (s .last) p none) loss span ≡ v =
-            rw (sym (H .best-is), sym (H .last-is)) q in
+            let j : judge (getD (s .best) p none) (getD (s .joints) p none) (getD (s .last) p none) loss hops span ≡ v =
+            rw (sym (H .best-is), sym (H .last-is), sym (H .joints-is)) q in
             rw j (M .tracks n out s O H);
       }
 
@@ -117,11 +130,19 @@ module _ (p loss span : ℕ) (l : ResultLists) (go : Progress) where
     last-word : hasSpan ≡ getD (l .last) p 0
     last-word = getD-any (l .last) p none 0 (O .inLast)
 
+    joints-word : hasHops ≡ getD (l .joints) p 0
+    joints-word = getD-any (l .joints) p none 0 (O .inJoints)
+
+    -- what wins a tie, said of the words that the code reads
+    same-wins : winsTie hasHops hasSpan hops span ≡ winsTie (getD (l .joints) p 0) (getD (l .last) p 0) hops span
+    same-wins = rw (joints-word, last-word)
+
     -- One law for each way out, in the order of the tests.
     pub offer-enters : getD (l .best) p 0 ≡ none → {l′ : ResultLists} {r : Progress}
-        → Improved (Insert 0 p loss) p loss span (go .met + 1) l go l′ r → Advances p (offer p loss span) l go l′ r
+        → Improved (Insert 0 p loss) p loss hops span (go .met + 1) l go l′ r
+        → Advances p (offer p loss hops span) l go l′ r
     offer-enters z I =
-        judged-advances unmet (judge-unmet hasLoss hasSpan loss span (best-word ∙ z))
+        judged-advances unmet (judge-unmet hasLoss hasHops hasSpan loss hops span (best-word ∙ z))
         (enter-advances (O .inBest) z I)
 
     module _ (met : getD (l .best) p 0 ≢ none) where
@@ -129,29 +150,32 @@ module _ (p loss span : ℕ) (l : ResultLists) (go : Progress) where
       met′ q = met (sym best-word ∙ q)
 
       pub offer-lowers : loss < getD (l .best) p 0 → {l′ : ResultLists} {r : Progress}
-          → Improved (DecreaseKey p loss) p loss span (go .met) l go l′ r → Advances p (offer p loss span) l go l′ r
+          → Improved (DecreaseKey p loss) p loss hops span (go .met) l go l′ r
+          → Advances p (offer p loss hops span) l go l′ r
       offer-lowers k I =
-          judged-advances smaller (judge-smaller hasLoss hasSpan loss span met′ (omega (arith, best-word)))
+          judged-advances smaller (judge-smaller hasLoss hasHops hasSpan loss hops span met′ (omega (arith, best-word)))
           (lower-advances I)
 
       module _ (low : getD (l .best) p 0 ≤ loss) where
         low′ : hasLoss ≤ loss
         low′ = omega (arith, best-word)
 
-        pub offer-larger : getD (l .best) p 0 < loss → Advances p (offer p loss span) l go l go
+        pub offer-larger : getD (l .best) p 0 < loss → Advances p (offer p loss hops span) l go l go
         offer-larger k =
             judged-advances worse
-            (judge-larger hasLoss hasSpan loss span met′ low′ (λ q. omega (arith, k, q, best-word))) worse-advances
-
-        pub offer-late : getD (l .last) p 0 ≤ span → Advances p (offer p loss span) l go l go
-        offer-late k =
-            judged-advances worse (judge-late hasLoss hasSpan loss span met′ low′ (omega (arith, last-word)))
+            (judge-larger hasLoss hasHops hasSpan loss hops span met′ low′ (λ q. omega (arith, k, q, best-word)))
             worse-advances
 
-        pub offer-ties : loss ≤ getD (l .best) p 0 → span < getD (l .last) p 0
-            → Advances p (offer p loss span) l go (resultLists (l .best) (set (l .last) p span) (l .store)) go
-        offer-ties k i =
-            judged-advances tie
-            (judge-tie hasLoss hasSpan loss span met′ low′ (omega (arith, low, k, best-word))
-            (omega (arith, last-word)))
-            tie-advances
+        -- what `wins_tie` answers on the words read
+        module _ (b : Bool) (wins : b ≡ winsTie (getD (l .joints) p 0) (getD (l .last) p 0) hops span) where
+          pub offer-kept : b ≡ false → Advances p (offer p loss hops span) l go l go
+          offer-kept k =
+              judged-advances worse
+              (judge-kept hasLoss hasHops hasSpan loss hops span met′ low′ (same-wins ∙ sym wins ∙ k)) worse-advances
+
+          pub offer-ties : loss ≤ getD (l .best) p 0 → b ≡ true → Advances p (offer p loss hops span) l go tied go
+          offer-ties k i =
+              judged-advances tie
+              (judge-tie hasLoss hasHops hasSpan loss hops span met′ low′ (omega (arith, low, k, best-word))
+              (same-wins ∙ sym wins ∙ i))
+              tie-advances

@@ -22,16 +22,19 @@ pub record Offerable (n p : ℕ) (s : Search) : Type 0 where
 pub record OfferReady (p : ℕ) (l : ResultLists) (go : Progress) : Type 0 where
   pub inBest : p < length (l .best)
   pub inLast : p < length (l .last)
+  pub inJoints : p < length (l .joints)
   pub ready : Ready (l .store) (go .tally)
   pub room : go .met < 4294967295
 
--- A queue call was made for a place, and the table shows it a loss and a span; so many places are met.
-pub record Improved (call : Call) (place loss span met : ℕ) (l : ResultLists) (go : Progress)
+-- A queue call was made for a place, and the table shows it a loss, a number of spans and a span; so many places are
+-- met.
+pub record Improved (call : Call) (place loss hops span met : ℕ) (l : ResultLists) (go : Progress)
     (l′ : ResultLists) (r : Progress) : Type 0 where
   pub reply : Reply
   pub performed : Performed (l .store) call (go .tally) reply (l′ .store)
   pub best-is : l′ .best ≡ set (l .best) place loss
   pub last-is : l′ .last ≡ set (l .last) place span
+  pub joints-is : l′ .joints ≡ set (l .joints) place hops
   pub progress :
       r ≡ record { visited = go .visited; met = met; examined = go .examined; tally = reply .tally }
 

@@ -22,6 +22,7 @@ pub record Logged (n : ℕ) (calls : List Line) (store : List ℕ) (t : Tally) :
 pub record Tracks (n out : ℕ) (s : Search) (l : ResultLists) (go : Progress) : Type 0 where
   pub best-is : l .best ≡ s .best
   pub last-is : l .last ≡ s .last
+  pub joints-is : l .joints ≡ s .joints
   pub logged : Logged n (s .calls) (l .store) (go .tally)
   pub examined-is : go .examined ≡ s .examined
   pub met-is : go .met ≡ out + sumBy (λ w. w) (s .queue .waits)

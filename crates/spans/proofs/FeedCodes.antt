@@ -71,21 +71,21 @@ one-length lists w place day same both early is-same is-both is-early z =
     }
 
 module _
-    (places start minute : ℕ) (lists : SpanLists) (w : Windows) (bestN lastN listedN storeN : ℕ)
+    (places start minute : ℕ) (lists : SpanLists) (w : Windows) (bestN lastN jointsN listedN storeN : ℕ)
     (place day same both early : ℕ)
     (is-place : place ≡ cond (eqb places 0 || ltb 4096 places) 14 (cond (leb places start) 15 0))
     (is-day : day ≡ cond (not (leb minute lastMinute)) 24 0)
     (is-same : same ≡ cond (not (spanListsFit lists && windowListsFit (length (lists .from)) (atMinute minute w))) 16 0)
     (is-both : both ≡ firstCode day same) (is-early : early ≡ firstCode place both) where
   abbrev code : ℕ
-  code = feedCode (mapAt places start minute lists w) bestN lastN listedN storeN
+  code = feedCode (mapAt places start minute lists w) bestN lastN jointsN listedN storeN
 
   abbrev ofSpans : ℕ
   ofSpans = spansCode places lists (atMinute minute w)
 
   -- what the tests from 17 on find
   late : ℕ
-  late = cond (not (resultListsFit places bestN lastN storeN)) 17 (cond (ltb listedN places) 22 ofSpans)
+  late = cond (not (resultListsFit places bestN lastN jointsN storeN)) 17 (cond (ltb listedN places) 22 ofSpans)
 
   in-order : code ≡ firstCode early late
   unfolding feedCode minuteFits late
@@ -98,7 +98,8 @@ module _
   code-early n = sym (in-order ∙ rw (ne-eqb early 0 n))
 
   pub code-late : early ≡ 0 → (results list lent : ℕ)
-      → results ≡ cond (not (resultListsFit places bestN lastN storeN)) 17 0 → list ≡ cond (ltb listedN places) 22 0
+      → results ≡ cond (not (resultListsFit places bestN lastN jointsN storeN)) 17 0
+      → list ≡ cond (ltb listedN places) 22 0
       → lent ≡ firstCode results list → (spans c : ℕ) → spans ≡ ofSpans → c ≡ firstCode lent spans → c ≡ code
   unfolding late
   code-late z results list lent is-results is-list is-lent spans c is-spans r =
@@ -106,4 +107,4 @@ module _
       (sym
       (in-order
       ∙ rw (eq-eqb early 0 z)
-      (last-tests (resultListsFit places bestN lastN storeN) (ltb listedN places) ofSpans)))
+      (last-tests (resultListsFit places bestN lastN jointsN storeN) (ltb listedN places) ofSpans)))

@@ -193,14 +193,17 @@ fn span_lists_code(from: usize, to: usize, loss: usize, opens: usize, closes: us
 }
 
 // 17 for result lists or a store of another size than that for the places, or 0.
-fn result_lists_code(places: usize, best: usize, last: usize, store: usize) -> u32
+fn result_lists_code(places: usize, best: usize, last: usize, joints: usize, store: usize) -> u32
     requires { ⌜ places ≤ 4096 ⌝ }
-    ensures { λ r. ⌜ r ≡ cond (not (resultListsFit places best last store)) 17 0 ⌝ }
+    ensures { λ r. ⌜ r ≡ cond (not (resultListsFit places best last joints store)) 17 0 ⌝ }
 {
     if best != places {
         return 17;
     }
     if last != places {
+        return 17;
+    }
+    if joints != places {
         return 17;
     }
     if store != size_for(places) {
@@ -219,8 +222,8 @@ fn place_list_code(listed: usize, places: usize) -> u32
     0
 }
 
-// The first condition that a feed call meets, by its code, or 0; best, last, listed and store are the lengths of what
-// is lent.
+// The first condition that a feed call meets, by its code, or 0; best, last, joints, listed and store are the lengths
+// of what is lent.
 pub fn feed_code(
     places: u32,
     start: u32,
@@ -232,13 +235,14 @@ pub fn feed_code(
     closes: &[u32],
     best: usize,
     last: usize,
+    joints: usize,
     listed: usize,
     store: usize,
 ) -> u32
     ensures { λ r. ⌜ r ≡ feedCode
         (mapAt places start minute (spanLists (now (from .entry)) (now (to .entry)) (now (loss .entry)))
         (windows (now (opens .entry)) (now (closes .entry))))
-        best last listed store ⌝ }
+        best last joints listed store ⌝ }
 {
     let place = places_code(places, start);
     let day = minute_code(minute);
@@ -249,7 +253,7 @@ pub fn feed_code(
         return early;
     }
     let n = places as usize;
-    let results = result_lists_code(n, best, last, store);
+    let results = result_lists_code(n, best, last, joints, store);
     let list = place_list_code(listed, n);
     let lent = first_code(results, list);
     let spans = spans_code(places, from, to, loss, opens, closes);

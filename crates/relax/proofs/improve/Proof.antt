@@ -19,6 +19,12 @@ mul-last c = search needs
 slice-write-last : tie.Need-slice-write-last
 slice-write-last c = search needs
 
+mul-joints : tie.Need-mul-joints
+mul-joints c = search needs
+
+slice-write-joints : tie.Need-slice-write-joints
+slice-write-joints c = search needs
+
 same-length : tie.Need-same-length
 same-length c = search needs
 
@@ -28,13 +34,18 @@ same-length-2 c = search needs
 same-length-3 : tie.Need-same-length-3
 same-length-3 c = search needs
 
+same-length-4 : tie.Need-same-length-4
+same-length-4 c = search needs
+
 returns : tie.Need-returns
 returns c =
+    let at-perform = c .before .before .before in
     record {
-      reply = c .before .before .before .perform .result;
-      performed = c .before .before .before .perform .ensures;
+      reply = at-perform .perform .result;
+      performed = at-perform .perform .ensures;
       best-is = refl;
       last-is = refl;
+      joints-is = refl;
       progress = refl;
     }
 
@@ -47,7 +58,10 @@ improve-spec =
     slice-write-best
     mul-last
     slice-write-last
+    mul-joints
+    slice-write-joints
     same-length
     same-length-2
     same-length-3
+    same-length-4
     returns)

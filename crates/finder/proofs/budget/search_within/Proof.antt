@@ -27,25 +27,26 @@ use Rattle.finder.proofs.budget.search_within.Statement.{statement}
 use Rattle.finder.proofs.budget.search_within.Tie as tie
 
 abbrev Inv-loop : tie.InvT-loop
-Inv-loop places minute from to loss opens closes budget best₀ last₀ listed₀ store₀ index n go₀ best last listed store
-    go =
+Inv-loop places minute from to loss opens closes budget best₀ last₀ joints₀ listed₀ store₀ index n go₀ best last joints
+    listed store go =
     ((start : ℕ)
     → ListReady budget (mapAt places start minute (spanLists from to loss) (windows opens closes))
-    (resultLists best₀ last₀ store₀) listed₀ go₀
+    (resultLists best₀ last₀ joints₀ store₀) listed₀ go₀
     → ListsTaken (beyond (upTo budget))
     (mapAt places start minute (spanLists from to loss) (windows opens closes)) listed₀
-    (resultLists best last store) listed go)
-    × (length best ≡ length best₀) × (length last ≡ length last₀) × (length listed ≡ length listed₀)
-    × (length store ≡ length store₀)
+    (resultLists best last joints store) listed go)
+    × (length best ≡ length best₀) × (length last ≡ length last₀) × (length joints ≡ length joints₀)
+    × (length listed ≡ length listed₀) × (length store ≡ length store₀)
 
 abbrev μ-loop : tie.MeasureT-loop
-μ-loop places minute from to loss opens closes budget best₀ last₀ listed₀ store₀ index n go₀ best last listed store go =
+μ-loop places minute from to loss opens closes budget best₀ last₀ joints₀ listed₀ store₀ index n go₀ best last joints
+    listed store go =
     places - go .visited
 
 index-spans-requires : tie.Need-index-spans-requires Inv-loop μ-loop
 index-spans-requires c κs =
-    let A =
-    c .before .before .before .before .before .before .before .before .before .before .pre .1 .stands .accepted in
+    let start = c .before .before .before .before .before .before .before .before .before .before .before in
+    let A = start .pre .1 .stands .accepted in
     record {
       sorted = sorted (mapAt _ _ _ (spanLists _ _ _) (windows _ _)) A;
       short = A .short;
@@ -54,10 +55,10 @@ index-spans-requires c κs =
     }
 
 loop-holds : tie.Need-loop-holds Inv-loop μ-loop
-loop-holds c = (λ start R. lists-begins _ R, refl, refl, refl, refl)
+loop-holds c = (λ start R. lists-begins _ R, refl, refl, refl, refl, refl)
 
 abbrev start : tie.At-loop Inv-loop μ-loop → tie.Start Inv-loop μ-loop
-start c = c .before .before .before .before .before .before .before .before .before .before .before .before
+start c = c .before .before .before .before .before .before .before .before .before .before .before .before .before
 
 find-min-requires : tie.Need-find-min-requires Inv-loop μ-loop
 find-min-requires c κs =
@@ -98,6 +99,9 @@ same-length-3 c = search needs
 same-length-4 : tie.Need-same-length-4 Inv-loop μ-loop
 same-length-4 c = search needs
 
+same-length-5 : tie.Need-same-length-5 Inv-loop μ-loop
+same-length-5 c = search needs
+
 returns : tie.Need-returns Inv-loop μ-loop
 returns c =
     let f = c .before .before in
@@ -127,11 +131,11 @@ mul-listed c = omega (arith, below (c .before))
 slice-write-listed : tie.Need-slice-write-listed Inv-loop μ-loop
 slice-write-listed c =
     let l = c .before .before .before .before .before .before .before in
-    omega (arith, below (c .before), start l .pre .1 .room, l .loop .inv .3)
+    omega (arith, below (c .before), start l .pre .1 .room, l .loop .inv .4)
 
 visit-next-requires : tie.Need-visit-next-requires Inv-loop μ-loop
 visit-next-requires c κs =
-    let i = c .before .before .before .before .before in
+    let i = c .before .before .before .before .before .before in
     let f = i .before .before in
     let t = f .before .before in
     let l = t .before .before in (
@@ -143,8 +147,8 @@ visit-next-requires c κs =
 
 loop-less : tie.Need-loop-less Inv-loop μ-loop
 loop-less c =
-    let v = c .before .before .before .before .before .before in
-    let i = v .before .before .before .before .before .before in
+    let v = c .before .before .before .before .before .before .before .before in
+    let i = v .before .before .before .before .before .before .before in
     let f = i .before .before in
     let t = f .before .before in
     let l = t .before .before in
@@ -155,8 +159,8 @@ loop-less c =
 
 loop-again : tie.Need-loop-again Inv-loop μ-loop
 loop-again c =
-    let v = c .before .before .before .before .before .before in
-    let i = v .before .before .before .before .before .before in
+    let v = c .before .before .before .before .before .before .before .before in
+    let i = v .before .before .before .before .before .before .before in
     let f = i .before .before in
     let t = f .before .before in
     let l = t .before .before in (
@@ -166,15 +170,13 @@ loop-again c =
           let G =
           first-goes (l .before .index-spans .ensures) (L .stands) (t .if1 .taken) (f .find-min .ensures) w in
           lists-more L (first-taken (L .stands) (t .if1 .taken) (f .find-min .ensures) w) (goes-below G)
-          {l′ = resultLists _ _ _} (v .visit-next .ensures _ _ G),
-      c .before .before .before .before .before .best .given ∙ l .loop .inv .1,
-      c .before .before .before .last .given ∙ l .loop .inv .2,
+          {l′ = resultLists _ _ _ _} (v .visit-next .ensures _ _ G),
+      c .before .before .before .before .before .before .before .best .given ∙ l .loop .inv .1,
+      c .before .before .before .before .before .last .given ∙ l .loop .inv .2,
+      c .before .before .before .joints .given ∙ l .loop .inv .3,
       search needs,
-      c .before .store .given ∙ l .loop .inv .4,
+      c .before .store .given ∙ l .loop .inv .5,
     )
-
-same-length-5 : tie.Need-same-length-5 Inv-loop μ-loop
-same-length-5 c = search needs
 
 same-length-6 : tie.Need-same-length-6 Inv-loop μ-loop
 same-length-6 c = search needs
@@ -184,6 +186,12 @@ same-length-7 c = search needs
 
 same-length-8 : tie.Need-same-length-8 Inv-loop μ-loop
 same-length-8 c = search needs
+
+same-length-9 : tie.Need-same-length-9 Inv-loop μ-loop
+same-length-9 c = search needs
+
+same-length-10 : tie.Need-same-length-10 Inv-loop μ-loop
+same-length-10 c = search needs
 
 returns-2 : tie.Need-returns-2 Inv-loop μ-loop
 returns-2 c = λ s R.
@@ -206,6 +214,7 @@ search-within-spec =
     same-length-2
     same-length-3
     same-length-4
+    same-length-5
     returns
     cast-listed
     mul-listed
@@ -213,8 +222,9 @@ search-within-spec =
     visit-next-requires
     loop-less
     loop-again
-    same-length-5
     same-length-6
     same-length-7
     same-length-8
+    same-length-9
+    same-length-10
     returns-2)

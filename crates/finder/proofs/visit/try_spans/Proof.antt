@@ -9,7 +9,7 @@ use Rattle.paths.specs.Map.{Map}
 use Rattle.paths.specs.Queue.{Stop}
 use Rattle.paths.specs.Feed.{resultLists}
 use Rattle.finder.specs.SearchState.{Taken}
-use Rattle.finder.proofs.AtPlace.{place-small}
+use Rattle.finder.proofs.AtPlace.{place-small, in-joints, hops-small}
 use Rattle.finder.proofs.Walking.{
   Walking,
   first-small,
@@ -34,49 +34,63 @@ use Rattle.finder.proofs.visit.try_spans.Statement.{statement}
 use Rattle.finder.proofs.visit.try_spans.Tie as tie
 
 abbrev Inv-loop : tie.InvT-loop
-Inv-loop minute index to loss opens closes best₀ last₀ store₀ u d i end e₀ go₀ best last store e go =
-    ((stop : Stop) (m : Map) → Taken stop m minute index to loss opens closes u d (resultLists best₀ last₀ store₀) go₀
-    → Walking stop m (go₀ .visited) u end e (resultLists best last store) go)
-    × (length best ≡ length best₀) × (length last ≡ length last₀) × (length store ≡ length store₀)
+Inv-loop minute index to loss opens closes best₀ last₀ joints₀ store₀ u d i hops end e₀ go₀ best last joints store e
+    go =
+    ((stop : Stop) (m : Map)
+    → Taken stop m minute index to loss opens closes u d (resultLists best₀ last₀ joints₀ store₀) go₀
+    → Walking stop m (go₀ .visited) u end e (resultLists best last joints store) go)
+    × (length best ≡ length best₀) × (length last ≡ length last₀) × (length joints ≡ length joints₀)
+    × (length store ≡ length store₀)
 
 abbrev μ-loop : tie.MeasureT-loop
-μ-loop minute index to loss opens closes best₀ last₀ store₀ u d i end e₀ go₀ best last store e go = end - e
+μ-loop minute index to loss opens closes best₀ last₀ joints₀ store₀ u d i hops end e₀ go₀ best last joints store e go =
+    end - e
 
 abbrev start : tie.At-loop Inv-loop μ-loop → tie.Start Inv-loop μ-loop
-start c = c .before .before .before .before .before .before .before .before .before .before
+start c = c .before .before .before .before .before .before .before .before .before .before .before .before
 
 -- the walk at the loop's head, on the map that the caller has
 here : (c : tie.At-loop Inv-loop μ-loop) →
     let a = start c .args in
     Walking (start c .pre .0) (start c .pre .1) (a .taken .visited) (a .u) (getD (a .index .now) (a .u + 1) 0)
-    (c .loop .e) (resultLists (c .loop .best) (c .loop .last) (c .loop .store)) (c .loop .go)
+    (c .loop .e) (resultLists (c .loop .best) (c .loop .last) (c .loop .joints) (c .loop .store)) (c .loop .go)
 here c = c .loop .inv .0 _ _ (start c .pre .2)
 
+abbrev entry : tie.After-slice-known5 Inv-loop μ-loop → tie.Start Inv-loop μ-loop
+entry c = c .before .before .before .before .before .before .before .before .before
+
+mul-hops : tie.Need-mul-hops Inv-loop μ-loop
+mul-hops c = omega (arith, place-small (c .before .before .before .before .before .before .before .before .pre .2))
+
+slice-read-hops : tie.Need-slice-read-hops Inv-loop μ-loop
+slice-read-hops c = in-joints (entry c .pre .2)
+
+add-hops : tie.Need-add-hops Inv-loop μ-loop
+add-hops c = omega (arith, hops-small (entry c .pre .2))
+
 add-end : tie.Need-add-end Inv-loop μ-loop
-add-end c = omega (arith, place-small (c .before .before .before .before .before .before .before .pre .2))
+add-end c = omega (arith, place-small (entry c .pre .2))
 
 mul-end : tie.Need-mul-end Inv-loop μ-loop
-mul-end c = omega (arith, place-small (c .before .before .before .before .before .before .before .pre .2))
+mul-end c = omega (arith, place-small (entry c .pre .2))
 
 element-copy-out-end : tie.Need-element-copy-out-end Inv-loop μ-loop
-element-copy-out-end c = omega (arith, place-small (c .before .before .before .before .before .before .before .pre .2))
+element-copy-out-end c = omega (arith, place-small (entry c .pre .2))
 
 cast-end : tie.Need-cast-end Inv-loop μ-loop
-cast-end c = omega (arith, end-small (c .before .before .before .before .before .before .before .before .pre .2))
+cast-end c = omega (arith, end-small (entry (c .before) .pre .2))
 
 mul-e : tie.Need-mul-e Inv-loop μ-loop
-mul-e c = omega (arith, place-small (c .before .before .before .before .before .before .before .before .pre .2))
+mul-e c = omega (arith, place-small (entry (c .before) .pre .2))
 
 element-copy-out-e : tie.Need-element-copy-out-e Inv-loop μ-loop
-element-copy-out-e c =
-    omega (arith, place-small (c .before .before .before .before .before .before .before .before .pre .2))
+element-copy-out-e c = omega (arith, place-small (entry (c .before) .pre .2))
 
 cast-e : tie.Need-cast-e Inv-loop μ-loop
-cast-e c =
-    omega (arith, first-small (c .before .before .before .before .before .before .before .before .before .pre .2))
+cast-e c = omega (arith, first-small (entry (c .before .before) .pre .2))
 
 loop-holds : tie.Need-loop-holds Inv-loop μ-loop
-loop-holds c = (λ _ _ K. walking-begins K, refl, refl, refl)
+loop-holds c = (λ _ _ K. walking-begins K, refl, refl, refl, refl)
 
 -- the number of a span is small
 small : (c : tie.In-loop Inv-loop μ-loop) → c .before .loop .e < 16384
@@ -131,19 +145,19 @@ add-l c =
     omega (arith, loss-fits (start (t .before) .pre .2) (here (t .before)) (t .loop-test .taken))
 
 mul-offered : tie.Need-mul-offered Inv-loop μ-loop
-mul-offered c = omega (arith, small (tested (c .before .before .before .before .before)))
+mul-offered c = omega (arith, small (tested (c .before .before .before .before .before .before)))
 
 shared-slice-read-offered : tie.Need-shared-slice-read-offered Inv-loop μ-loop
 shared-slice-read-offered c =
-    let t = tested (c .before .before .before .before .before .before) in
+    let t = tested (c .before .before .before .before .before .before .before) in
     in-to (start (t .before) .pre .2) (here (t .before)) (t .loop-test .taken)
 
 cast-offered : tie.Need-cast-offered Inv-loop μ-loop
-cast-offered c = omega (arith, small (tested (c .before .before .before .before .before .before)))
+cast-offered c = omega (arith, small (tested (c .before .before .before .before .before .before .before)))
 
 offered-requires : tie.Need-offered-requires Inv-loop μ-loop
 offered-requires c κs =
-    let u = c .before .before .before .before .before .before in
+    let u = c .before .before .before .before .before .before .before in
     let t = tested u in
     rw (u .before .before .before .examine .ensures)
     (offer-ready (start (t .before) .pre .2) (here (t .before)) (t .loop-test .taken))
@@ -162,21 +176,23 @@ loop-again c =
     let t = tested u in
     let i = t .before .loop .inv in
     ⊎-elim
-    (λ w. rw (w .13, w .14, w .15, w .16) (
+    (λ w. rw (w .16, w .17, w .18, w .19, w .20) (
       λ stop m K.
           walking-on K (i .0 stop m K) (t .loop-test .taken) (sym (u .usable-at .ensures) ∙ w .0 .taken)
-          (rw (x .examine .ensures) at (w .6 .ensures)),
-      w .7 .given ∙ i .1,
-      w .9 .given ∙ i .2,
-      w .11 .given ∙ i .3,
+          (rw (x .examine .ensures) at (w .7 .ensures)),
+      w .8 .given ∙ i .1,
+      w .10 .given ∙ i .2,
+      w .12 .given ∙ i .3,
+      w .14 .given ∙ i .4,
     ))
-    (λ w. rw (w .1, w .2, w .3, w .4) (
+    (λ w. rw (w .1, w .2, w .3, w .4, w .5) (
       λ stop m K.
           rw (x .examine .ensures)
           (walking-closed K (i .0 stop m K) (t .loop-test .taken) (sym (u .usable-at .ensures) ∙ w .0 .left)),
       i .1,
       i .2,
       i .3,
+      i .4,
     ))
     (c .if1 .came)
 
@@ -192,6 +208,9 @@ same-length-2 c = c .before .before .loop .inv .2
 same-length-3 : tie.Need-same-length-3 Inv-loop μ-loop
 same-length-3 c = c .before .before .loop .inv .3
 
+same-length-4 : tie.Need-same-length-4 Inv-loop μ-loop
+same-length-4 c = c .before .before .loop .inv .4
+
 returns : tie.Need-returns Inv-loop μ-loop
 returns c = λ stop m K.
     rw (c .visit .ensures) (walking-ends K (c .before .before .loop .inv .0 stop m K) (c .before .loop-test .left))
@@ -202,6 +221,9 @@ try-spans-spec =
     (tie.spec
     Inv-loop
     μ-loop
+    mul-hops
+    slice-read-hops
+    add-hops
     add-end
     mul-end
     element-copy-out-end
@@ -230,4 +252,5 @@ try-spans-spec =
     same-length
     same-length-2
     same-length-3
+    same-length-4
     returns)

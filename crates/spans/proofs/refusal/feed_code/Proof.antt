@@ -28,7 +28,7 @@ returns c =
     let b = e .before in
     let l = b .before in
     let d = l .before in
-    code-early _ _ _ (spanLists _ _ _) (windows _ _) _ _ _ _ _ _ _ _ _ (d .before .places-code .ensures)
+    code-early _ _ _ (spanLists _ _ _) (windows _ _) _ _ _ _ _ _ _ _ _ _ (d .before .places-code .ensures)
     (d .minute-code .ensures) (l .span-lists-code .ensures) (b .first-code .ensures) (e .first-code2 .ensures)
     (c .if1 .taken)
 
@@ -69,7 +69,7 @@ returns-2 c =
     let b = e .before in
     let l = b .before in
     let d = l .before in
-    code-late _ _ _ (spanLists _ _ _) (windows _ _) _ _ _ _ _ _ _ _ _ (d .before .places-code .ensures)
+    code-late _ _ _ (spanLists _ _ _) (windows _ _) _ _ _ _ _ _ _ _ _ _ (d .before .places-code .ensures)
     (d .minute-code .ensures) (l .span-lists-code .ensures) (b .first-code .ensures) (e .first-code2 .ensures)
     (i .if1 .left) _ _ _ (r .result-lists-code .ensures) (p .place-list-code .ensures) (t .first-code3 .ensures) _ _
     (s .spans-code .ensures _) (c .first-code4 .ensures)
