@@ -21,7 +21,7 @@
  *   15  the start is not a place
  *   24  the minute is above 1,439
  *   16  the five span lists differ in length, or are over 16,384 long (feed calls) or too short (read_map)
- *   17  best or last is not one word a place, or the store is not 32 + 8 words a place
+ *   17  best, last or joints is not one word a place, or the store is not 32 + 8 words a place
  *   22  the place list is shorter than the number of places (feed_budget)
  *   18  a span names no place
  *   19  a span's loss is not from 1 to 1,000,000
@@ -48,7 +48,7 @@ extern "C" {
 /* What queue_run adds to the code of a refused run. A run that is done writes fewer bytes than that. */
 #define CABLE_QUEUE_REFUSED 100000
 
-/* A word that names no place or span in a feed table, and no item in a store's links. */
+/* The word of a feed table that is no loss, no span and no number of spans, and of a store's links that is no item. */
 #define CABLE_QUEUE_NONE UINT32_MAX
 
 /* Runs a sheet fresh on 256 items, in 2,080 words of its own on the stack. Returns the number of bytes written to out, or
@@ -72,29 +72,32 @@ uint32_t store_sound(const uint32_t *store, size_t store_len);
  * at a minute that is opens[e] or later and before closes[e]; with 0 and 1,440 it always is. Chains are made of the spans
  * usable at the minute, and of no others; all spans are tested. Returns 0, a code from 14 to 20, 23 or 24.
  *
- * When it is done, best[p] is the least loss from the start to place p, and last[p] the lowest-numbered span that ends a
- * chain of that loss. Both are CABLE_QUEUE_NONE where no chain leads; at the start they are 0 and CABLE_QUEUE_NONE. The
- * store is made empty, used and left empty. The figures are links, cuts and spans examined, closed ones among them; three
- * zeros after a refusal. */
+ * When it is done, best[p] is the least loss from the start to place p, and joints[p] the number of spans of the shortest
+ * chain of that loss. last[p] is the lowest-numbered span that ends such a chain: of that loss, and with that many spans.
+ * All three are CABLE_QUEUE_NONE where no chain leads; at the start best and joints are 0, and last is CABLE_QUEUE_NONE.
+ * Going back from a place over the last span of each place that is come to, the start is met after joints[p] spans, and
+ * not before. The store is made empty, used and left empty. The figures are links, cuts and spans examined, closed ones
+ * among them; three zeros after a refusal. */
 uint32_t feed_table(uint32_t places, uint32_t start, uint32_t minute, const uint32_t *from, size_t from_len,
                     const uint32_t *to, size_t to_len, const uint32_t *loss, size_t loss_len, const uint32_t *opens,
                     size_t opens_len, const uint32_t *closes, size_t closes_len, uint32_t *best, size_t best_len,
-                    uint32_t *last, size_t last_len, uint32_t *store, size_t store_len, uint32_t figures[3]);
+                    uint32_t *last, size_t last_len, uint32_t *joints, size_t joints_len, uint32_t *store,
+                    size_t store_len, uint32_t figures[3]);
 
 /* The feed table of a map at a minute within a budget of loss, and the places in it. Returns 0, a code from 14 to 20, 22,
  * 23 or 24.
  *
- * When it is done, best[p] and last[p] are those of feed_table where that loss is at most the budget, and both
- * CABLE_QUEUE_NONE elsewhere. The places that have a loss in best are listed by ascending loss, those of equal loss by
- * ascending number; list words beyond them stay as they were. A list longer than the number of places is fine. The
- * store is made empty, used and left empty. The figures are links, cuts, spans examined, closed ones among them, and
+ * When it is done, best[p], last[p] and joints[p] are those of feed_table where that loss is at most the budget, and
+ * CABLE_QUEUE_NONE elsewhere, all three. The places that have a loss in best are listed by ascending loss, those of equal
+ * loss by ascending number; list words beyond them stay as they were. A list longer than the number of places is fine.
+ * The store is made empty, used and left empty. The figures are links, cuts, spans examined, closed ones among them, and
  * places listed; four zeros after a refusal. Links and cuts are those made until the first place waiting is beyond the
  * budget. */
 uint32_t feed_budget(uint32_t places, uint32_t start, uint32_t minute, const uint32_t *from, size_t from_len,
                      const uint32_t *to, size_t to_len, const uint32_t *loss, size_t loss_len, const uint32_t *opens,
                      size_t opens_len, const uint32_t *closes, size_t closes_len, uint32_t budget, uint32_t *best,
-                     size_t best_len, uint32_t *last, size_t last_len, uint32_t *listed, size_t listed_len,
-                     uint32_t *store, size_t store_len, uint32_t figures[4]);
+                     size_t best_len, uint32_t *last, size_t last_len, uint32_t *joints, size_t joints_len,
+                     uint32_t *listed, size_t listed_len, uint32_t *store, size_t store_len, uint32_t figures[4]);
 
 /* Reads a map text into five span lists. Its first line is places, start and minute, each other line the from, to, loss,
  * opening and closing minute of a span. Returns 0, 16 or 21; 21 comes before 16. The figures are places, start, minute and

@@ -16,7 +16,7 @@ use Rattle.paths.specs.Feed.{ResultLists, Feed, feedResult}
 use Rattle.paths.proofs.FeedDone.{feedDone}
 use Rattle.finder.specs.declared.Fed.{Fed}
 use Rattle.finder.specs.Promise.{Feeds}
-use Rattle.feed.specs.Shown.{codeLine, feedText, ShowsFeed, Roomy, WroteRow, TableReady, TableWrote}
+use Rattle.feed.specs.Shown.{codeLine, feedText, ShowsFeed, figuresMost, Roomy, WroteRow, TableReady, TableWrote}
 use Rattle.feed.proofs.Fields.{code-within}
 
 module _ (m : Map) (lent : ResultLists) (fed : Fed) (left : ResultLists) (F : Feeds m lent fed left) where
@@ -38,7 +38,7 @@ module _ (m : Map) (lent : ResultLists) (fed : Fed) (left : ResultLists) (F : Fe
     abbrev done : w .code ≡ 0
     done = sym (F .code-is) ∙ z
 
-    abbrev table : Table unlimited m (w .left .best) (w .left .last)
+    abbrev table : Table unlimited m (w .left .best) (w .left .last) (w .left .joints)
     table = feedDone m lent done .table
 
     best-n : length (left .best) ≡ m .places
@@ -47,21 +47,26 @@ module _ (m : Map) (lent : ResultLists) (fed : Fed) (left : ResultLists) (F : Fe
     last-n : length (left .last) ≡ m .places
     last-n = ap (λ (l : ResultLists). length (l .last)) (F .left-is) ∙ table .lastN
 
+    joints-n : length (left .joints) ≡ m .places
+    joints-n = ap (λ (l : ResultLists). length (l .joints)) (F .left-is) ∙ table .jointsN
+
     module _ (few : m .places < 2 ^ 32) (out : List ℕ) (room : Roomy (m .places) out) where
-      pub table-ready : TableReady (left .best) (left .last) out
+      pub table-ready : TableReady (left .best) (left .last) (left .joints) out
       table-ready =
           record {
-            same = omega (arith, best-n, last-n);
+            lastN = omega (arith, best-n, last-n);
+            jointsN = omega (arith, best-n, joints-n);
             few = omega (arith, best-n, few);
             room = omega (arith, best-n, room);
           }
 
-      module _ (at : ℕ) (out₁ : List ℕ) (T : TableWrote (left .best) (left .last) out at out₁) where
-        pub figures-room : at + 33 ≤ length out₁
+      module _ (at : ℕ) (out₁ : List ℕ) (T : TableWrote (left .best) (left .last) (left .joints) out at out₁) where
+        pub figures-room : at + figuresMost ≤ length out₁
         figures-room = omega (arith, T .short, best-n, room, wrote-length (T .wrote))
 
         pub shows-done : (r : ℕ) (out′ : List ℕ)
-            → WroteRow out₁ at (row (fed .links ∷ fed .cuts ∷ fed .examined ∷ [])) out′ r → ShowsFeed m lent out r out′
+            → WroteRow figuresMost out₁ at (row (fed .links ∷ fed .cuts ∷ fed .examined ∷ [])) out′ r
+            → ShowsFeed m lent out r out′
         unfolding feedText
         shows-done r out′ v =
             record {

@@ -1,4 +1,4 @@
--- Fields and rows of three fields: the room that they need, and what they leave.
+-- Fields and rows: the room that they need, and what they leave.
 use Prim.Native.Nat.{ℕ, _+_, _^_, _≤_, _<_}
 use mathlib.Core.Path.{_≡_}
 use mathlib.Core.Logic.{_≢_}
@@ -15,7 +15,7 @@ use Rattle.text.specs.Decimal.{field, row}
 use Rattle.text.specs.Output.{Wrote}
 use Rattle.text.proofs.Row.{field-short, wrote-row-last, wrote-row-more}
 use Rattle.text.proofs.Wrote.{wrote-then, wrote-length}
-use Rattle.feed.specs.Shown.{wordField, entryRow, WroteRow}
+use Rattle.feed.specs.Shown.{wordField, entryRow, entryMost, figuresMost, WroteRow}
 
 pub field-11 : (n b : ℕ) → n < 2 ^ 32 → length (field n b) ≤ 11
 field-11 n b h = field-short 9 n b (omega arith)
@@ -56,28 +56,30 @@ code-within code h room v = omega (arith, v .next, field-11 code lineFeed h, wro
 -- ---- rows
 
 module _ {l l₁ l₂ l₃ : List ℕ} {a b c r : ℕ} where
-  pub wrote-entry : (p x e : ℕ) → p < 2 ^ 32 → x < 2 ^ 32 → e < 2 ^ 32 → Wrote l a (field p comma) l₁ b
-      → Wrote l₁ b (wordField x comma) l₂ c → Wrote l₂ c (wordField e lineFeed) l₃ r
-      → WroteRow l a (entryRow p x e) l₃ r
+  pub wrote-entry : {l₄ : List ℕ} {d : ℕ} (p x e h : ℕ) → p < 2 ^ 32 → x < 2 ^ 32 → e < 2 ^ 32 → h < 2 ^ 32
+      → Wrote l a (field p comma) l₁ b → Wrote l₁ b (wordField x comma) l₂ c → Wrote l₂ c (wordField e comma) l₃ d
+      → Wrote l₃ d (wordField h lineFeed) l₄ r → WroteRow entryMost l a (entryRow p x e h) l₄ r
   unfolding entryRow
-  wrote-entry p x e i j k u v w =
+  wrote-entry p x e h i j k m u v w t =
       record {
-        wrote = wrote-then u (wrote-then v w);
+        wrote = wrote-then u (wrote-then v (wrote-then w t));
         short =
             omega (
               arith,
               u .next,
               v .next,
               w .next,
+              t .next,
               field-11 p comma i,
               word-11 x comma j,
-              word-11 e lineFeed k,
+              word-11 e comma k,
+              word-11 h lineFeed m,
             );
       }
 
   pub wrote-figures : (x y z : ℕ) → x < 2 ^ 32 → y < 2 ^ 32 → z < 2 ^ 32 → Wrote l a (field x comma) l₁ b
       → Wrote l₁ b (field y comma) l₂ c → Wrote l₂ c (field z lineFeed) l₃ r
-      → WroteRow l a (row (x ∷ y ∷ z ∷ [])) l₃ r
+      → WroteRow figuresMost l a (row (x ∷ y ∷ z ∷ [])) l₃ r
   wrote-figures x y z i j k u v w =
       record {
         wrote = wrote-row-more x y (z ∷ []) u (wrote-row-more y z [] v (wrote-row-last z w));

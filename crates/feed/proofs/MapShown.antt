@@ -79,7 +79,8 @@ module _ (w : Reading) (ans : MapRead) (left : SpanLists) (leftWindows : Windows
         (mapAt (ans .places) (ans .start) (ans .minute)
         (spanLists (take (ans .spans) (left .from)) (take (ans .spans) (left .to)) (take (ans .spans) (left .loss)))
         (windows (take (ans .spans) (leftWindows .opens)) (take (ans .spans) (leftWindows .closes))))
-        (resultLists (take (ans .places) (own .best)) (take (ans .places) (own .last)) (take k (own .store))) out r out′
+        (resultLists (take (ans .places) (own .best)) (take (ans .places) (own .last))
+        (take (ans .places) (own .joints)) (take k (own .store))) out r out′
         → ShowsMap w own out r out′
     unfolding mapText mapRead fedBy takeSpans takeWindows takeResults
     map-fed h q r out′ S =

@@ -19,14 +19,16 @@ use Rattle.mapfile.specs.Read.{Reading, readMap}
 unfoldable pub wordField : ℕ → ℕ → List ℕ
 wordField w b = cond (eqb w none) (45 ∷ b ∷ []) (field w b)
 
--- `place,loss,span`
-unfoldable pub entryRow : ℕ → ℕ → ℕ → List ℕ
-entryRow place loss span = field place comma ++ (wordField loss comma ++ wordField span lineFeed)
+-- `place,loss,span,joints`
+unfoldable pub entryRow : ℕ → ℕ → ℕ → ℕ → List ℕ
+entryRow place loss span hops =
+    field place comma ++ (wordField loss comma ++ (wordField span comma ++ wordField hops lineFeed))
 
 -- the rows of the places below a number
-unfoldable pub entryRows : List ℕ → List ℕ → ℕ → List ℕ
-entryRows best last zero = []
-entryRows best last (suc p) = entryRows best last p ++ entryRow p (getD best p 0) (getD last p 0)
+unfoldable pub entryRows : List ℕ → List ℕ → List ℕ → ℕ → List ℕ
+entryRows best last joints zero = []
+entryRows best last joints (suc p) =
+    entryRows best last joints p ++ entryRow p (getD best p 0) (getD last p 0) (getD joints p 0)
 
 unfoldable pub codeLine : ℕ → List ℕ
 codeLine code = field code lineFeed
@@ -35,7 +37,7 @@ codeLine code = field code lineFeed
 unfoldable pub feedText : ℕ → Feed → ℕ → List ℕ
 feedText n w examined =
     cond (not (eqb (w .code) 0)) (codeLine (w .code))
-    (entryRows (w .left .best) (w .left .last) n ++ row (w .links ∷ w .cuts ∷ examined ∷ []))
+    (entryRows (w .left .best) (w .left .last) (w .left .joints) n ++ row (w .links ∷ w .cuts ∷ examined ∷ []))
 
 -- ---- a map text
 
@@ -47,7 +49,8 @@ unfoldable pub takeWindows : ℕ → Windows → Windows
 takeWindows n w = windows (take n (w .opens)) (take n (w .closes))
 
 unfoldable pub takeResults : ℕ → ResultLists → ResultLists
-takeResults n l = resultLists (take n (l .best)) (take n (l .last)) (take (storeSize n) (l .store))
+takeResults n l =
+    resultLists (take n (l .best)) (take n (l .last)) (take n (l .joints)) (take (storeSize n) (l .store))
 
 -- the map of a reading
 unfoldable pub mapRead : Reading → Map
@@ -73,7 +76,9 @@ unfoldable pub ownWindows : Windows
 ownWindows = windows (replicate mostSpans 0) (replicate mostSpans 0)
 
 unfoldable pub ownResults : ResultLists
-ownResults = resultLists (replicate mostPlaces 0) (replicate mostPlaces 0) (replicate (storeSize mostPlaces) 0)
+ownResults =
+    resultLists (replicate mostPlaces 0) (replicate mostPlaces 0) (replicate mostPlaces 0)
+    (replicate (storeSize mostPlaces) 0)
 
 -- The reader's code is tested first, then 14 for more places than the program has room for, then the call's code.
 unfoldable pub mapText : Reading → ResultLists → ℕ → List ℕ
@@ -102,20 +107,28 @@ pub record ShowsFeed (m : Map) (lent : ResultLists) (out : List ℕ) (r : ℕ) (
   pub wrote : Wrote out 0 (feedText (m .places) (feedResult m lent) examined) out′ r
   pub within : r ≤ length out′
 
--- a row was written: three fields of at most eleven bytes
-pub record WroteRow (out : List ℕ) (at : ℕ) (bytes out′ : List ℕ) (r : ℕ) : Type 0 where
+-- the most bytes of a place's row, which has four fields of at most eleven, and of the three figures
+abbrev pub entryMost : ℕ
+entryMost = 44
+
+abbrev pub figuresMost : ℕ
+figuresMost = 33
+
+-- a row was written, of at most so many bytes
+pub record WroteRow (most : ℕ) (out : List ℕ) (at : ℕ) (bytes out′ : List ℕ) (r : ℕ) : Type 0 where
   pub wrote : Wrote out at bytes out′ r
-  pub short : r ≤ at + 33
+  pub short : r ≤ at + most
 
 -- room for the rows of n places and for the figures
 abbrev pub Roomy : ℕ → List ℕ → Type 0
-Roomy n out = 33 * (n + 1) ≤ length out
+Roomy n out = entryMost * n + figuresMost ≤ length out
 
-pub record TableReady (best last out : List ℕ) : Type 0 where
-  pub same : length last ≡ length best
+pub record TableReady (best last joints out : List ℕ) : Type 0 where
+  pub lastN : length last ≡ length best
+  pub jointsN : length joints ≡ length best
   pub few : length best < 2 ^ 32
   pub room : Roomy (length best) out
 
-pub record TableWrote (best last out : List ℕ) (r : ℕ) (out′ : List ℕ) : Type 0 where
-  pub wrote : Wrote out 0 (entryRows best last (length best)) out′ r
-  pub short : r ≤ 33 * length best
+pub record TableWrote (best last joints out : List ℕ) (r : ℕ) (out′ : List ℕ) : Type 0 where
+  pub wrote : Wrote out 0 (entryRows best last joints (length best)) out′ r
+  pub short : r ≤ entryMost * length best

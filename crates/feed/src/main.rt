@@ -6,8 +6,8 @@ ghost use Rattle.text.specs.Decimal.{row};
 ghost use Rattle.text.specs.Output.{Wrote};
 ghost use Rattle.paths.specs.Map.{spanLists, windows, mapAt};
 ghost use Rattle.paths.specs.Feed.{resultLists};
-ghost use Rattle.feed.specs.Shown.{wordField, entryRow, Roomy, WroteRow, TableReady, TableWrote, ShowsFeed};
-ghost use Rattle.feed.specs.Shown.{ShowsText};
+ghost use Rattle.feed.specs.Shown.{wordField, entryRow, entryMost, figuresMost, Roomy, WroteRow};
+ghost use Rattle.feed.specs.Shown.{TableReady, TableWrote, ShowsFeed, ShowsText};
 use libc::STDIN_FILENO;
 use libc::STDOUT_FILENO;
 use store::NONE;
@@ -31,25 +31,27 @@ fn put_word(out: &mut [u8], at: usize, word: u32, end: u8) -> usize
     put_field(out, at, word, end)
 }
 
-// Writes the row of a place.
-fn put_entry(out: &mut [u8], at: usize, place: u32, loss: u32, span: u32) -> usize
-    requires { ⌜ at + 33 ≤ length (now out) ⌝ }
-    ensures { λ r. ⌜ WroteRow (now (out .entry)) at (entryRow place loss span) (now (out .exit)) r ⌝ }
+// Writes the row of a place; `hops` is its number of joints.
+fn put_entry(out: &mut [u8], at: usize, place: u32, loss: u32, span: u32, hops: u32) -> usize
+    requires { ⌜ at + entryMost ≤ length (now out) ⌝ }
+    ensures { λ r. ⌜ WroteRow entryMost (now (out .entry)) at (entryRow place loss span hops) (now (out .exit)) r ⌝ }
 {
     let second = put_field(out, at, place, b',');
     let third = put_word(out, second, loss, b',');
-    put_word(out, third, span, b'\n')
+    let fourth = put_word(out, third, span, b',');
+    put_word(out, fourth, hops, b'\n')
 }
 
 // Writes the rows of all places.
-fn put_table(out: &mut [u8], best: &[u32], last: &[u32]) -> usize
-    requires { ⌜ TableReady (now best) (now last) (now out) ⌝ }
-    ensures { λ r. ⌜ TableWrote (now (best .entry)) (now (last .entry)) (now (out .entry)) r (now (out .exit)) ⌝ }
+fn put_table(out: &mut [u8], best: &[u32], last: &[u32], joints: &[u32]) -> usize
+    requires { ⌜ TableReady (now best) (now last) (now joints) (now out) ⌝ }
+    ensures { λ r. ⌜ TableWrote (now (best .entry)) (now (last .entry)) (now (joints .entry)) (now (out .entry)) r
+        (now (out .exit)) ⌝ }
 {
     let mut at = 0;
     let mut p = 0;
     while p < best.len() {
-        at = put_entry(out, at, p as u32, best[p], last[p]);
+        at = put_entry(out, at, p as u32, best[p], last[p], joints[p]);
         p += 1;
     }
     at
@@ -57,8 +59,9 @@ fn put_table(out: &mut [u8], best: &[u32], last: &[u32]) -> usize
 
 // Writes the three figures of a call that is done.
 fn put_figures(out: &mut [u8], at: usize, links: u32, cuts: u32, examined: u32) -> usize
-    requires { ⌜ at + 33 ≤ length (now out) ⌝ }
-    ensures { λ r. ⌜ WroteRow (now (out .entry)) at (row (links ∷ cuts ∷ examined ∷ [])) (now (out .exit)) r ⌝ }
+    requires { ⌜ at + figuresMost ≤ length (now out) ⌝ }
+    ensures { λ r. ⌜ WroteRow figuresMost (now (out .entry)) at (row (links ∷ cuts ∷ examined ∷ [])) (now (out .exit))
+        r ⌝ }
 {
     let second = put_field(out, at, links, b',');
     let third = put_field(out, second, cuts, b',');
@@ -77,6 +80,7 @@ fn answer_feed(
     closes: &[u32],
     best: &mut [u32],
     last: &mut [u32],
+    joints: &mut [u32],
     store: &mut [u32],
     out: &mut [u8],
 ) -> usize
@@ -84,7 +88,7 @@ fn answer_feed(
     ensures { λ r. ⌜ ShowsFeed
         (mapAt places start minute (spanLists (now (from .entry)) (now (to .entry)) (now (loss .entry)))
         (windows (now (opens .entry)) (now (closes .entry))))
-        (resultLists (now (best .entry)) (now (last .entry)) (now (store .entry)))
+        (resultLists (now (best .entry)) (now (last .entry)) (now (joints .entry)) (now (store .entry)))
         (now (out .entry)) r (now (out .exit)) ⌝ }
 {
     let fed = finder::feed(
@@ -98,20 +102,21 @@ fn answer_feed(
         closes,
         best,
         last,
+        joints,
         store,
     );
     let code = fed.code;
     if code != 0 {
         return put_field(out, 0, code, b'\n');
     }
-    let at = put_table(out, best, last);
+    let at = put_table(out, best, last, joints);
     put_figures(out, at, fed.links, fed.cuts, fed.examined)
 }
 
 // Leaves in `out` what is printed of a map text, and returns the number of its bytes. `out` has room for the rows of
 // 1,024 places and for the figures.
 fn answer_text(text: &[u8], out: &mut [u8]) -> usize
-    requires { ⌜ 40000 ≤ length (now out) ⌝ }
+    requires { ⌜ 46000 ≤ length (now out) ⌝ }
     ensures { λ r. ⌜ ShowsText (now (text .entry)) (now (out .entry)) r (now (out .exit)) ⌝ }
 {
     let mut from = [0u32; SPANS];
@@ -130,6 +135,7 @@ fn answer_text(text: &[u8], out: &mut [u8]) -> usize
     }
     let mut best = [0u32; PLACES];
     let mut last = [0u32; PLACES];
+    let mut joints = [0u32; PLACES];
     let mut store = [0u32; store::HEAP_WORDS + store::ITEM_WORDS * PLACES];
     let e = map.spans as usize;
     let words = store::size_for(n);
@@ -144,6 +150,7 @@ fn answer_text(text: &[u8], out: &mut [u8]) -> usize
         &closes[..e],
         &mut best[..n],
         &mut last[..n],
+        &mut joints[..n],
         &mut store[..words],
         out,
     )
@@ -153,7 +160,7 @@ fn answer_text(text: &[u8], out: &mut [u8]) -> usize
 fn main() {
     let mut text = [0u8; 60001];
     let read = io::read_full(STDIN_FILENO, &mut text);
-    let mut out = [0u8; 40000];
+    let mut out = [0u8; 46000];
     let bytes = answer_text(&text[..read], &mut out);
     io::write_all(STDOUT_FILENO, &out[..bytes]);
 }

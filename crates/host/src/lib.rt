@@ -62,14 +62,16 @@ pub extern "C" fn feed_table(
     closes: &[u32],
     best: &mut [u32],
     last: &mut [u32],
+    joints: &mut [u32],
     store: &mut [u32],
     figures: &mut [u32; 3],
 ) -> u32
     ensures { λ r. ⌜ FeedReturns
         (mapAt places start minute (spanLists (now (from .entry)) (now (to .entry)) (now (loss .entry)))
         (windows (now (opens .entry)) (now (closes .entry))))
-        (resultLists (now (best .entry)) (now (last .entry)) (now (store .entry)))
-        r (resultLists (now (best .exit)) (now (last .exit)) (now (store .exit))) (now (figures .exit)) ⌝ }
+        (resultLists (now (best .entry)) (now (last .entry)) (now (joints .entry)) (now (store .entry)))
+        r (resultLists (now (best .exit)) (now (last .exit)) (now (joints .exit)) (now (store .exit)))
+        (now (figures .exit)) ⌝ }
 {
     let fed = finder::feed(
         places,
@@ -82,6 +84,7 @@ pub extern "C" fn feed_table(
         closes,
         best,
         last,
+        joints,
         store,
     );
     *figures = [fed.links, fed.cuts, fed.examined];
@@ -103,6 +106,7 @@ pub extern "C" fn feed_budget(
     budget: u32,
     best: &mut [u32],
     last: &mut [u32],
+    joints: &mut [u32],
     listed: &mut [u32],
     store: &mut [u32],
     figures: &mut [u32; 4],
@@ -110,9 +114,10 @@ pub extern "C" fn feed_budget(
     ensures { λ r. ⌜ BudgetReturns budget
         (mapAt places start minute (spanLists (now (from .entry)) (now (to .entry)) (now (loss .entry)))
         (windows (now (opens .entry)) (now (closes .entry))))
-        (resultLists (now (best .entry)) (now (last .entry)) (now (store .entry))) (now (listed .entry))
-        r (resultLists (now (best .exit)) (now (last .exit)) (now (store .exit))) (now (listed .exit))
-        (now (figures .exit)) ⌝ }
+        (resultLists (now (best .entry)) (now (last .entry)) (now (joints .entry)) (now (store .entry)))
+        (now (listed .entry))
+        r (resultLists (now (best .exit)) (now (last .exit)) (now (joints .exit)) (now (store .exit)))
+        (now (listed .exit)) (now (figures .exit)) ⌝ }
 {
     let within = finder::budget::feed_within(
         places,
@@ -126,6 +131,7 @@ pub extern "C" fn feed_budget(
         budget,
         best,
         last,
+        joints,
         listed,
         store,
     );

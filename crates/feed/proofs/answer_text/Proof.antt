@@ -45,14 +45,14 @@ same-length c = search needs
 returns-3 : tie.Need-returns-3
 unfolding ownSpans ownWindows ownResults storeSize
 returns-3 c =
-    let at-feed = c .before .before .before .before .before in
-    let at-size = at-feed .before .before .before .before .before .before .before .before .before .before in
+    let at-feed = c .before .before .before .before .before .before in
+    let at-size = at-feed .before .before .before .before .before .before .before .before .before .before .before in
     let at-if2 = at-size .before .before in
     let at-if1 = at-if2 .before .before in
     let at-read = at-if1 .before .before .before .before .before .before in
     let start = at-read .before .before .before .before .before .before .before .before in
     map-fed (readMap _ (spanLists _ _ _) (windows _ _)) _ (spanLists _ _ _) (windows _ _) (at-read .read .ensures)
-    (resultLists _ _ _) _
+    (resultLists _ _ _ _) _
     (omega (arith, start .pre)) (at-if1 .if1 .left) (omega (arith, at-if2 .if2 .left)) (at-size .size-for .ensures)
     _ _ (at-feed .answer-feed .ensures)
 
@@ -159,20 +159,34 @@ slice-aggregate-answer-feed-7 c =
     let at-size = c .before .before .before .before .before .before .before in
     sym (length-take-le _ _ (omega (arith, at-size .before .before .if2 .left)))
 
+array-borrow-prefix-joints : tie.Need-array-borrow-prefix-joints
+array-borrow-prefix-joints c = search needs
+
+slice-aggregate-answer-feed-8 : tie.Need-slice-aggregate-answer-feed-8
+slice-aggregate-answer-feed-8 c =
+    let at-size = c .before .before .before .before .before .before .before .before in
+    sym (length-take-le _ _ (omega (arith, at-size .before .before .if2 .left)))
+
 array-borrow-prefix-store : tie.Need-array-borrow-prefix-store
 unfolding storeSize
 array-borrow-prefix-store c =
-    let at-size = c .before .before .before .before .before .before .before in
+    let at-size = c .before .before .before .before .before .before .before .before in
     omega (arith, at-size .size-for .ensures, at-size .before .before .if2 .left)
 
-slice-aggregate-answer-feed-8 : tie.Need-slice-aggregate-answer-feed-8
+slice-aggregate-answer-feed-9 : tie.Need-slice-aggregate-answer-feed-9
 unfolding storeSize
-slice-aggregate-answer-feed-8 c =
-    let at-size = c .before .before .before .before .before .before .before .before in
+slice-aggregate-answer-feed-9 c =
+    let at-size = c .before .before .before .before .before .before .before .before .before in
     sym (length-take-le _ _ (omega (arith, at-size .size-for .ensures, at-size .before .before .if2 .left)))
 
+-- 1,024 rows and the figures are 45,089 bytes at most.
 answer-feed-requires : tie.Need-answer-feed-requires
-answer-feed-requires c κs = search needs
+answer-feed-requires c κs =
+    let at-size = c .before .before .before .before .before .before .before .before .before .before in
+    let at-if2 = at-size .before .before in
+    let at-read = at-if2 .before .before .before .before .before .before .before .before in
+    let start = at-read .before .before .before .before .before .before .before .before in
+    omega (arith, start .pre, at-if2 .if2 .left)
 
 same-length-3 : tie.Need-same-length-3
 same-length-3 c = search needs
@@ -210,8 +224,10 @@ answer-text-spec =
     slice-aggregate-answer-feed-6
     array-borrow-prefix-last
     slice-aggregate-answer-feed-7
-    array-borrow-prefix-store
+    array-borrow-prefix-joints
     slice-aggregate-answer-feed-8
+    array-borrow-prefix-store
+    slice-aggregate-answer-feed-9
     answer-feed-requires
     same-length-3
     returns-3)

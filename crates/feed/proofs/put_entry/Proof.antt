@@ -11,32 +11,52 @@ put-field-requires c κs =
 
 put-word-requires : tie.Need-put-word-requires
 put-word-requires c κs =
+    let second = c .before .before .before in
     omega (
       arith,
-      after-field 22 _ _ (search needs) (c .before .before .before .put-field .ensures)
-          (omega (arith, c .before .before .before .before .before .before .pre)),
+      after-field 33 _ _ (search needs) (second .put-field .ensures)
+          (omega (arith, second .before .before .before .pre)),
     )
 
 put-word-requires-2 : tie.Need-put-word-requires-2
 put-word-requires-2 c κs =
-    after-word 11 _ _ (search needs) (c .before .before .before .put-word .ensures)
-    (omega (
-      arith,
-      after-field 22 _ _ (search needs)
-          (c .before .before .before .before .before .before .before .put-field .ensures)
-          (omega (arith, c .before .before .before .before .before .before .before .before .before .before .pre)),
-    ))
+    let third = c .before .before .before in
+    let second = third .before .before .before .before in
+    let room =
+    after-field 33 _ _ (search needs) (second .put-field .ensures)
+    (omega (arith, second .before .before .before .pre)) in
+    omega (arith, after-word 22 _ _ (search needs) (third .put-word .ensures) (omega (arith, room)))
+
+put-word-requires-3 : tie.Need-put-word-requires-3
+put-word-requires-3 c κs =
+    let fourth = c .before .before .before in
+    let third = fourth .before .before .before .before in
+    let second = third .before .before .before .before in
+    let room =
+    after-field 33 _ _ (search needs) (second .put-field .ensures)
+    (omega (arith, second .before .before .before .pre)) in
+    let less = after-word 22 _ _ (search needs) (third .put-word .ensures) (omega (arith, room)) in
+    after-word 11 _ _ (search needs) (fourth .put-word2 .ensures) (omega (arith, less))
 
 same-length : tie.Need-same-length
 same-length c = search needs
 
 returns : tie.Need-returns
 returns c =
-    wrote-entry _ _ _ (search needs) (search needs) (search needs)
-    (c .before .before .before .before .before .before .before .before .before .before .put-field .ensures)
-    (c .before .before .before .before .before .before .put-word .ensures) (c .before .before .put-word2 .ensures)
+    let end = c .before .before in
+    let fourth = end .before .before .before .before in
+    let third = fourth .before .before .before .before in
+    let second = third .before .before .before .before in
+    wrote-entry _ _ _ _ (search needs) (search needs) (search needs) (search needs) (second .put-field .ensures)
+    (third .put-word .ensures) (fourth .put-word2 .ensures) (end .put-word3 .ensures)
 
 pub put-entry-spec : {M : Type 1} → statement M
 put-entry-spec =
     tie.close
-    (tie.spec put-field-requires put-word-requires put-word-requires-2 same-length returns)
+    (tie.spec
+    put-field-requires
+    put-word-requires
+    put-word-requires-2
+    put-word-requires-3
+    same-length
+    returns)

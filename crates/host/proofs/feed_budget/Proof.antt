@@ -19,11 +19,22 @@ same-length-3 c = search needs
 same-length-4 : tie.Need-same-length-4
 same-length-4 c = search needs
 
+same-length-5 : tie.Need-same-length-5
+same-length-5 c = search needs
+
 returns : tie.Need-returns
 returns c =
-    let w = c .before .before .before .before .before .before .before .before .before .before in
+    let w = c .before .before .before .before .before .before .before .before .before .before .before .before in
     record { within = _; sameCode = refl; sameFigures = refl; feeds = w .feed-within .ensures }
 
 pub feed-budget-spec : {M : Type 1} → statement M
 feed-budget-spec =
-    tie.close (tie.spec feed-within-requires same-length same-length-2 same-length-3 same-length-4 returns)
+    tie.close
+    (tie.spec
+    feed-within-requires
+    same-length
+    same-length-2
+    same-length-3
+    same-length-4
+    same-length-5
+    returns)
