@@ -15,15 +15,15 @@ enum { PLACES = MAX_PLACES, SPANS = MAX_SPANS, WORDS = HEAP_WORDS + ITEM_WORDS *
 /* Plain C and product work in the same buffers: where they lie decides which of their words share a cache set, and that
    alone can change the time by half. */
 typedef struct {
-    uint32_t best[PLACES], last[PLACES], words[WORDS], figures[3], code;
+    uint32_t best[PLACES], last[PLACES], joints[PLACES], words[WORDS], figures[3], code;
 } feed_result;
 
 static uint32_t from[SPANS], to[SPANS], loss[SPANS], opens[SPANS], closes[SPANS];
 static feed_result result, plain;
 
 #define SPAN_LISTS from, SPANS, to, SPANS, loss, SPANS, opens, SPANS, closes, SPANS
-#define FEED_ARGUMENTS \
-    PLACES, 0, NOON, SPAN_LISTS, result.best, PLACES, result.last, PLACES, result.words, WORDS, result.figures
+#define TABLE_LISTS result.best, PLACES, result.last, PLACES, result.joints, PLACES
+#define FEED_ARGUMENTS PLACES, 0, NOON, SPAN_LISTS, TABLE_LISTS, result.words, WORDS, result.figures
 
 static void run_plain(void) { result.code = plain_feed_table(FEED_ARGUMENTS); }
 
@@ -111,9 +111,8 @@ static const char *const budget_names[BUDGETS] = { "largest", "one in a hundred"
 static uint32_t budgets[BUDGETS] = { 4294967295, 0, 0 };
 static uint32_t listed[PLACES], budget_figures[4];
 
-#define BUDGET_ARGUMENTS(budget)                                                                                        \
-    PLACES, 0, NOON, SPAN_LISTS, budget, result.best, PLACES, result.last, PLACES, listed, PLACES, result.words, WORDS, \
-        budget_figures
+#define BUDGET_ARGUMENTS(budget) \
+    PLACES, 0, NOON, SPAN_LISTS, budget, TABLE_LISTS, listed, PLACES, result.words, WORDS, budget_figures
 
 static int plain_call(int budget) { return 1 + 2 * budget; }
 static int product_call(int budget) { return 2 + 2 * budget; }

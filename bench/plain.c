@@ -25,7 +25,7 @@ typedef struct {
 typedef struct {
     const uint32_t *first_span;
     span_lists spans;
-    uint32_t minute, *best, *last;
+    uint32_t minute, *best, *last, *joints;
 } search;
 
 /* The code of the first faulty span, or 0. */
@@ -61,10 +61,23 @@ static inline int is_usable(const span_lists *spans, uint32_t span, uint32_t min
     return spans->opens[span] <= minute && minute < spans->closes[span];
 }
 
-/* Tries the spans of a place just taken; returns the cuts made. */
+/* Whether a chain of so many spans, of which span is the last, is better than the one shown of equal loss: it has fewer
+   spans, or as many and a last one of a lower number. */
+static inline int is_better(const search *run, uint32_t place, uint32_t hops, uint32_t span)
+{
+    return hops < run->joints[place] || (hops == run->joints[place] && span < run->last[place]);
+}
+
+static inline void show_chain(const search *run, uint32_t place, uint32_t hops, uint32_t span)
+{
+    run->last[place] = span;
+    run->joints[place] = hops;
+}
+
+/* Tries the spans of a place just taken; returns the cuts made. An equal loss makes no queue call. */
 static inline uint32_t try_spans(const store *s, const search *run, uint32_t place)
 {
-    uint32_t *best = run->best, *last = run->last, cuts = 0;
+    uint32_t *best = run->best, hops = run->joints[place] + 1, cuts = 0;
     for (uint32_t span = run->first_span[place]; span < run->first_span[place + 1]; span++) {
         if (!is_usable(&run->spans, span, run->minute))
             continue;
@@ -75,9 +88,9 @@ static inline uint32_t try_spans(const store *s, const search *run, uint32_t pla
             else
                 cuts += decrease_key(s, next, sum);
             best[next] = sum;
-            last[next] = span;
-        } else if (sum == best[next] && span < last[next]) {
-            last[next] = span;
+            show_chain(run, next, hops, span);
+        } else if (sum == best[next] && is_better(run, next, hops, span)) {
+            show_chain(run, next, hops, span);
         }
     }
     return cuts;
@@ -110,16 +123,16 @@ static uint32_t find_within(const store *s, const search *run, uint32_t budget, 
 }
 
 /* What places beyond the budget were offered is not shown. */
-static void hide_beyond(uint32_t places, uint32_t budget, uint32_t *best, uint32_t *last)
+static void hide_beyond(const search *run, uint32_t places, uint32_t budget)
 {
     for (uint32_t place = 0; place < places; place++)
-        if (best[place] > budget)
-            best[place] = last[place] = NONE;
+        if (run->best[place] > budget)
+            run->best[place] = run->last[place] = run->joints[place] = NONE;
 }
 
 /* The lengths of what a feed call is lent. */
 typedef struct {
-    size_t from, to, loss, opens, closes, best, last, words;
+    size_t from, to, loss, opens, closes, best, last, joints, words;
 } lengths;
 
 /* Codes 14, 15, 24, 16 and 17, or 0. */
@@ -134,7 +147,8 @@ static uint32_t size_fault(uint32_t places, uint32_t start, uint32_t minute, con
     if (len->to != len->from || len->loss != len->from || len->opens != len->from || len->closes != len->from
         || len->from > MAX_SPANS)
         return 16;
-    if (len->best != places || len->last != places || len->words != HEAP_WORDS + ITEM_WORDS * (size_t)places)
+    if (len->best != places || len->last != places || len->joints != places
+        || len->words != HEAP_WORDS + ITEM_WORDS * (size_t)places)
         return 17;
     return 0;
 }
@@ -144,8 +158,9 @@ static void begin_search(const store *s, const search *run, uint32_t places, uin
 {
     memset(run->best, 0xFF, places * sizeof *run->best);
     memset(run->last, 0xFF, places * sizeof *run->last);
+    memset(run->joints, 0xFF, places * sizeof *run->joints);
     make_empty(s);
-    run->best[start] = 0;
+    run->best[start] = run->joints[start] = 0;
     insert(s, 0, start, 0);
 }
 
@@ -157,10 +172,12 @@ uint32_t plain_feed_table(uint32_t places, uint32_t start, uint32_t minute,
                           const uint32_t *closes, size_t closes_len,
                           uint32_t *best, size_t best_len,
                           uint32_t *last, size_t last_len,
+                          uint32_t *joints, size_t joints_len,
                           uint32_t *words, size_t words_len,
                           uint32_t figures[3])
 {
-    const lengths len = { from_len, to_len, loss_len, opens_len, closes_len, best_len, last_len, words_len };
+    const lengths len = { from_len, to_len,   loss_len,   opens_len, closes_len,
+                          best_len, last_len, joints_len, words_len };
     const span_lists spans = { from, to, loss, opens, closes };
     memset(figures, 0, 3 * sizeof *figures);
     uint32_t fault = size_fault(places, start, minute, &len);
@@ -171,7 +188,7 @@ uint32_t plain_feed_table(uint32_t places, uint32_t start, uint32_t minute,
     uint32_t first_span[MAX_PLACES + 1];
     index_spans(places, from, from_len, first_span);
     const store s = store_at(words, places);
-    const search run = { first_span, spans, minute, best, last };
+    const search run = { first_span, spans, minute, best, last, joints };
     begin_search(&s, &run, places, start);
     find_feeds(&s, &run, figures);
     return 0;
@@ -186,11 +203,13 @@ uint32_t plain_feed_budget(uint32_t places, uint32_t start, uint32_t minute,
                            uint32_t budget,
                            uint32_t *best, size_t best_len,
                            uint32_t *last, size_t last_len,
+                           uint32_t *joints, size_t joints_len,
                            uint32_t *listed, size_t listed_len,
                            uint32_t *words, size_t words_len,
                            uint32_t figures[4])
 {
-    const lengths len = { from_len, to_len, loss_len, opens_len, closes_len, best_len, last_len, words_len };
+    const lengths len = { from_len, to_len,   loss_len,   opens_len, closes_len,
+                          best_len, last_len, joints_len, words_len };
     const span_lists spans = { from, to, loss, opens, closes };
     memset(figures, 0, 4 * sizeof *figures);
     uint32_t fault = size_fault(places, start, minute, &len);
@@ -201,10 +220,10 @@ uint32_t plain_feed_budget(uint32_t places, uint32_t start, uint32_t minute,
     uint32_t first_span[MAX_PLACES + 1];
     index_spans(places, from, from_len, first_span);
     const store s = store_at(words, places);
-    const search run = { first_span, spans, minute, best, last };
+    const search run = { first_span, spans, minute, best, last, joints };
     begin_search(&s, &run, places, start);
     figures[3] = find_within(&s, &run, budget, listed, figures);
-    hide_beyond(places, budget, best, last);
+    hide_beyond(&run, places, budget);
     make_empty(&s);
     return 0;
 }

@@ -17,6 +17,7 @@ uint32_t plain_feed_table(uint32_t places, uint32_t start, uint32_t minute,
                           const uint32_t *closes, size_t closes_len,
                           uint32_t *best, size_t best_len,
                           uint32_t *last, size_t last_len,
+                          uint32_t *joints, size_t joints_len,
                           uint32_t *store, size_t store_len,
                           uint32_t figures[3]);
 
@@ -30,6 +31,7 @@ uint32_t plain_feed_budget(uint32_t places, uint32_t start, uint32_t minute,
                            uint32_t budget,
                            uint32_t *best, size_t best_len,
                            uint32_t *last, size_t last_len,
+                           uint32_t *joints, size_t joints_len,
                            uint32_t *listed, size_t listed_len,
                            uint32_t *store, size_t store_len,
                            uint32_t figures[4]);

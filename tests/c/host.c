@@ -230,27 +230,29 @@ static void try_refused_runs(void) {
 
 /* The feed table. */
 
+#define MOST 7 /* places and spans of the maps here */
+
 typedef struct {
-    uint32_t places, start, minute, from[3], to[3], loss[3], opens[3], closes[3];
-    size_t from_len, to_len, loss_len, opens_len, closes_len, best_len, last_len, store_len;
+    uint32_t places, start, minute, from[MOST], to[MOST], loss[MOST], opens[MOST], closes[MOST];
+    size_t from_len, to_len, loss_len, opens_len, closes_len, best_len, last_len, joints_len, store_len;
 } feed_call;
 
-/* What a full call leaves on a map of three places: losses, spans and the number of spans examined. */
+/* What a call leaves: losses, spans, joints, links and spans examined. No map here makes a cut. */
 typedef struct {
-    uint32_t best[3], last[3], examined;
+    uint32_t best[MOST], last[MOST], joints[MOST], links, examined;
 } table;
 
 #define NONE CABLE_QUEUE_NONE
-#define LENGTHS 3, 3, 3, 3, 3, 3, 3, STORE(3)
+#define LENGTHS 3, 3, 3, 3, 3, 3, 3, 3, STORE(3)
 static const feed_call worked_map = { 3, 0, 0, { 0, 0, 1 }, { 1, 2, 2 }, { 7, 20, 5 }, { 0, 0, 0 }, { 1440, 1440, 1440 },
                                       LENGTHS };
-static const table worked_table = { { 0, 7, 12 }, { NONE, 0, 2 }, 3 };
+static const table worked_table = { { 0, 7, 12 }, { NONE, 0, 2 }, { 0, 1, 2 }, 0, 3 };
 
 /* The worked map with a window for each span: place 1 is reached from 100 to 500, by way of it place 2 from 300 to 400. */
 static const feed_call map_with_windows = { 3, 0, 0, { 0, 0, 1 }, { 1, 2, 2 }, { 7, 20, 5 }, { 100, 0, 300 },
                                             { 500, 1440, 400 }, LENGTHS };
-static const table first_closed = { { 0, NONE, 20 }, { NONE, NONE, 1 }, 2 };
-static const table last_closed = { { 0, 7, 20 }, { NONE, 0, 1 }, 3 };
+static const table first_closed = { { 0, NONE, 20 }, { NONE, NONE, 1 }, { 0, NONE, 1 }, 0, 2 };
+static const table last_closed = { { 0, 7, 20 }, { NONE, 0, 1 }, { 0, 1, 1 }, 0, 3 };
 
 static const struct {
     uint32_t minute;
@@ -280,37 +282,66 @@ static void free_spans(span_lists spans) {
     free(spans.closes.at);
 }
 
+/* The lists that a call fills and its store, each on the heap. */
+typedef struct {
+    words best, last, joints, store;
+} result_lists;
+
+static result_lists filled_results(const feed_call *call) {
+    result_lists lists = { filled(call->best_len), filled(call->last_len), filled(call->joints_len),
+                           filled(call->store_len) };
+    return lists;
+}
+
+static int results_untouched(result_lists lists) {
+    return untouched(lists.best, 0) && untouched(lists.last, 0) && untouched(lists.joints, 0)
+           && untouched(lists.store, 0);
+}
+
+static void free_results(result_lists lists) {
+    free(lists.best.at);
+    free(lists.last.at);
+    free(lists.joints.at);
+    free(lists.store.at);
+}
+
 #define LENT(list) (list).at, (list).len
 #define LENT_SPANS(spans)                                                                                               \
     LENT((spans).from), LENT((spans).to), LENT((spans).loss), LENT((spans).opens), LENT((spans).closes)
+#define LENT_TABLE(lists) LENT((lists).best), LENT((lists).last), LENT((lists).joints)
 
-static int begins(words w, const uint32_t *three) {
-    return memcmp(w.at, three, 3 * sizeof *three) == 0;
+static int begins(words w, const uint32_t *expected, size_t count) {
+    return w.len >= count && memcmp(w.at, expected, count * sizeof *expected) == 0;
 }
 
 /* The store of a fresh run of an empty sheet. */
-static int is_empty_store(words store) {
-    words empty = filled(STORE(3));
+static int is_empty_store(words store, size_t items) {
+    words empty = filled(STORE(items));
     int same = answers(fresh_run, empty, "", "") && same_words(store, empty);
     free(empty.at);
     return same;
 }
 
+/* The lists hold the table, and the store is empty. */
+static int shows(result_lists lists, const table *result, size_t places) {
+    return begins(lists.best, result->best, places) && begins(lists.last, result->last, places)
+           && begins(lists.joints, result->joints, places) && is_empty_store(lists.store, places);
+}
+
 /* The call returns the code. Done, it leaves the table and an empty store; refused, zeros and nothing else. */
 static int feeds(feed_call call, const table *result, uint32_t code) {
     span_lists spans = copy_spans(&call);
-    words best = filled(call.best_len), last = filled(call.last_len), store = filled(call.store_len);
+    result_lists lists = filled_results(&call);
     words figures = filled(3);
-    int same = code == feed_table(call.places, call.start, call.minute, LENT_SPANS(spans), LENT(best), LENT(last),
-                                  LENT(store), figures.at);
+    int same = code == feed_table(call.places, call.start, call.minute, LENT_SPANS(spans), LENT_TABLE(lists),
+                                  LENT(lists.store), figures.at);
     if (code == 0) {
-        same &= is_empty_store(store) && begins(best, result->best) && begins(last, result->last);
-        same &= are(figures.at, 0, 0, result->examined);
+        same &= shows(lists, result, call.places) && are(figures.at, result->links, 0, result->examined);
     } else {
-        same &= untouched(best, 0) && untouched(last, 0) && untouched(store, 0) && are(figures.at, 0, 0, 0);
+        same &= results_untouched(lists) && are(figures.at, 0, 0, 0);
     }
-    words lent[] = { best, last, store, figures };
-    for (size_t i = 0; i < sizeof lent / sizeof *lent; i++) free(lent[i].at);
+    free(figures.at);
+    free_results(lists);
     free_spans(spans);
     return same;
 }
@@ -318,16 +349,18 @@ static int feeds(feed_call call, const table *result, uint32_t code) {
 /* The feed table within a budget. */
 
 typedef struct {
-    uint32_t budget, places, best[3], last[3], listed[3], examined;
+    uint32_t budget;
+    table left;
+    uint32_t places, listed[MOST];
 } budget_result;
 
 static const budget_result worked_budgets[] = {
-    { 0, 1, { 0, NONE, NONE }, { NONE, NONE, NONE }, { 0, FILL, FILL }, 2 },
-    { 6, 1, { 0, NONE, NONE }, { NONE, NONE, NONE }, { 0, FILL, FILL }, 2 },
-    { 7, 2, { 0, 7, NONE }, { NONE, 0, NONE }, { 0, 1, FILL }, 3 },
-    { 11, 2, { 0, 7, NONE }, { NONE, 0, NONE }, { 0, 1, FILL }, 3 },
-    { 12, 3, { 0, 7, 12 }, { NONE, 0, 2 }, { 0, 1, 2 }, 3 },
-    { UINT32_MAX, 3, { 0, 7, 12 }, { NONE, 0, 2 }, { 0, 1, 2 }, 3 },
+    { 0, { { 0, NONE, NONE }, { NONE, NONE, NONE }, { 0, NONE, NONE }, 0, 2 }, 1, { 0, FILL, FILL } },
+    { 6, { { 0, NONE, NONE }, { NONE, NONE, NONE }, { 0, NONE, NONE }, 0, 2 }, 1, { 0, FILL, FILL } },
+    { 7, { { 0, 7, NONE }, { NONE, 0, NONE }, { 0, 1, NONE }, 0, 3 }, 2, { 0, 1, FILL } },
+    { 11, { { 0, 7, NONE }, { NONE, 0, NONE }, { 0, 1, NONE }, 0, 3 }, 2, { 0, 1, FILL } },
+    { 12, { { 0, 7, 12 }, { NONE, 0, 2 }, { 0, 1, 2 }, 0, 3 }, 3, { 0, 1, 2 } },
+    { UINT32_MAX, { { 0, 7, 12 }, { NONE, 0, 2 }, { 0, 1, 2 }, 0, 3 }, 3, { 0, 1, 2 } },
 };
 
 /* The map with windows, at minutes of its own. */
@@ -335,35 +368,35 @@ static const struct {
     uint32_t minute;
     budget_result result;
 } budgets_at[] = {
-    { 99, { 19, 1, { 0, NONE, NONE }, { NONE, NONE, NONE }, { 0, FILL, FILL }, 2 } },
-    { 99, { 20, 2, { 0, NONE, 20 }, { NONE, NONE, 1 }, { 0, 2, FILL }, 2 } },
-    { 100, { 7, 2, { 0, 7, NONE }, { NONE, 0, NONE }, { 0, 1, FILL }, 3 } },
-    { 299, { 19, 2, { 0, 7, NONE }, { NONE, 0, NONE }, { 0, 1, FILL }, 3 } },
-    { 300, { 12, 3, { 0, 7, 12 }, { NONE, 0, 2 }, { 0, 1, 2 }, 3 } },
-    { 399, { 11, 2, { 0, 7, NONE }, { NONE, 0, NONE }, { 0, 1, FILL }, 3 } },
-    { 400, { 20, 3, { 0, 7, 20 }, { NONE, 0, 1 }, { 0, 1, 2 }, 3 } },
-    { 500, { UINT32_MAX, 2, { 0, NONE, 20 }, { NONE, NONE, 1 }, { 0, 2, FILL }, 2 } },
+    { 99, { 19, { { 0, NONE, NONE }, { NONE, NONE, NONE }, { 0, NONE, NONE }, 0, 2 }, 1, { 0, FILL, FILL } } },
+    { 99, { 20, { { 0, NONE, 20 }, { NONE, NONE, 1 }, { 0, NONE, 1 }, 0, 2 }, 2, { 0, 2, FILL } } },
+    { 100, { 7, { { 0, 7, NONE }, { NONE, 0, NONE }, { 0, 1, NONE }, 0, 3 }, 2, { 0, 1, FILL } } },
+    { 299, { 19, { { 0, 7, NONE }, { NONE, 0, NONE }, { 0, 1, NONE }, 0, 3 }, 2, { 0, 1, FILL } } },
+    { 300, { 12, { { 0, 7, 12 }, { NONE, 0, 2 }, { 0, 1, 2 }, 0, 3 }, 3, { 0, 1, 2 } } },
+    { 399, { 11, { { 0, 7, NONE }, { NONE, 0, NONE }, { 0, 1, NONE }, 0, 3 }, 2, { 0, 1, FILL } } },
+    { 400, { 20, { { 0, 7, 20 }, { NONE, 0, 1 }, { 0, 1, 1 }, 0, 3 }, 3, { 0, 1, 2 } } },
+    { 500, { UINT32_MAX, { { 0, NONE, 20 }, { NONE, NONE, 1 }, { 0, NONE, 1 }, 0, 2 }, 2, { 0, 2, FILL } } },
 };
 
 /* The call with a place list so long returns the code. Done, it leaves the result worked by hand, the rest of the place
  * list and an empty store; refused, zeros and nothing else. */
 static int feeds_within(feed_call call, const budget_result *result, size_t listed_len, uint32_t code) {
     span_lists spans = copy_spans(&call);
-    words best = filled(call.best_len), last = filled(call.last_len), store = filled(call.store_len);
+    result_lists lists = filled_results(&call);
     words listed = filled(listed_len), figures = filled(4);
-    int same = code == feed_budget(call.places, call.start, call.minute, LENT_SPANS(spans), result->budget, LENT(best),
-                                   LENT(last), LENT(listed), LENT(store), figures.at);
+    int same = code == feed_budget(call.places, call.start, call.minute, LENT_SPANS(spans), result->budget,
+                                   LENT_TABLE(lists), LENT(listed), LENT(lists.store), figures.at);
     if (code == 0) {
-        same &= is_empty_store(store);
-        same &= begins(best, result->best) && begins(last, result->last) && begins(listed, result->listed);
-        same &= untouched(listed, 3);
-        same &= are(figures.at, 0, 0, result->examined) && figures.at[3] == result->places;
+        same &= shows(lists, &result->left, call.places);
+        same &= begins(listed, result->listed, call.places) && untouched(listed, call.places);
+        same &= are(figures.at, result->left.links, 0, result->left.examined) && figures.at[3] == result->places;
     } else {
-        same &= untouched(best, 0) && untouched(last, 0) && untouched(listed, 0) && untouched(store, 0);
+        same &= results_untouched(lists) && untouched(listed, 0);
         same &= are(figures.at, 0, 0, 0) && figures.at[3] == 0;
     }
-    words lent[] = { best, last, listed, store, figures };
-    for (size_t i = 0; i < sizeof lent / sizeof *lent; i++) free(lent[i].at);
+    free(listed.at);
+    free(figures.at);
+    free_results(lists);
     free_spans(spans);
     return same;
 }
@@ -391,6 +424,58 @@ static void try_budgets(void) {
         expect("the map with windows within a budget", feeds_within(call, &budgets_at[i].result, 3, 0));
         expect("a longer place list, windows", feeds_within(call, &budgets_at[i].result, 9, 0));
     }
+}
+
+/* Chains of equal loss. */
+
+typedef struct {
+    const char *what;
+    uint32_t places, start;
+    size_t spans;
+    uint32_t from[MOST], to[MOST], loss[MOST];
+    budget_result result; /* with the largest budget, which is that of the full call too */
+} tie;
+
+static const tie ties[] = {
+    { "the shorter chain's span has the lower number", 3, 0, 3, { 0, 0, 1 }, { 1, 2, 2 }, { 1, 2, 1 },
+      { NONE, { { 0, 1, 2 }, { NONE, 0, 1 }, { 0, 1, 1 }, 0, 3 }, 3, { 0, 1, 2 } } },
+    { "the shorter chain's span has the higher number", 3, 2, 3, { 0, 2, 2 }, { 1, 0, 1 }, { 1, 1, 2 },
+      { NONE, { { 1, 2, 0 }, { 1, 2, NONE }, { 1, 1, 0 }, 0, 3 }, 3, { 2, 0, 1 } } },
+    { "equal lengths, the lower number found later", 4, 2, 4, { 0, 1, 2, 2 }, { 3, 3, 0, 1 }, { 1, 2, 2, 1 },
+      { NONE, { { 2, 1, 0, 3 }, { 2, 3, NONE, 0 }, { 1, 1, 0, 2 }, 0, 4 }, 4, { 2, 1, 0, 3 } } },
+    { "chains of three, two and one span", 4, 3, 5, { 0, 0, 1, 3, 3 }, { 1, 2, 2, 0, 2 }, { 2, 4, 2, 2, 6 },
+      { NONE, { { 2, 4, 6, 0 }, { 3, 0, 4, NONE }, { 1, 2, 1, 0 }, 0, 5 }, 4, { 3, 0, 1, 2 } } },
+    { "better while the place waits", 6, 0, 7, { 0, 0, 0, 1, 2, 3, 4 }, { 1, 3, 4, 2, 4, 4, 5 }, { 1, 4, 9, 1, 4, 2, 1 },
+      { NONE, { { 0, 1, 2, 4, 6, 7 }, { NONE, 0, 3, 1, 5, 6 }, { 0, 1, 2, 1, 2, 3 }, 1, 7 }, 6, { 0, 1, 2, 3, 4, 5 } } },
+};
+#define TIES (sizeof ties / sizeof *ties)
+
+/* The last of the ties, with budgets below, at and above the loss of the place where chains meet. */
+static const budget_result better_within[] = {
+    { 5, { { 0, 1, 2, 4, NONE, NONE }, { NONE, 0, 3, 1, NONE, NONE }, { 0, 1, 2, 1, NONE, NONE }, 1, 6 }, 4,
+      { 0, 1, 2, 3, FILL, FILL } },
+    { 6, { { 0, 1, 2, 4, 6, NONE }, { NONE, 0, 3, 1, 5, NONE }, { 0, 1, 2, 1, 2, NONE }, 1, 7 }, 5,
+      { 0, 1, 2, 3, 4, FILL } },
+    { 7, { { 0, 1, 2, 4, 6, 7 }, { NONE, 0, 3, 1, 5, 6 }, { 0, 1, 2, 1, 2, 3 }, 1, 7 }, 6, { 0, 1, 2, 3, 4, 5 } },
+};
+
+static feed_call call_of(const tie *t) {
+    feed_call call = { t->places, t->start, 720, { 0 }, { 0 }, { 0 }, { 0 }, { 0 }, t->spans, t->spans, t->spans, t->spans,
+                       t->spans, t->places, t->places, t->places, STORE(t->places) };
+    memcpy(call.from, t->from, sizeof call.from);
+    memcpy(call.to, t->to, sizeof call.to);
+    memcpy(call.loss, t->loss, sizeof call.loss);
+    for (size_t span = 0; span < t->spans; span++) call.closes[span] = 1440;
+    return call;
+}
+
+static void try_ties(void) {
+    for (size_t i = 0; i < TIES; i++) {
+        expect(ties[i].what, feeds(call_of(&ties[i]), &ties[i].result.left, 0));
+        expect(ties[i].what, feeds_within(call_of(&ties[i]), &ties[i].result, ties[i].places, 0));
+    }
+    for (size_t i = 0; i < sizeof better_within / sizeof *better_within; i++)
+        expect("a tie within a budget", feeds_within(call_of(&ties[TIES - 1]), &better_within[i], 8, 0));
 }
 
 /* A map is refused by the full call and by the one with a budget, and with a place list of 2 words under its own code. */
@@ -432,6 +517,9 @@ static void try_refused_feeds(void) {
     EARLY("list of 2 closing minutes: 16", closes_len, 2, 16);
     EARLY("2 words of losses, 3 places: 17", best_len, 2, 17);
     EARLY("2 words of spans, 3 places: 17", last_len, 2, 17);
+    EARLY("no words of joints, 3 places: 17", joints_len, 0, 17);
+    EARLY("2 words of joints, 3 places: 17", joints_len, 2, 17);
+    EARLY("4 words of joints, 3 places: 17", joints_len, 4, 17);
     EARLY("a store for 2, 3 places: 17", store_len, STORE(2), 17);
     LATE("from 3 of 3: 18", from[2], 3, 18);
     LATE("to 3 of 3: 18", to[2], 3, 18);
@@ -451,8 +539,12 @@ static void try_orders_of_codes(void) {
     TWO("24 before 17", minute, 1440, best_len, 2, 24, 24);
     TWO("24 before 18", minute, 1440, from[0], 3, 24, 24);
     TWO("24 before 23", minute, 1440, closes[0], 0, 24, 24);
+    TWO("24 before 17 of the joints", minute, 1440, joints_len, 2, 24, 24);
     TWO("16 before 17", opens_len, 2, best_len, 2, 16, 16);
+    TWO("16 before 17 of the joints", opens_len, 2, joints_len, 4, 16, 16);
     TWO("17 before 23", last_len, 2, closes[0], 0, 17, 17);
+    TWO("17 of the joints before 18", joints_len, 2, to[0], 3, 17, 17);
+    TWO("17 of the joints before 23", joints_len, 4, closes[0], 0, 17, 17);
     TWO("18 before 23 on one span", to[1], 3, closes[1], 0, 18, 22);
     TWO("19 before 23 on one span", loss[1], 0, closes[1], 0, 19, 22);
     TWO("20 before 23 on one span", from[0], 1, closes[1], 0, 20, 22);
@@ -546,6 +638,7 @@ int main(void) {
     try_refused_runs();
     try_tables();
     try_budgets();
+    try_ties();
     try_refused_feeds();
     try_orders_of_codes();
     try_faulty_closed_spans();

@@ -3,7 +3,7 @@
 
 mod feeds;
 
-pub use feeds::{BudgetCall, Fed, FeedCall};
+pub use feeds::{BudgetCall, Fed, FeedCall, Full, Within};
 
 use crate::engine::{Engine, Part};
 use reference::ledger::{allowance, potential, Ledger};

@@ -21,13 +21,23 @@ pub enum Part {
 pub struct FeedLists<'a> {
     pub best: &'a mut [u32],
     pub last: &'a mut [u32],
+    pub joints: &'a mut [u32],
     pub store: &'a mut [u32],
+}
+
+impl FeedLists<'_> {
+    /// The same lists, lent once more.
+    pub fn again(&mut self) -> FeedLists<'_> {
+        let FeedLists { best, last, joints, store } = self;
+        FeedLists { best, last, joints, store }
+    }
 }
 
 /// The lists that a feed call with a budget is lent for writing.
 pub struct BudgetLists<'a> {
     pub best: &'a mut [u32],
     pub last: &'a mut [u32],
+    pub joints: &'a mut [u32],
     pub listed: &'a mut [u32],
     pub store: &'a mut [u32],
 }
@@ -104,15 +114,15 @@ impl Engine for Faithful {
     }
 
     fn feed_table(&self, asked: Asked, lists: FeedLists, figures: &mut [u32; 3]) -> u32 {
-        let lent = Lent { best: lists.best, last: lists.last, words: lists.store };
-        let result = feed::table(asked, lent);
+        let FeedLists { best, last, joints, store } = lists;
+        let result = feed::table(asked, Lent { best, last, joints, words: store });
         *figures = [result.links, result.cuts, result.examined];
         result.code
     }
 
     fn feed_budget(&self, asked: Asked, budget: u32, lists: BudgetLists, figures: &mut [u32; 4]) -> u32 {
-        let lent = Lent { best: lists.best, last: lists.last, words: lists.store };
-        let result = feed::within(asked, budget, lent, lists.listed);
+        let BudgetLists { best, last, joints, listed, store } = lists;
+        let result = feed::within(asked, budget, Lent { best, last, joints, words: store }, listed);
         *figures = result.numbers();
         result.figures.code
     }

@@ -61,13 +61,15 @@ macro_rules! feed_call {
                 best_len: usize,
                 last: *mut u32,
                 last_len: usize,
+                joints: *mut u32,
+                joints_len: usize,
                 store: *mut u32,
                 store_len: usize,
                 figures: *mut [u32; 3],
             ) -> u32;
         }
         let Asked { places, start, minute, spans: Spans { from, to, loss, opens, closes } } = $asked;
-        let (FeedLists { best, last, store }, figures): (_, &mut [u32; 3]) = ($lists, $figures);
+        let (FeedLists { best, last, joints, store }, figures): (_, &mut [u32; 3]) = ($lists, $figures);
         // SAFETY: as in own_run.
         unsafe {
             $name(
@@ -88,6 +90,8 @@ macro_rules! feed_call {
                 best.len(),
                 last.as_mut_ptr(),
                 last.len(),
+                joints.as_mut_ptr(),
+                joints.len(),
                 store.as_mut_ptr(),
                 store.len(),
                 figures,
@@ -120,6 +124,8 @@ macro_rules! budget_call {
                 best_len: usize,
                 last: *mut u32,
                 last_len: usize,
+                joints: *mut u32,
+                joints_len: usize,
                 listed: *mut u32,
                 listed_len: usize,
                 store: *mut u32,
@@ -128,7 +134,7 @@ macro_rules! budget_call {
             ) -> u32;
         }
         let Asked { places, start, minute, spans: Spans { from, to, loss, opens, closes } } = $asked;
-        let (budget, BudgetLists { best, last, listed, store }): (u32, _) = ($budget, $lists);
+        let (budget, BudgetLists { best, last, joints, listed, store }): (u32, _) = ($budget, $lists);
         let figures: &mut [u32; 4] = $figures;
         // SAFETY: as in own_run.
         unsafe {
@@ -151,6 +157,8 @@ macro_rules! budget_call {
                 best.len(),
                 last.as_mut_ptr(),
                 last.len(),
+                joints.as_mut_ptr(),
+                joints.len(),
                 listed.as_mut_ptr(),
                 listed.len(),
                 store.as_mut_ptr(),

@@ -25,6 +25,7 @@ pub fn call_at(places: u32, start: u32, minute: u32, spans: &[[u32; 5]]) -> Feed
         closes: list(4),
         best: places as usize,
         last: places as usize,
+        joints: places as usize,
         words: store::length(places as usize),
     }
 }
@@ -72,6 +73,38 @@ pub fn disturbed(random: &mut Random, places: u32, noise: u64) -> (u32, Vec<[u32
     }
     spans.sort_by_key(|span| span[0]);
     (names[0], spans)
+}
+
+/// Spans between random places of different heights. A span upwards loses the difference, so that all chains to a place
+/// are of equal loss; so many in a hundred of the spans lose one or two more. The start is the lowest place.
+pub fn heights(random: &mut Random, places: u32, count: usize, dearer: u64) -> (u32, Vec<[u32; 3]>) {
+    let mut names: Vec<u32> = (0..places).collect();
+    random.shuffle(&mut names);
+    let mut spans: Vec<[u32; 3]> = (0..count)
+        .map(|_| {
+            let low = random.below(u64::from(places) - 1) as u32;
+            let step = 1 + random.below(u64::from(places - 1 - low).min(6)) as u32;
+            let more = if random.chance(dearer) { 1 + random.below(2) as u32 } else { 0 };
+            [names[low as usize], names[(low + step) as usize], step + more]
+        })
+        .collect();
+    spans.sort_by_key(|span| span[0]);
+    (names[0], spans)
+}
+
+/// A map of two places or more, up to `most`, on which most places end several chains of equal loss: many spans, parallel
+/// ones among them, of small losses.
+pub fn with_ties(random: &mut Random, most: u64) -> FeedCall {
+    let places = 2 + random.below(most - 1) as u32;
+    let count = random.size(6 * places as usize);
+    if random.chance(50) {
+        let dearer = *random.pick(&[0, 10, 40]);
+        let (start, spans) = heights(random, places, count, dearer);
+        return call(places, start, &spans);
+    }
+    let losses = 1 + random.below(3);
+    let start = random.below(u64::from(places)) as u32;
+    call(places, start, &scattered(random, places, count, losses))
 }
 
 /// One long chain of greatest losses.
@@ -132,6 +165,20 @@ pub fn with_windows(random: &mut Random) -> (FeedCall, Vec<u32>) {
     (call, minutes_around(&cuts))
 }
 
+/// A small map with ties and with windows, and the minutes around the ends of these.
+pub fn with_ties_and_windows(random: &mut Random) -> (FeedCall, Vec<u32>) {
+    let mut call = with_ties(random, 9);
+    let cuts = cuts(random);
+    give_windows(random, &mut call, &cuts);
+    (call, minutes_around(&cuts))
+}
+
+/// The spans of a call as (from, to, loss, opening, closing).
+pub fn spans_of(call: &FeedCall) -> Vec<[u32; 5]> {
+    let span = |at: usize| [call.from[at], call.to[at], call.loss[at], call.opens[at], call.closes[at]];
+    (0..call.from.len()).map(span).collect()
+}
+
 /// The text of a map with spans given as (from, to, loss, opening, closing); without a last LF if `open`.
 pub fn text_at(places: u32, start: u32, minute: u32, spans: &[[u32; 5]], open: bool) -> Vec<u8> {
     let mut text = format!("{places},{start},{minute}\n");
@@ -150,7 +197,5 @@ pub fn text(places: u32, start: u32, spans: &[[u32; 3]], open: bool) -> Vec<u8> 
 }
 
 pub fn text_of(call: &FeedCall, open: bool) -> Vec<u8> {
-    let span = |at: usize| [call.from[at], call.to[at], call.loss[at], call.opens[at], call.closes[at]];
-    let spans: Vec<[u32; 5]> = (0..call.from.len()).map(span).collect();
-    text_at(call.places, call.start, call.minute, &spans, open)
+    text_at(call.places, call.start, call.minute, &spans_of(call), open)
 }

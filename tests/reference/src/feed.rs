@@ -1,4 +1,4 @@
-//! The feed table at a minute of the day, in full and within a budget: least losses by plain relaxation of the spans
+//! The feed table at a minute of the day, in full and within a budget: best chains by plain relaxation of the spans
 //! that are usable then, queue moves by playing the calls.
 
 use crate::call::Call;
@@ -61,7 +61,31 @@ pub struct Figures {
 pub struct Lent<'a> {
     pub best: &'a mut [u32],
     pub last: &'a mut [u32],
+    pub joints: &'a mut [u32],
     pub words: &'a mut [u32],
+}
+
+impl Lent<'_> {
+    /// Whether each list has one word a place, and the store is one for so many items.
+    fn fits(&self, places: usize) -> bool {
+        let lists = [&self.best, &self.last, &self.joints];
+        lists.iter().all(|list| list.len() == places) && self.words.len() == store::length(places)
+    }
+}
+
+/// What a chain from the start adds up to. The better one is less: a smaller loss first, then fewer spans.
+#[derive(Clone, Copy, Debug, Default, PartialEq, Eq, PartialOrd, Ord)]
+struct Chain {
+    loss: u32,
+    /// Its number of spans, which the table shows as joints.
+    hops: u32,
+}
+
+impl Chain {
+    /// The chain with one more span at its end.
+    fn and(self, loss: u32) -> Chain {
+        Chain { loss: self.loss + loss, hops: self.hops + 1 }
+    }
 }
 
 /// The figures of a call with a budget, and how many places it lists.
@@ -93,26 +117,29 @@ pub fn within(asked: Asked, budget: u32, lent: Lent, listed: &mut [u32]) -> With
     if code != 0 {
         return Within { figures: Figures { code, ..Figures::default() }, listed: 0 };
     }
-    let Lent { best, last, words } = lent;
-    let figures = fill(asked, Some(budget), Lent { best: &mut *best, last, words });
+    let Lent { best, last, joints, words } = lent;
+    let figures = fill(asked, Some(budget), Lent { best: &mut *best, last, joints, words });
     let mut order: Vec<u32> = (0..asked.places).filter(|&place| best[place as usize] != NONE).collect();
     order.sort_by_key(|&place| (best[place as usize], place));
     listed[..order.len()].copy_from_slice(&order);
     Within { figures, listed: order.len() as u32 }
 }
 
-/// Fills the lists of a call that isn't refused: the full table, with none and none at the places beyond the budget.
+/// Fills the lists of a call that isn't refused: the full table, with none in all lists at the places beyond the budget.
 fn fill(asked: Asked, budget: Option<u32>, lent: Lent) -> Figures {
-    let best = least_losses(asked);
-    let last = last_spans(asked, &best);
-    let shown = |place: usize| best[place] != NONE && budget.is_none_or(|budget| best[place] <= budget);
-    for place in 0..asked.places as usize {
-        (lent.best[place], lent.last[place]) = if shown(place) { (best[place], last[place]) } else { (NONE, NONE) };
+    let chains = best_chains(asked);
+    let last = last_spans(asked, &chains);
+    let shown = |place: usize| chains[place].filter(|chain| budget.is_none_or(|budget| chain.loss <= budget));
+    for (place, &span) in last.iter().enumerate() {
+        (lent.best[place], lent.last[place], lent.joints[place]) = match shown(place) {
+            Some(chain) => (chain.loss, span, chain.hops),
+            None => (NONE, NONE, NONE),
+        };
     }
     lent.words.copy_from_slice(&store::empty(asked.places as usize));
     let (links, cuts) = moves(asked, budget);
     // Closed spans are tried too.
-    let examined = asked.spans.from.iter().filter(|&&from| shown(from as usize)).count() as u32;
+    let examined = asked.spans.from.iter().filter(|&&from| shown(from as usize).is_some()).count() as u32;
     Figures { code: 0, links, cuts, examined }
 }
 
@@ -129,10 +156,7 @@ pub fn refusal(asked: Asked, lent: &Lent, listed: Option<usize>) -> u32 {
         24
     } else if spans.lengths_differ() || count > MAX_SPANS {
         16
-    } else if lent.best.len() != per_place
-        || lent.last.len() != per_place
-        || lent.words.len() != store::length(per_place)
-    {
+    } else if !lent.fits(per_place) {
         17
     } else if listed.is_some_and(|listed| listed < per_place) {
         22
@@ -162,17 +186,18 @@ pub fn is_faulty_window(opens: u32, closes: u32) -> bool {
 }
 
 /// Relaxes every usable span until nothing changes.
-fn least_losses(asked: Asked) -> Vec<u32> {
+fn best_chains(asked: Asked) -> Vec<Option<Chain>> {
     let Asked { places, start, spans, .. } = asked;
     let usable = asked.usable();
-    let mut best = vec![NONE; places as usize];
-    best[start as usize] = 0;
+    let mut best: Vec<Option<Chain>> = vec![None; places as usize];
+    best[start as usize] = Some(Chain::default());
     loop {
         let mut changed = false;
         for &span in &usable {
             let (from, to) = (spans.from[span] as usize, spans.to[span] as usize);
-            if best[from] != NONE && best[from] + spans.loss[span] < best[to] {
-                best[to] = best[from] + spans.loss[span];
+            let Some(offered) = best[from].map(|chain| chain.and(spans.loss[span])) else { continue };
+            if best[to].is_none_or(|known| offered < known) {
+                best[to] = Some(offered);
                 changed = true;
             }
         }
@@ -182,13 +207,14 @@ fn least_losses(asked: Asked) -> Vec<u32> {
     }
 }
 
-/// The lowest-numbered usable span that ends a chain of least loss; none at the start and where no chain is.
-fn last_spans(asked: Asked, best: &[u32]) -> Vec<u32> {
-    let Asked { start, spans, .. } = asked;
-    let mut last = vec![NONE; best.len()];
+/// The lowest-numbered usable span that ends a best chain; none where no chain is, and at the start, whose best chain
+/// has no spans.
+fn last_spans(asked: Asked, chains: &[Option<Chain>]) -> Vec<u32> {
+    let spans = asked.spans;
+    let mut last = vec![NONE; chains.len()];
     for span in asked.usable().into_iter().rev() {
         let (from, to) = (spans.from[span] as usize, spans.to[span] as usize);
-        if best[from] != NONE && best[from] + spans.loss[span] == best[to] && to != start as usize {
+        if chains[from].is_some_and(|chain| chains[to] == Some(chain.and(spans.loss[span]))) {
             last[to] = span as u32;
         }
     }
@@ -216,6 +242,7 @@ fn moves(asked: Asked, budget: Option<u32>) -> (u32, u32) {
         for span in (0..spans.from.len()).filter(usable_from_there) {
             let (item, key) = (spans.to[span], taken.key + spans.loss[span]);
             let known = met[item as usize];
+            // An equal loss changes at most the table: it makes no call.
             if key < known {
                 met[item as usize] = key;
                 let call = match known {

@@ -34,20 +34,22 @@ fn table_text(text: &[u8]) -> Result<String, u32> {
     let Header { places, start, minute, .. } = header;
     let [from, to, loss, opens, closes] = lists.each_ref().map(|list| &list[..header.spans as usize]);
     let asked = Asked { places, start, minute, spans: Spans { from, to, loss, opens, closes } };
-    let (mut best, mut last) = (vec![0; places as usize], vec![0; places as usize]);
+    let [mut best, mut last, mut joints] = [(); 3].map(|()| vec![0; places as usize]);
     let mut words = vec![0; store::length(places as usize)];
-    let figures = feed::table(asked, Lent { best: &mut best, last: &mut last, words: &mut words });
+    let lent = Lent { best: &mut best, last: &mut last, joints: &mut joints, words: &mut words };
+    let figures = feed::table(asked, lent);
     match figures.code {
-        0 => Ok(printed_table(&best, &last, [figures.links, figures.cuts, figures.examined])),
+        0 => Ok(printed_table([&best, &last, &joints], [figures.links, figures.cuts, figures.examined])),
         code => Err(code),
     }
 }
 
-/// The lines of a table, and one with the figures.
-pub fn printed_table(best: &[u32], last: &[u32], [links, cuts, examined]: [u32; 3]) -> String {
+/// The lines of a table, given as losses, spans and joints, and one with the figures.
+pub fn printed_table([best, last, joints]: [&[u32]; 3], [links, cuts, examined]: [u32; 3]) -> String {
     let mut printed = String::new();
-    for (place, (&loss, &span)) in best.iter().zip(last).enumerate() {
-        printed += &format!("{place},{},{}\n", shown(loss), shown(span));
+    for place in 0..best.len() {
+        let [loss, span, hops] = [best[place], last[place], joints[place]].map(shown);
+        printed += &format!("{place},{loss},{span},{hops}\n");
     }
     printed + &format!("{links},{cuts},{examined}\n")
 }

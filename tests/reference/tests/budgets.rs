@@ -10,6 +10,7 @@ struct Left {
     within: Within,
     best: Vec<u32>,
     last: Vec<u32>,
+    joints: Vec<u32>,
     listed: Vec<u32>,
     words: Vec<u32>,
 }
@@ -28,38 +29,39 @@ fn spans_of(lists: &[Vec<u32>; 5]) -> Spans<'_> {
 /// A call on spans given as (from, to, loss), with a place list of `room` words.
 fn call(places: u32, start: u32, spans: &[[u32; 3]], budget: u32, room: usize) -> Left {
     let lists = open_lists(spans);
-    let (mut best, mut last) = (vec![FOUND; places as usize], vec![FOUND; places as usize]);
+    let [mut best, mut last, mut joints] = [(); 3].map(|()| vec![FOUND; places as usize]);
     let (mut listed, mut words) = (vec![FOUND; room], vec![FOUND; store::length(places as usize)]);
-    let lent = Lent { best: &mut best, last: &mut last, words: &mut words };
+    let lent = Lent { best: &mut best, last: &mut last, joints: &mut joints, words: &mut words };
     let asked = Asked { places, start, minute: 0, spans: spans_of(&lists) };
     let within = feed::within(asked, budget, lent, &mut listed);
-    Left { within, best, last, listed, words }
+    Left { within, best, last, joints, listed, words }
 }
 
 fn done(links: u32, cuts: u32, examined: u32, listed: u32) -> Within {
     Within { figures: Figures { code: 0, links, cuts, examined }, listed }
 }
 
-/// Budget, places listed, losses, spans, spans examined.
-type Row = (u32, &'static [u32], [u32; 3], [u32; 3], u32);
+/// Budget, places listed, losses, spans, joints, spans examined.
+type Row = (u32, &'static [u32], [u32; 3], [u32; 3], [u32; 3], u32);
 
 const WORKED: [[u32; 3]; 3] = [[0, 1, 7], [0, 2, 20], [1, 2, 5]];
 
 #[test]
 fn the_papers_map() {
     let shown: [Row; 6] = [
-        (0, &[0], [0, NONE, NONE], [NONE, NONE, NONE], 2),
-        (6, &[0], [0, NONE, NONE], [NONE, NONE, NONE], 2),
-        (7, &[0, 1], [0, 7, NONE], [NONE, 0, NONE], 3),
-        (11, &[0, 1], [0, 7, NONE], [NONE, 0, NONE], 3),
-        (12, &[0, 1, 2], [0, 7, 12], [NONE, 0, 2], 3),
-        (NONE, &[0, 1, 2], [0, 7, 12], [NONE, 0, 2], 3),
+        (0, &[0], [0, NONE, NONE], [NONE, NONE, NONE], [0, NONE, NONE], 2),
+        (6, &[0], [0, NONE, NONE], [NONE, NONE, NONE], [0, NONE, NONE], 2),
+        (7, &[0, 1], [0, 7, NONE], [NONE, 0, NONE], [0, 1, NONE], 3),
+        (11, &[0, 1], [0, 7, NONE], [NONE, 0, NONE], [0, 1, NONE], 3),
+        (12, &[0, 1, 2], [0, 7, 12], [NONE, 0, 2], [0, 1, 2], 3),
+        (NONE, &[0, 1, 2], [0, 7, 12], [NONE, 0, 2], [0, 1, 2], 3),
     ];
-    for (budget, places, best, last, examined) in shown {
+    for (budget, places, best, last, joints, examined) in shown {
         for room in [3, 8] {
             let left = call(3, 0, &WORKED, budget, room);
             assert_eq!(left.within, done(0, 0, examined, places.len() as u32), "budget {budget}");
             assert_eq!((&left.best[..], &left.last[..]), (&best[..], &last[..]), "budget {budget}");
+            assert_eq!(left.joints, joints, "budget {budget}");
             let (listed, beyond) = left.listed.split_at(places.len());
             assert_eq!(listed, places, "budget {budget}");
             assert!(beyond.iter().all(|&word| word == FOUND), "budget {budget}");
@@ -75,6 +77,7 @@ fn a_tie_at_the_budget() {
     assert_eq!(left.listed, [0, 1, 2, 3, FOUND]);
     assert_eq!(left.best, [0, 3, 4, 4, NONE]);
     assert_eq!(left.last, [NONE, 0, 1, 2, NONE]);
+    assert_eq!(left.joints, [0, 1, 1, 1, NONE]);
     // Taking 1 links 2 and 3; nothing is linked after that.
     assert_eq!(left.within, done(1, 0, 4, 4));
     assert_eq!(call(5, 0, &spans, 3, 5).listed, [0, 1, FOUND, FOUND, FOUND]);
@@ -100,6 +103,7 @@ fn an_unreached_place() {
     let spans = [[0, 1, 7], [2, 1, 1]];
     let left = call(3, 0, &spans, NONE, 4);
     assert_eq!((&left.best[..], &left.last[..]), (&[0, 7, NONE][..], &[NONE, 0, NONE][..]));
+    assert_eq!(left.joints, [0, 1, NONE]);
     assert_eq!(left.listed, [0, 1, FOUND, FOUND]);
     assert_eq!(left.within, done(0, 0, 1, 2));
 }
@@ -110,11 +114,12 @@ fn the_largest_budget_is_a_full_call() {
     let spans = [[0, 1, 9], [0, 2, 5], [0, 3, 8], [0, 4, 7], [1, 5, 1], [2, 3, 1], [2, 4, 1], [3, 1, 1], [4, 4, 3]];
     let left = call(6, 0, &spans, NONE, 6);
     let lists = open_lists(&spans);
-    let (mut best, mut last, mut words) = (vec![0; 6], vec![0; 6], vec![0; store::length(6)]);
-    let lent = Lent { best: &mut best, last: &mut last, words: &mut words };
+    let [mut best, mut last, mut joints] = [(); 3].map(|()| vec![0; 6]);
+    let mut words = vec![0; store::length(6)];
+    let lent = Lent { best: &mut best, last: &mut last, joints: &mut joints, words: &mut words };
     let full = feed::table(Asked { places: 6, start: 0, minute: 0, spans: spans_of(&lists) }, lent);
     assert_eq!(left.within, Within { figures: full, listed: 6 });
-    assert_eq!((left.best, left.last, left.words), (best, last, words));
+    assert_eq!((left.best, left.last, left.joints, left.words), (best, last, joints, words));
     assert_eq!(left.listed, [0, 2, 3, 4, 1, 5]);
 }
 
@@ -124,7 +129,7 @@ fn a_refused_call_leaves_everything() {
         let left = call(3, start, &WORKED, 9, room);
         assert_eq!(left.within, Within { figures: Figures { code, ..Figures::default() }, listed: 0 });
         assert_eq!(left.within.numbers(), [0; 4]);
-        for list in [&left.best, &left.last, &left.listed, &left.words] {
+        for list in [&left.best, &left.last, &left.joints, &left.listed, &left.words] {
             assert!(list.iter().all(|&word| word == FOUND));
         }
     }

@@ -75,8 +75,8 @@ struct Tried {
     minute: u32,
     /// From, to, loss, opening and closing minutes.
     lists: [Vec<u32>; 5],
-    /// The words of each result list, and the places that the store is for.
-    results: usize,
+    /// The words of the losses, the spans and the joints, and the places that the store is for.
+    results: [usize; 3],
     stored: usize,
     /// The words of the place list, which only the call with a budget is lent.
     listed: usize,
@@ -85,7 +85,7 @@ struct Tried {
 impl Tried {
     fn new(spans: &[[u32; 5]]) -> Tried {
         let lists = [0, 1, 2, 3, 4].map(|field| spans.iter().map(|span| span[field]).collect());
-        Tried { places: 3, start: 0, minute: 0, lists, results: 3, stored: 3, listed: 3 }
+        Tried { places: 3, start: 0, minute: 0, lists, results: [3; 3], stored: 3, listed: 3 }
     }
 
     fn with(&self, change: impl Fn(&mut Tried)) -> Tried {
@@ -99,10 +99,11 @@ impl Tried {
         let [from, to, loss, opens, closes] = &self.lists;
         let spans = Spans { from, to, loss, opens, closes };
         let asked = Asked { places: self.places, start: self.start, minute: self.minute, spans };
-        let (mut best, mut last) = (vec![0; self.results], vec![0; self.results]);
+        let [mut best, mut last, mut joints] = self.results.map(|length| vec![0; length]);
         let mut words = vec![0; store::length(self.stored)];
-        let full = feed::table(asked, Lent { best: &mut best, last: &mut last, words: &mut words });
-        let lent = Lent { best: &mut best, last: &mut last, words: &mut words };
+        let lent = Lent { best: &mut best, last: &mut last, joints: &mut joints, words: &mut words };
+        let full = feed::table(asked, lent);
+        let lent = Lent { best: &mut best, last: &mut last, joints: &mut joints, words: &mut words };
         [full.code, feed::within(asked, 9, lent, &mut vec![0; self.listed]).figures.code]
     }
 
@@ -125,9 +126,9 @@ fn feed_calls() {
     let none = Tried::new(&[]);
     assert_eq!(none.code(), 0);
     assert_eq!(none.with(|tried| tried.places = 0).code(), 14);
-    assert_eq!(none.with(|tried| (tried.places, tried.results, tried.stored) = (4097, 4097, 4097)).code(), 14);
+    assert_eq!(none.with(|tried| (tried.places, tried.results, tried.stored) = (4097, [4097; 3], 4097)).code(), 14);
     assert_eq!(none.with(|tried| tried.start = 3).code(), 15);
-    assert_eq!(none.with(|tried| tried.results = 2).code(), 17);
+    assert_eq!(none.with(|tried| tried.results = [2; 3]).code(), 17);
     assert_eq!(none.with(|tried| tried.stored = 4).code(), 17);
     assert_eq!(open_code(&[[0, 3, 1]]), 18);
     assert_eq!(open_code(&[[0, 1, 0]]), 19);
@@ -150,6 +151,27 @@ fn span_lists() {
     }
 }
 
+/// Each of the three result lists shorter or longer than the places while the others are right.
+#[test]
+fn result_lists() {
+    let one = Tried::new(&[[0, 1, 1, 0, 1_440]]);
+    assert_eq!(one.code(), 0);
+    for list in 0..3 {
+        for length in [0, 1, 2, 4, 5] {
+            let wrong = one.with(|tried| tried.results[list] = length);
+            assert_eq!(wrong.code(), 17);
+            // After 14, 15, 24 and 16, before 22 and the spans.
+            assert_eq!(wrong.with(|tried| tried.places = 0).code(), 14);
+            assert_eq!(wrong.with(|tried| tried.start = 3).code(), 15);
+            assert_eq!(wrong.with(|tried| tried.minute = 1_440).code(), 24);
+            assert_eq!(wrong.with(|tried| tried.lists[4].clear()).code(), 16);
+            assert_eq!(wrong.with(|tried| tried.listed = 2).code(), 17);
+            assert_eq!(wrong.with(|tried| tried.lists[1][0] = 3).code(), 17);
+            assert_eq!(wrong.with(|tried| tried.lists[4][0] = 0).code(), 17);
+        }
+    }
+}
+
 #[test]
 fn minutes() {
     let one = Tried::new(&[[0, 1, 1, 0, 1_440]]);
@@ -161,7 +183,7 @@ fn minutes() {
     assert_eq!(late.with(|tried| tried.places = 0).code(), 14);
     assert_eq!(late.with(|tried| tried.start = 3).code(), 15);
     assert_eq!(late.with(|tried| tried.lists[4].clear()).code(), 24);
-    assert_eq!(late.with(|tried| tried.results = 2).code(), 24);
+    assert_eq!(late.with(|tried| tried.results = [2; 3]).code(), 24);
     assert_eq!(late.with(|tried| tried.listed = 2).code(), 24);
     for (list, word) in [(0, 3), (2, 0), (4, 0)] {
         assert_eq!(late.with(|tried| tried.lists[list][0] = word).code(), 24);
@@ -235,7 +257,7 @@ fn place_lists() {
     assert_eq!(short.with(|tried| tried.places = 4097).code(), 14);
     assert_eq!(short.with(|tried| tried.start = 3).code(), 15);
     assert_eq!(short.with(|tried| tried.lists[2].clear()).code(), 16);
-    assert_eq!(short.with(|tried| tried.results = 2).code(), 17);
+    assert_eq!(short.with(|tried| tried.results = [2; 3]).code(), 17);
     for (code, span) in FAULTY {
         let spans = Tried::new(&[[1, 2, 1, 0, 1_440], span]);
         assert_eq!(spans.with(|tried| tried.listed = 2).codes(), [code, 22]);

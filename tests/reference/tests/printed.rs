@@ -26,10 +26,10 @@ fn modem_run() {
 #[test]
 fn feed_program() {
     let printed = program::feed(b"3,0,0\n0,1,7,0,1440\n0,2,20,0,1440\n1,2,5,0,1440\n");
-    assert_eq!(printed, b"0,0,-\n1,7,0\n2,12,2\n0,0,3\n");
+    assert_eq!(printed, b"0,0,-,0\n1,7,0,1\n2,12,2,2\n0,0,3\n");
     let padded = b"03,00,000\n0,1,0000000007,00,01440\n00,2,020,0,1440\n1,02,5,0000000000,1440\n";
     assert_eq!(program::feed(padded), printed);
-    assert_eq!(program::feed(b"2,1,1439\n"), b"0,-,-\n1,0,-\n0,0,0\n");
+    assert_eq!(program::feed(b"2,1,1439\n"), b"0,-,-,-\n1,0,-,0\n0,0,0\n");
     assert_eq!(program::feed(b""), b"21\n");
     assert_eq!(program::feed(b"1025,0,0\n"), b"14\n");
 }
@@ -40,10 +40,10 @@ fn feed_program_at_a_minute() {
     let printed =
         |minute| program::feed(format!("3,0,{minute}\n0,1,7,0,1440\n0,2,20,0,1440\n1,2,5,600,720\n").as_bytes());
     for minute in [600, 601, 719] {
-        assert_eq!(printed(minute), b"0,0,-\n1,7,0\n2,12,2\n0,0,3\n");
+        assert_eq!(printed(minute), b"0,0,-,0\n1,7,0,1\n2,12,2,2\n0,0,3\n");
     }
     for minute in [0, 599, 720, 1_439] {
-        assert_eq!(printed(minute), b"0,0,-\n1,7,0\n2,20,1\n0,0,3\n");
+        assert_eq!(printed(minute), b"0,0,-,0\n1,7,0,1\n2,20,1,1\n0,0,3\n");
     }
     assert_eq!(printed(1_440), b"24\n");
     assert_eq!(program::feed(b"3,0,0\n0,1,7,600,600\n"), b"23\n");

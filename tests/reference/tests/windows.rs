@@ -3,16 +3,17 @@
 use reference::feed::{self, Asked, Lent, Spans};
 use reference::{store, NONE};
 
-/// Losses, spans and the three figures that a full call leaves.
+/// Losses, spans, joints and the three figures that a full call leaves.
 #[derive(Debug, PartialEq)]
 struct Left {
     best: Vec<u32>,
     last: Vec<u32>,
+    joints: Vec<u32>,
     figures: [u32; 3],
 }
 
-fn left(best: &[u32], last: &[u32], figures: [u32; 3]) -> Left {
-    Left { best: best.to_vec(), last: last.to_vec(), figures }
+fn left(best: &[u32], last: &[u32], joints: &[u32], figures: [u32; 3]) -> Left {
+    Left { best: best.to_vec(), last: last.to_vec(), joints: joints.to_vec(), figures }
 }
 
 struct Map {
@@ -32,25 +33,25 @@ impl Map {
     }
 
     fn at(&self, minute: u32) -> Left {
-        let (mut best, mut last) = (vec![7; self.places as usize], vec![7; self.places as usize]);
+        let [mut best, mut last, mut joints] = [(); 3].map(|()| vec![7; self.places as usize]);
         let mut words = vec![7; store::length(self.places as usize)];
-        let lent = Lent { best: &mut best, last: &mut last, words: &mut words };
+        let lent = Lent { best: &mut best, last: &mut last, joints: &mut joints, words: &mut words };
         let figures = feed::table(self.asked(minute), lent);
         assert_eq!((figures.code, words), (0, store::empty(self.places as usize)));
-        Left { best, last, figures: [figures.links, figures.cuts, figures.examined] }
+        Left { best, last, joints, figures: [figures.links, figures.cuts, figures.examined] }
     }
 
     /// What a call with a budget leaves, and the places that it lists.
     fn within(&self, minute: u32, budget: u32) -> (Left, Vec<u32>) {
-        let (mut best, mut last) = (vec![7; self.places as usize], vec![7; self.places as usize]);
+        let [mut best, mut last, mut joints] = [(); 3].map(|()| vec![7; self.places as usize]);
         let mut words = vec![7; store::length(self.places as usize)];
         let mut listed = vec![7; self.places as usize];
-        let lent = Lent { best: &mut best, last: &mut last, words: &mut words };
+        let lent = Lent { best: &mut best, last: &mut last, joints: &mut joints, words: &mut words };
         let within = feed::within(self.asked(minute), budget, lent, &mut listed);
         assert_eq!((within.figures.code, words), (0, store::empty(self.places as usize)));
         listed.truncate(within.listed as usize);
         let [links, cuts, examined, _] = within.numbers();
-        (Left { best, last, figures: [links, cuts, examined] }, listed)
+        (Left { best, last, joints, figures: [links, cuts, examined] }, listed)
     }
 }
 
@@ -62,9 +63,9 @@ fn worked() -> Map {
 #[test]
 fn the_papers_map() {
     let shown = [
-        ([0, 99, 500, 1_439], left(&[0, NONE, 20], &[NONE, NONE, 1], [0, 0, 2])),
-        ([100, 299, 400, 499], left(&[0, 7, 20], &[NONE, 0, 1], [0, 0, 3])),
-        ([300, 301, 398, 399], left(&[0, 7, 12], &[NONE, 0, 2], [0, 0, 3])),
+        ([0, 99, 500, 1_439], left(&[0, NONE, 20], &[NONE, NONE, 1], &[0, NONE, 1], [0, 0, 2])),
+        ([100, 299, 400, 499], left(&[0, 7, 20], &[NONE, 0, 1], &[0, 1, 1], [0, 0, 3])),
+        ([300, 301, 398, 399], left(&[0, 7, 12], &[NONE, 0, 2], &[0, 1, 2], [0, 0, 3])),
     ];
     for (minutes, expected) in shown {
         for minute in minutes {
@@ -76,12 +77,15 @@ fn the_papers_map() {
 #[test]
 fn the_papers_map_within_a_budget() {
     // The last span is closed, so that place 2 is beyond a budget that it is within at minute 300.
-    let far = left(&[0, 7, NONE], &[NONE, 0, NONE], [0, 0, 3]);
+    let far = left(&[0, 7, NONE], &[NONE, 0, NONE], &[0, 1, NONE], [0, 0, 3]);
     assert_eq!(worked().within(299, 12), (far, vec![0, 1]));
-    assert_eq!(worked().within(300, 12), (left(&[0, 7, 12], &[NONE, 0, 2], [0, 0, 3]), vec![0, 1, 2]));
-    assert_eq!(worked().within(300, 6), (left(&[0, NONE, NONE], &[NONE; 3], [0, 0, 2]), vec![0]));
-    assert_eq!(worked().within(99, 20), (left(&[0, NONE, 20], &[NONE, NONE, 1], [0, 0, 2]), vec![0, 2]));
-    assert_eq!(worked().within(99, 19), (left(&[0, NONE, NONE], &[NONE; 3], [0, 0, 2]), vec![0]));
+    let near = left(&[0, 7, 12], &[NONE, 0, 2], &[0, 1, 2], [0, 0, 3]);
+    assert_eq!(worked().within(300, 12), (near, vec![0, 1, 2]));
+    let start = || (left(&[0, NONE, NONE], &[NONE; 3], &[0, NONE, NONE], [0, 0, 2]), vec![0]);
+    assert_eq!(worked().within(300, 6), start());
+    let direct = left(&[0, NONE, 20], &[NONE, NONE, 1], &[0, NONE, 1], [0, 0, 2]);
+    assert_eq!(worked().within(99, 20), (direct, vec![0, 2]));
+    assert_eq!(worked().within(99, 19), start());
 }
 
 /// Of two parallel spans one closes at the minute at which the other opens: there is always exactly one.
@@ -89,7 +93,7 @@ fn the_papers_map_within_a_budget() {
 fn touching_windows() {
     let map = Map::new(2, &[[0, 1, 9, 0, 600], [0, 1, 4, 600, 1_440]]);
     for (minute, loss, span) in [(0, 9, 0), (599, 9, 0), (600, 4, 1), (1_439, 4, 1)] {
-        assert_eq!(map.at(minute), left(&[0, loss], &[NONE, span], [0, 0, 2]), "minute {minute}");
+        assert_eq!(map.at(minute), left(&[0, loss], &[NONE, span], &[0, 1], [0, 0, 2]), "minute {minute}");
     }
 }
 
@@ -99,8 +103,8 @@ fn one_minute() {
     for opens in [0, 720, 1_439] {
         let map = Map::new(2, &[[0, 1, 3, opens, opens + 1]]);
         for minute in [0, 719, 720, 721, 1_438, 1_439] {
-            let open = left(&[0, 3], &[NONE, 0], [0, 0, 1]);
-            let closed = left(&[0, NONE], &[NONE, NONE], [0, 0, 1]);
+            let open = left(&[0, 3], &[NONE, 0], &[0, 1], [0, 0, 1]);
+            let closed = left(&[0, NONE], &[NONE, NONE], &[0, NONE], [0, 0, 1]);
             assert_eq!(map.at(minute), if minute == opens { open } else { closed }, "{opens}, minute {minute}");
         }
     }
@@ -112,7 +116,8 @@ fn closed_spans_in_a_tie() {
     let spans = [[0, 1, 4, 0, 10], [0, 1, 4, 5, 20], [0, 1, 4, 0, 1_440], [2, 1, 1, 0, 1_440]];
     let map = Map::new(3, &spans);
     for (minute, span) in [(0, 0), (9, 0), (10, 1), (19, 1), (20, 2), (1_439, 2)] {
-        assert_eq!(map.at(minute), left(&[0, 4, NONE], &[NONE, span, NONE], [0, 0, 3]), "minute {minute}");
+        let expected = left(&[0, 4, NONE], &[NONE, span, NONE], &[0, 1, NONE], [0, 0, 3]);
+        assert_eq!(map.at(minute), expected, "minute {minute}");
     }
 }
 
@@ -125,18 +130,18 @@ fn closed_spans_make_no_calls() {
     assert_eq!(map.at(699).figures, [10, 0, 8]);
     assert_eq!(map.at(699).best, [0, 10, 20, 30, 40, 50, 60, 70, 80]);
     // Four wait: taking 1 links 3 and 5; taking 3 leaves 5 and 7, which are linked.
-    assert_eq!(
-        map.at(700),
-        left(&[0, 10, NONE, 30, NONE, 50, NONE, 70, NONE], &[NONE, 0, NONE, 2, NONE, 4, NONE, 6, NONE], [2, 0, 8],)
-    );
+    let (best, last) = ([0, 10, NONE, 30, NONE, 50, NONE, 70, NONE], [NONE, 0, NONE, 2, NONE, 4, NONE, 6, NONE]);
+    let joints = [0, 1, NONE, 1, NONE, 1, NONE, 1, NONE];
+    assert_eq!(map.at(700), left(&best, &last, &joints, [2, 0, 8]));
 }
 
 /// A start whose spans are all closed.
 #[test]
 fn nothing_open() {
     let map = Map::new(3, &[[0, 1, 1, 0, 1], [0, 2, 1, 0, 1], [1, 2, 1, 0, 1_440]]);
-    assert_eq!(map.at(1), left(&[0, NONE, NONE], &[NONE; 3], [0, 0, 2]));
-    assert_eq!(map.within(1, NONE), (left(&[0, NONE, NONE], &[NONE; 3], [0, 0, 2]), vec![0]));
+    let start = || left(&[0, NONE, NONE], &[NONE; 3], &[0, NONE, NONE], [0, 0, 2]);
+    assert_eq!(map.at(1), start());
+    assert_eq!(map.within(1, NONE), (start(), vec![0]));
     assert_eq!(map.at(0).best, [0, 1, 1]);
 }
 
@@ -145,6 +150,7 @@ fn nothing_open() {
 fn always_open() {
     let map = Map::new(3, &[[0, 1, 7, 0, 1_440], [0, 2, 20, 0, 1_440], [1, 2, 5, 0, 1_440]]);
     for minute in 0..1_440 {
-        assert_eq!(map.at(minute), left(&[0, 7, 12], &[NONE, 0, 2], [0, 0, 3]), "minute {minute}");
+        let expected = left(&[0, 7, 12], &[NONE, 0, 2], &[0, 1, 2], [0, 0, 3]);
+        assert_eq!(map.at(minute), expected, "minute {minute}");
     }
 }

@@ -1,7 +1,7 @@
 //! Feed calls with a budget.
 
 use super::feeds::{self, expect, Case, WORKED};
-use crate::check::{BudgetCall, Checker, Fed, FeedCall, Verdict};
+use crate::check::{BudgetCall, Checker, FeedCall, Full, Verdict, Within};
 use crate::engine::Part;
 use crate::maps;
 use crate::random::Random;
@@ -29,23 +29,23 @@ pub fn holds(law: bool, what: &str, call: &BudgetCall) -> Verdict {
     }
 }
 
-/// The scope paper's map: budget, places listed, losses, spans, and spans examined.
-type Worked = (u32, &'static [u32], [u32; 3], [u32; 3], u32);
+/// The scope paper's map: budget, places listed, losses, spans, joints, and spans examined.
+type Worked = (u32, &'static [u32], [u32; 3], [u32; 3], [u32; 3], u32);
 const WORKED_BUDGETS: [Worked; 6] = [
-    (0, &[0], [0, NONE, NONE], [NONE, NONE, NONE], 2),
-    (6, &[0], [0, NONE, NONE], [NONE, NONE, NONE], 2),
-    (7, &[0, 1], [0, 7, NONE], [NONE, 0, NONE], 3),
-    (11, &[0, 1], [0, 7, NONE], [NONE, 0, NONE], 3),
-    (12, &[0, 1, 2], [0, 7, 12], [NONE, 0, 2], 3),
-    (NONE, &[0, 1, 2], [0, 7, 12], [NONE, 0, 2], 3),
+    (0, &[0], [0, NONE, NONE], [NONE, NONE, NONE], [0, NONE, NONE], 2),
+    (6, &[0], [0, NONE, NONE], [NONE, NONE, NONE], [0, NONE, NONE], 2),
+    (7, &[0, 1], [0, 7, NONE], [NONE, 0, NONE], [0, 1, NONE], 3),
+    (11, &[0, 1], [0, 7, NONE], [NONE, 0, NONE], [0, 1, NONE], 3),
+    (12, &[0, 1, 2], [0, 7, 12], [NONE, 0, 2], [0, 1, 2], 3),
+    (NONE, &[0, 1, 2], [0, 7, 12], [NONE, 0, 2], [0, 1, 2], 3),
 ];
 
 pub fn worked(checker: &mut Checker) -> Verdict {
-    for (budget, places, losses, spans, examined) in WORKED_BUDGETS {
+    for (budget, places, losses, spans, joints, examined) in WORKED_BUDGETS {
         for more in [0, 1, 6] {
             let call = call(&maps::call(3, 0, &WORKED), budget, more);
             let left = checker.budget(&call)?;
-            let as_worked = left.places() == places && left.lists[0] == losses && left.lists[1] == spans;
+            let as_worked = left.places() == places && left.shows(&losses, &spans, &joints);
             let figures = [0, 0, examined, places.len() as u32];
             holds(as_worked && left.figures == figures, "another result than worked by hand", &call)?;
         }
@@ -68,29 +68,28 @@ pub fn every_budget(checker: &mut Checker, feed: &FeedCall, more: usize) -> Verd
     let full = checker.fed(feed)?;
     expect(full.code, 0, "full call")?;
     let mut fewest = 0;
-    for budget in budgets(&full.lists[0]) {
+    for budget in budgets(full.losses()) {
         let call = call(feed, budget, more);
         let left = checker.budget(&call)?;
         expect(left.code, 0, "call with a budget")?;
         holds(left.figures[3] >= fewest, "a larger budget lists fewer places", &call)?;
         fewest = left.figures[3];
         holds(is_full_table_within(&full, &left, budget), "not the full call's table within the budget", &call)?;
-        let all = left.figures[..3] == full.figures && left.lists[..3] == full.lists;
+        let all = left.figures[..3] == full.figures && left.lists[..4] == full.lists;
         holds(budget != NONE || all, "the largest budget is not as the full call", &call)?;
     }
     Ok(())
 }
 
 /// The places that the full call reaches within the budget are listed in order and have its entries; no other has one.
-fn is_full_table_within(full: &Fed<3>, left: &Fed<4>, budget: u32) -> bool {
-    let loss = |place: u32| full.lists[0][place as usize];
-    let entry = |lists: &[Vec<u32>], place: u32| (lists[0][place as usize], lists[1][place as usize]);
+fn is_full_table_within(full: &Full, left: &Within, budget: u32) -> bool {
+    let loss = |place: u32| full.losses()[place as usize];
     let within = |place: u32| loss(place) != NONE && loss(place) <= budget;
-    let shown = |place: u32| if within(place) { entry(&full.lists, place) } else { (NONE, NONE) };
-    let places = 0..full.lists[0].len() as u32;
+    let shown = |place: u32| if within(place) { full.entry(place) } else { [NONE; 3] };
+    let places = 0..full.losses().len() as u32;
     let mut listed: Vec<u32> = places.clone().filter(|&place| within(place)).collect();
     listed.sort_by_key(|&place| (loss(place), place));
-    left.places() == listed && places.clone().all(|place| entry(&left.lists, place) == shown(place))
+    left.places() == listed && places.clone().all(|place| left.entry(place) == shown(place))
 }
 
 pub fn limits(checker: &mut Checker) -> Verdict {
@@ -117,19 +116,22 @@ pub fn limits(checker: &mut Checker) -> Verdict {
 /// The faults of a call, in the order in which they are tested.
 const FAULTS: [u32; 10] = [14, 15, 24, 16, 17, 22, 18, 19, 20, 23];
 
+/// Makes a call on three places faulty, in one of several ways.
+pub fn make_faulty(call: &mut BudgetCall, code: u32, way: usize) {
+    match code {
+        22 => call.listed = [2, 0][way % 2],
+        code => feeds::make_faulty(&mut call.feed, code, way),
+    }
+}
+
 /// Every choice of faults at once: the one tested first gives the code.
 pub fn several_faults(checker: &mut Checker) -> Verdict {
     let good = maps::call(3, 0, &WORKED);
     for bits in 0..1 << FAULTS.len() {
         let faults = feeds::chosen(FAULTS, bits);
-        for way in 0..6 {
+        for way in 0..12 {
             let mut call = call(&good, 11, way % 4);
-            for &code in &faults {
-                match code {
-                    22 => call.listed = [2, 0][way % 2],
-                    code => feeds::make_faulty(&mut call.feed, code, way),
-                }
-            }
+            faults.iter().for_each(|&code| make_faulty(&mut call, code, way));
             expect(checker.budget(&call)?.code, faults.first().copied().unwrap_or(0), "several faults")?;
         }
     }
@@ -166,17 +168,17 @@ pub fn one_after_another(checker: &mut Checker) -> Verdict {
     let mut random = Random::new(19);
     for _ in 0..300 {
         let feed = maps::small(&mut random);
-        let losses = checker.fed(&feed)?.lists[0].clone();
+        let losses = checker.fed(&feed)?.losses().to_vec();
         let mut left = checker.budget(&call(&feed, 0, 3))?;
         for _ in 0..6 {
             let budget = *random.pick(&budgets(&losses));
             left = checker.budget_on(&call(&feed, budget, 3), left.lists)?;
-            if left.lists[2] != store::empty(feed.places as usize) {
+            if left.store() != store::empty(feed.places as usize) {
                 return Err("the store is not left empty".into());
             }
         }
         if checker.has(Part::Runs) {
-            checker.kept(&left.lists[2], b"T,0\nI,0,0,5\nM,0\nT,0\nT,0\n", 5 * 32)?;
+            checker.kept(left.store(), b"T,0\nI,0,0,5\nM,0\nT,0\nT,0\n", 5 * 32)?;
         }
     }
     Ok(())
@@ -211,7 +213,7 @@ pub fn large_maps(checker: &mut Checker) -> Verdict {
 
 /// Budgets around the losses of a few places, near and far.
 pub fn some_budgets(checker: &mut Checker, feed: &FeedCall) -> Verdict {
-    let mut losses = checker.fed(feed)?.lists[0].clone();
+    let mut losses = checker.fed(feed)?.losses().to_vec();
     losses.retain(|&loss| loss != NONE);
     losses.sort();
     for part in [1, 10, 50, 100] {

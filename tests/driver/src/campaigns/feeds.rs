@@ -18,7 +18,7 @@ pub fn worked(checker: &mut Checker) -> Verdict {
     for start in 0..3 {
         expect(checker.feed(&maps::call(3, start, &WORKED))?, 0, "worked map")?;
     }
-    // Ties: the lowest-numbered span counts, not the one met first.
+    // Ties: the lowest-numbered span of the shortest chains counts, not the one met first.
     let tie = [[0, 1, 5], [0, 2, 1], [0, 3, 2], [1, 4, 1], [2, 4, 5], [3, 4, 4]];
     checker.feed(&maps::call(5, 0, &tie))?;
     let late = [[0, 2, 3], [1, 3, 1], [2, 1, 4], [2, 3, 5], [2, 3, 5]];
@@ -66,7 +66,7 @@ pub fn limit_cases() -> Vec<Case> {
         let call = changed(&good, |call| {
             call.places = places;
             if places == 1 {
-                (call.best, call.last, call.words) = (1, 1, store::length(1));
+                (call.best, call.last, call.joints, call.words) = (1, 1, 1, store::length(1));
             }
         });
         cases.push(case(code, "places", call));
@@ -116,14 +116,14 @@ fn span_lists(good: &FeedCall) -> Vec<Case> {
 fn result_lists(good: &FeedCall) -> Vec<Case> {
     let mut cases = Vec::new();
     for length in [0, 2, 4] {
-        cases.push(case(17, "losses", changed(good, |call| call.best = length)));
-        cases.push(case(17, "spans", changed(good, |call| call.last = length)));
-        let both = changed(good, |call| {
-            call.best = length;
-            call.last = length;
-            call.loss[0] = 0;
-        });
-        cases.push(case(17, "both lists and a faulty span", both));
+        for list in 0..3 {
+            let call = changed(good, |call| *call.result_lengths()[list] = length);
+            let faulty_span = changed(&call, |call| call.loss[0] = 0);
+            cases.push(case(17, "losses, spans or joints", call));
+            cases.push(case(17, "losses, spans or joints, and a faulty span", faulty_span));
+        }
+        let all = changed(good, |call| call.result_lengths().into_iter().for_each(|list| *list = length));
+        cases.push(case(17, "all result lists", all));
     }
     for words in [0, 32, 48, 55, 57, 64] {
         cases.push(case(17, "store", changed(good, |call| call.words = words)));
@@ -208,7 +208,10 @@ pub fn make_faulty(feed: &mut FeedCall, code: u32, way: usize) {
         15 => feed.start = [3, NONE][way % 2],
         24 => feed.minute = [1_440, 1_441, NONE][way % 3],
         16 => feed.lists()[way % 5].push(1),
-        17 => *[&mut feed.best, &mut feed.last, &mut feed.words][way % 3] -= 1,
+        17 => match way % 4 {
+            3 => feed.words -= 1,
+            list => *feed.result_lengths()[list] -= 1,
+        },
         18 => [&mut feed.from, &mut feed.to][way % 2][2] = 3,
         19 => feed.loss[2] = [0, 1_000_001][way % 2],
         20 => feed.from[1] = feed.from[2] + 1,
@@ -225,7 +228,7 @@ pub fn chosen<const N: usize>(faults: [u32; N], bits: usize) -> Vec<u32> {
 pub fn several_faults(checker: &mut Checker) -> Verdict {
     for bits in 0..1 << FAULTS.len() {
         let faults = chosen(FAULTS, bits);
-        for way in 0..6 {
+        for way in 0..12 {
             let mut call = maps::call(3, 0, &WORKED);
             faults.iter().for_each(|&code| make_faulty(&mut call, code, way));
             expect(checker.feed(&call)?, faults.first().copied().unwrap_or(0), "several faults")?;

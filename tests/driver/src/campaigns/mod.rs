@@ -10,6 +10,7 @@ pub mod numbers;
 pub mod programs;
 pub mod runs;
 pub mod stores;
+pub mod ties;
 pub mod windows;
 
 use crate::check::{Checker, Verdict};
@@ -26,7 +27,7 @@ const fn campaign(part: Part, name: &'static str, run: fn(&mut Checker) -> Verdi
 }
 
 /// Quick ones first, so that a wrong engine is caught soon.
-pub const ALL: [Campaign; 55] = [
+pub const ALL: [Campaign; 69] = [
     campaign(Part::Modem, "modem: worked runs and limits", codes::modem),
     campaign(Part::Modem, "modem: zeros before every number", numbers::modem),
     campaign(Part::Modem, "modem: random sheets", runs::modem_sheets),
@@ -49,27 +50,40 @@ pub const ALL: [Campaign; 55] = [
     campaign(Part::Runs, "stores: large forests, ranks to 16", large_stores::large_forests),
     campaign(Part::Feed, "feed: worked run", feeds::worked),
     campaign(Part::Feed, "feed: worked windows", windows::worked),
+    campaign(Part::Feed, "feed: worked ties", ties::worked),
+    campaign(Part::Feed, "feed: lengths of the list of joints", ties::list_lengths),
     campaign(Part::Feed, "feed: two faulty spans, open or closed", windows::span_faults),
     campaign(Part::Feed, "feed: every choice of faults at once", feeds::several_faults),
     campaign(Part::Feed, "feed: codes 14 to 24 at their limits", feeds::limits),
     campaign(Part::Feed, "feed: windows open at every minute", windows::always_open),
+    campaign(Part::Feed, "feed: random ties", ties::random_maps),
+    campaign(Part::Feed, "feed: random ties with windows", ties::at_minutes),
+    campaign(Part::Feed, "feed: every map of four places", ties::every_map_of_four),
+    campaign(Part::Feed, "feed: every map of five places", ties::every_map_of_five),
     campaign(Part::Feed, "feed: random maps with windows", windows::random_maps),
     campaign(Part::Feed, "feed: random maps", feeds::random_maps),
     campaign(Part::Feed, "feed: faulty spans", feeds::faulty_spans),
     campaign(Part::Feed, "feed: large maps", feeds::large_maps),
     campaign(Part::Feed, "feed: large maps with windows", windows::large_maps),
+    campaign(Part::Feed, "feed: large maps full of ties", ties::large_maps),
     campaign(Part::Budget, "budget: worked runs", budgets::worked),
     campaign(Part::Budget, "budget: worked windows", windows::worked_within),
+    campaign(Part::Budget, "budget: worked ties", ties::worked_within),
+    campaign(Part::Budget, "budget: lengths of the list of joints", ties::list_lengths_within),
     campaign(Part::Budget, "budget: two faulty spans, open or closed", windows::span_faults_within),
     campaign(Part::Budget, "budget: codes 14 to 24 at their limits", budgets::limits),
     campaign(Part::Budget, "budget: every choice of faults at once", budgets::several_faults),
     campaign(Part::Budget, "budget: windows open at every minute", windows::always_open_within),
     campaign(Part::Budget, "budget: faulty spans, short lists", budgets::faulty_spans),
+    campaign(Part::Budget, "budget: random ties, around every loss", ties::random_within),
+    campaign(Part::Budget, "budget: random ties with windows", ties::within_at_minutes),
+    campaign(Part::Budget, "budget: ties on lists as found", ties::lists_as_found),
     campaign(Part::Budget, "budget: random maps with windows", windows::random_within),
     campaign(Part::Budget, "budget: random maps, around every loss", budgets::random_maps),
     campaign(Part::Budget, "budget: calls one after another", budgets::one_after_another),
     campaign(Part::Budget, "budget: large maps", budgets::large_maps),
     campaign(Part::Budget, "budget: large maps with windows", windows::large_within),
+    campaign(Part::Budget, "budget: large maps full of ties", ties::large_within),
     campaign(Part::Map, "map: numbers of a line", map_texts::lines),
     campaign(Part::Map, "map: one list shorter or longer", map_texts::one_list),
     campaign(Part::Map, "map: minutes and windows of any range", map_texts::ranges),
@@ -80,6 +94,7 @@ pub const ALL: [Campaign; 55] = [
     campaign(Part::QueueProgram, "queue program", programs::queue),
     campaign(Part::QueueProgram, "queue program: zeros before every number", numbers::queue_program),
     campaign(Part::FeedProgram, "feed program: windows", programs::feed_at_minutes),
+    campaign(Part::FeedProgram, "feed program: ties", programs::feed_with_ties),
     campaign(Part::FeedProgram, "feed program", programs::feed),
     campaign(Part::FeedProgram, "feed program: zeros before every number", numbers::feed_program),
 ];

@@ -2,7 +2,7 @@
 
 use super::codes;
 use super::feeds;
-use super::windows;
+use super::{ties, windows};
 use crate::check::{Checker, FeedCall, Verdict};
 use crate::malformed;
 use crate::maps;
@@ -140,4 +140,24 @@ pub fn feed_at_minutes(checker: &mut Checker) -> Verdict {
         }
     }
     Ok(())
+}
+
+/// The feed program on maps with chains of equal loss, some of them with windows, and on a chain of all its places.
+pub fn feed_with_ties(checker: &mut Checker) -> Verdict {
+    for text in ties::worked_texts() {
+        checker.feed_program(&text)?;
+    }
+    let mut random = Random::new(33);
+    for _ in 0..60 {
+        checker.feed_program(&maps::text_of(&maps::with_ties(&mut random, 12), false))?;
+    }
+    for _ in 0..12 {
+        let (call, minutes) = maps::with_ties_and_windows(&mut random);
+        for minute in minutes {
+            checker.feed_program(&maps::text_of(&FeedCall { minute, ..call.clone() }, false))?;
+        }
+    }
+    checker.feed_program(&maps::text(1024, 0, &maps::chain(1024, 1), false))?;
+    let (start, spans) = maps::heights(&mut random, 1024, 2_000, 5);
+    checker.feed_program(&maps::text(1024, start, &spans, false))
 }

@@ -7,43 +7,46 @@ use crate::maps;
 use crate::random::Random;
 use reference::NONE;
 
-/// Minutes, and the losses, spans and number of examined spans that a full call must give at each of them.
-type Row = (&'static [u32], &'static [u32], &'static [u32], u32);
+/// Minutes, and the losses, spans, joints and number of examined spans that a full call must give at each of them.
+type Row = (&'static [u32], &'static [u32], &'static [u32], &'static [u32], u32);
 
 /// Places, spans as (from, to, loss, opening, closing), and rows worked by hand; the start is 0.
 type Map = (u32, &'static [[u32; 5]], &'static [Row]);
 
-const WORKED_MAPS: [Map; 7] = [
+const WORKED_MAPS: [Map; 8] = [
     // The scope paper's map, each span with a window of its own.
     (
         3,
         &[[0, 1, 7, 100, 500], [0, 2, 20, 0, 1_440], [1, 2, 5, 300, 400]],
         &[
-            (&[0, 1, 99, 500, 501, 1_439], &[0, NONE, 20], &[NONE, NONE, 1], 2),
-            (&[100, 101, 299, 400, 499], &[0, 7, 20], &[NONE, 0, 1], 3),
-            (&[300, 301, 399], &[0, 7, 12], &[NONE, 0, 2], 3),
+            (&[0, 1, 99, 500, 501, 1_439], &[0, NONE, 20], &[NONE, NONE, 1], &[0, NONE, 1], 2),
+            (&[100, 101, 299, 400, 499], &[0, 7, 20], &[NONE, 0, 1], &[0, 1, 1], 3),
+            (&[300, 301, 399], &[0, 7, 12], &[NONE, 0, 2], &[0, 1, 2], 3),
         ],
     ),
     // One of two parallel spans closes when the other opens, and the dearer one is the first.
     (
         2,
         &[[0, 1, 9, 0, 600], [0, 1, 4, 600, 1_440]],
-        &[(&[0, 598, 599], &[0, 9], &[NONE, 0], 2), (&[600, 601, 1_439], &[0, 4], &[NONE, 1], 2)],
+        &[(&[0, 598, 599], &[0, 9], &[NONE, 0], &[0, 1], 2), (&[600, 601, 1_439], &[0, 4], &[NONE, 1], &[0, 1], 2)],
     ),
     // Spans one after another, of which one closes when the other opens: there is never a chain.
     (
         3,
         &[[0, 1, 1, 600, 1_440], [1, 2, 1, 0, 600]],
-        &[(&[0, 599], &[0, NONE, NONE], &[NONE; 3], 1), (&[600, 1_439], &[0, 1, NONE], &[NONE, 0, NONE], 2)],
+        &[
+            (&[0, 599], &[0, NONE, NONE], &[NONE; 3], &[0, NONE, NONE], 1),
+            (&[600, 1_439], &[0, 1, NONE], &[NONE, 0, NONE], &[0, 1, NONE], 2),
+        ],
     ),
     // Equal parallel spans: the lowest-numbered open one counts. The last span comes from an unreached place.
     (
         3,
         &[[0, 1, 4, 0, 10], [0, 1, 4, 5, 20], [0, 1, 4, 0, 1_440], [2, 1, 1, 0, 1_440]],
         &[
-            (&[0, 4, 5, 9], &[0, 4, NONE], &[NONE, 0, NONE], 3),
-            (&[10, 19], &[0, 4, NONE], &[NONE, 1, NONE], 3),
-            (&[20, 1_439], &[0, 4, NONE], &[NONE, 2, NONE], 3),
+            (&[0, 4, 5, 9], &[0, 4, NONE], &[NONE, 0, NONE], &[0, 1, NONE], 3),
+            (&[10, 19], &[0, 4, NONE], &[NONE, 1, NONE], &[0, 1, NONE], 3),
+            (&[20, 1_439], &[0, 4, NONE], &[NONE, 2, NONE], &[0, 1, NONE], 3),
         ],
     ),
     // Chains of equal loss: the span of the lower number is closed for a while, and so is one below it.
@@ -51,25 +54,46 @@ const WORKED_MAPS: [Map; 7] = [
         4,
         &[[0, 1, 2, 0, 700], [0, 2, 1, 0, 1_440], [1, 3, 1, 300, 1_440], [2, 3, 2, 0, 1_440]],
         &[
-            (&[0, 299], &[0, 2, 1, 3], &[NONE, 0, 1, 3], 4),
-            (&[300, 699], &[0, 2, 1, 3], &[NONE, 0, 1, 2], 4),
-            (&[700, 1_439], &[0, NONE, 1, 3], &[NONE, NONE, 1, 3], 3),
+            (&[0, 299], &[0, 2, 1, 3], &[NONE, 0, 1, 3], &[0, 1, 1, 2], 4),
+            (&[300, 699], &[0, 2, 1, 3], &[NONE, 0, 1, 2], &[0, 1, 1, 2], 4),
+            (&[700, 1_439], &[0, NONE, 1, 3], &[NONE, NONE, 1, 3], &[0, NONE, 1, 2], 3),
+        ],
+    ),
+    // Chains of equal loss: the shorter one ends in one of two spans of higher numbers, both of which are closed for an
+    // hour.
+    (
+        5,
+        &[
+            [0, 3, 1, 0, 1_440],
+            [0, 4, 2, 0, 1_440],
+            [1, 2, 1, 0, 1_440],
+            [3, 1, 1, 0, 1_440],
+            [4, 2, 1, 0, 600],
+            [4, 2, 1, 660, 1_440],
+        ],
+        &[
+            (&[0, 599], &[0, 2, 3, 1, 2], &[NONE, 3, 4, 0, 1], &[0, 2, 2, 1, 1], 6),
+            (&[600, 659], &[0, 2, 3, 1, 2], &[NONE, 3, 2, 0, 1], &[0, 2, 3, 1, 1], 6),
+            (&[660, 1_439], &[0, 2, 3, 1, 2], &[NONE, 3, 5, 0, 1], &[0, 2, 2, 1, 1], 6),
         ],
     ),
     // A start whose spans are all closed, but for one minute; self spans and spans into the start.
     (
         3,
         &[[0, 0, 1, 720, 721], [0, 1, 1, 720, 721], [0, 2, 3, 720, 721], [1, 0, 1, 0, 1_440], [2, 2, 1, 0, 1_440]],
-        &[(&[0, 719, 721, 1_439], &[0, NONE, NONE], &[NONE; 3], 3), (&[720], &[0, 1, 3], &[NONE, 1, 2], 5)],
+        &[
+            (&[0, 719, 721, 1_439], &[0, NONE, NONE], &[NONE; 3], &[0, NONE, NONE], 3),
+            (&[720], &[0, 1, 3], &[NONE, 1, 2], &[0, 1, 1], 5),
+        ],
     ),
     // The first and the last minute of the day.
     (
         3,
         &[[0, 1, 1, 0, 1], [0, 2, 1, 1_439, 1_440]],
         &[
-            (&[0], &[0, 1, NONE], &[NONE, 0, NONE], 2),
-            (&[1, 720, 1_438], &[0, NONE, NONE], &[NONE; 3], 2),
-            (&[1_439], &[0, NONE, 1], &[NONE, NONE, 1], 2),
+            (&[0], &[0, 1, NONE], &[NONE, 0, NONE], &[0, 1, NONE], 2),
+            (&[1, 720, 1_438], &[0, NONE, NONE], &[NONE; 3], &[0, NONE, NONE], 2),
+            (&[1_439], &[0, NONE, 1], &[NONE, NONE, 1], &[0, NONE, 1], 2),
         ],
     ),
 ];
@@ -85,14 +109,15 @@ pub fn worked_calls() -> impl Iterator<Item = (FeedCall, Row)> {
 }
 
 /// The table and the count of a row.
-fn shows(lists: &[Vec<u32>], examined: u32, (_, losses, spans, count): Row) -> bool {
-    lists[0] == losses && lists[1] == spans && examined == count
+fn shows<const FIGURES: usize, const LISTS: usize>(left: &Fed<FIGURES, LISTS>, row: Row) -> bool {
+    let (_, losses, spans, joints, examined) = row;
+    left.shows(losses, spans, joints) && left.figures[2] == examined
 }
 
 pub fn worked(checker: &mut Checker) -> Verdict {
     for (call, row) in worked_calls() {
         let left = checker.fed(&call)?;
-        law(shows(&left.lists, left.figures[2], row), "another table than worked by hand", &call)?;
+        law(shows(&left, row), "another table than worked by hand", &call)?;
     }
     Ok(())
 }
@@ -101,13 +126,13 @@ pub fn worked_within(checker: &mut Checker) -> Verdict {
     for (feed, row) in worked_calls() {
         let call = budgets::call(&feed, NONE, 2);
         let left = checker.budget(&call)?;
-        holds(shows(&left.lists, left.figures[2], row), "another table than worked by hand", &call)?;
+        holds(shows(&left, row), "another table than worked by hand", &call)?;
         every_budget(checker, &feed, 1)?;
     }
     Ok(())
 }
 
-fn law(holds: bool, what: &str, call: &FeedCall) -> Verdict {
+pub fn law(holds: bool, what: &str, call: &FeedCall) -> Verdict {
     match holds {
         true => Ok(()),
         false => Err(format!("{what}; {call:?}").chars().take(600).collect()),
@@ -170,7 +195,7 @@ pub fn span_faults_within(checker: &mut Checker) -> Verdict {
     Ok(())
 }
 
-fn same_left<const N: usize>(a: &Fed<N>, b: &Fed<N>) -> bool {
+fn same_left<const FIGURES: usize, const LISTS: usize>(a: &Fed<FIGURES, LISTS>, b: &Fed<FIGURES, LISTS>) -> bool {
     a.code == b.code && a.figures == b.figures && a.lists == b.lists
 }
 
@@ -233,14 +258,14 @@ fn open_spans(call: &FeedCall) -> Vec<usize> {
 }
 
 /// A call leaves what one on its open spans alone leaves, but for their numbers and for the count of examined ones.
-fn as_the_open_spans_alone(checker: &mut Checker, call: &FeedCall) -> Verdict {
+pub fn as_the_open_spans_alone(checker: &mut Checker, call: &FeedCall) -> Verdict {
     let left = checker.fed(call)?;
     let numbers = open_spans(call);
     let spans: Vec<[u32; 3]> = numbers.iter().map(|&span| [call.from[span], call.to[span], call.loss[span]]).collect();
     let alone = checker.fed(&maps::call(call.places, call.start, &spans))?;
     let renumbered = |&span: &u32| if span == NONE { NONE } else { numbers[span as usize] as u32 };
-    let spans: Vec<u32> = alone.lists[1].iter().map(renumbered).collect();
-    let same = left.lists[0] == alone.lists[0] && left.lists[1] == spans && left.figures[..2] == alone.figures[..2];
+    let spans: Vec<u32> = alone.spans().iter().map(renumbered).collect();
+    let same = left.shows(alone.losses(), &spans, alone.joints()) && left.figures[..2] == alone.figures[..2];
     law(same, "another table than that of the open spans alone", call)
 }
 

@@ -2,12 +2,14 @@
 
 mod budgets;
 mod feeds;
+mod joints;
 mod lines;
 mod maps;
 mod numbers;
 mod places;
 mod programs;
 mod runs;
+mod search;
 mod windows;
 
 use crate::engine::{BudgetLists, Engine, FeedLists, Part};
@@ -58,8 +60,26 @@ variants! {
         MarkedSecondChildRefused;
     // Feed calls.
     [Feed]
-        TableOfAllNone FixedTable ZeroLossAccepted FirstSpanFound FeedStoreLeftFull FeedStoreLeftAsFound
-        FeedCountsZero FeedListsTouchedOnRefusal StartShowsASpan OrderTestedBeforeLoss;
+        TableOfAllNone FixedTable ZeroLossAccepted FeedStoreLeftFull FeedStoreLeftAsFound FeedCountsZero
+        FeedListsTouchedOnRefusal StartShowsASpan OrderTestedBeforeLoss;
+    // Chains of equal loss: which one is shown. In the part of one call only that call has the fault.
+    [Feed Budget FeedProgram]
+        FirstSpanFound LowestSpanOfEqualLoss LowestSpanWithFewestJoints LongerChainPreferred FewerJointsBeforeSmallerLoss
+        HighestSpanOfEqualChains FirstSpanOfEqualChains LastSpanOfEqualChains ClosedSpansInTies;
+    // Joints: what is shown.
+    [Feed Budget FeedProgram]
+        JointsLeftOnTies SpanLeftOnTies JointsLeftOnLowering FewestJointsOfAnyOffer JointsOneMore
+        JointsOneMoreButAtTheStart InnerJointsCounted JointsAlwaysOne StartJointsNone StartJointsOne UnreachedJointsZero
+        JointsCutTo8Bits SpansAndJointsExchanged;
+    [Feed Budget] JointsCutTo11Bits;
+    [Budget] WaitingJointsShown JointsBeyondTheBudgetShown ListByJointsOnTies;
+    // An equal loss that makes a queue call, or is counted.
+    [Feed Budget FeedProgram] TiePutInAnew JointsInTheKey TieCountedAsCut TieCountedAsExamined;
+    // The list of joints: its length, and what a refusal leaves.
+    [Feed Budget]
+        JointListNotTested LongerJointListAccepted ShorterJointListAccepted JointListTestedFirst
+        JointListTestedBeforeSpanLists JointListTestedAfterSpans JointsTouchedOnRefusal JointsFilledBeforeSpans;
+    [Budget] JointListTestedAfterPlaceList;
     // Feed calls with a budget: which places, and in which order.
     [Budget]
         PlaceAtTheBudgetLeftOut PlaceBeyondTheBudgetListed UnreachedPlacesListed ListByPlace
@@ -100,7 +120,9 @@ variants! {
     // Programs.
     [QueueProgram FeedProgram] ProgramOmitsLastLineEnd ProgramReadsOneByteLess;
     [QueueProgram] ProgramHoldsOneItemMore;
-    [FeedProgram] ProgramShowsNoneAsNumber ProgramHoldsOnePlaceMore ProgramHoldsOneSpanMore;
+    [FeedProgram]
+        ProgramShowsNoneAsNumber ProgramHoldsOnePlaceMore ProgramHoldsOneSpanMore ProgramShowsJointsBeforeSpan
+        ProgramShowsJointsBeforeLoss ProgramShowsZeroForNoJoints ProgramShowsNoJointsAtTheStart ProgramOmitsJoints;
 }
 
 use Variant::*;
