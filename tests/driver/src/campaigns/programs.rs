@@ -132,14 +132,8 @@ pub fn feed_at_minutes(checker: &mut Checker) -> Verdict {
     for count in [4_096, 4_097] {
         checker.feed_program(&maps::text_at(2, 0, 1_440, &vec![[0, 1, 9, 5, 5]; count], false))?;
     }
-    let mut random = Random::new(26);
-    for _ in 0..8 {
-        let (call, minutes) = maps::with_windows(&mut random);
-        for minute in minutes {
-            checker.feed_program(&maps::text_of(&FeedCall { minute, ..call.clone() }, false))?;
-        }
-    }
-    Ok(())
+    let tried = |call: &FeedCall| checker.feed_program(&maps::text_of(call, false));
+    windows::at_their_minutes(&mut Random::new(26), 8, maps::with_windows, tried)
 }
 
 /// The feed program on maps with chains of equal loss, some of them with windows, and on a chain of all its places.
@@ -151,12 +145,8 @@ pub fn feed_with_ties(checker: &mut Checker) -> Verdict {
     for _ in 0..60 {
         checker.feed_program(&maps::text_of(&maps::with_ties(&mut random, 12), false))?;
     }
-    for _ in 0..12 {
-        let (call, minutes) = maps::with_ties_and_windows(&mut random);
-        for minute in minutes {
-            checker.feed_program(&maps::text_of(&FeedCall { minute, ..call.clone() }, false))?;
-        }
-    }
+    let tried = |call: &FeedCall| checker.feed_program(&maps::text_of(call, false));
+    windows::at_their_minutes(&mut random, 12, maps::with_ties_and_windows, tried)?;
     checker.feed_program(&maps::text(1024, 0, &maps::chain(1024, 1), false))?;
     let (start, spans) = maps::heights(&mut random, 1024, 2_000, 5);
     checker.feed_program(&maps::text(1024, start, &spans, false))

@@ -2,7 +2,7 @@
 
 use super::budgets::{self, every_budget, holds, some_budgets};
 use super::feeds::{self, expect, WORKED};
-use super::windows::{as_the_open_spans_alone, law};
+use super::windows::{as_the_open_spans_alone, at_their_minutes, law};
 use crate::check::{BudgetCall, Checker, FeedCall, Verdict};
 use crate::maps;
 use crate::random::Random;
@@ -210,14 +210,8 @@ pub fn random_maps(checker: &mut Checker) -> Verdict {
 }
 
 pub fn at_minutes(checker: &mut Checker) -> Verdict {
-    let mut random = Random::new(28);
-    for _ in 0..1_000 {
-        let (call, minutes) = maps::with_ties_and_windows(&mut random);
-        for minute in minutes {
-            as_the_open_spans_alone(checker, &FeedCall { minute, ..call.clone() })?;
-        }
-    }
-    Ok(())
+    let tried = |call: &FeedCall| as_the_open_spans_alone(checker, call);
+    at_their_minutes(&mut Random::new(28), 1_000, maps::with_ties_and_windows, tried)
 }
 
 pub fn random_within(checker: &mut Checker) -> Verdict {
@@ -234,14 +228,8 @@ pub fn random_within(checker: &mut Checker) -> Verdict {
 }
 
 pub fn within_at_minutes(checker: &mut Checker) -> Verdict {
-    let mut random = Random::new(30);
-    for _ in 0..300 {
-        let (feed, minutes) = maps::with_ties_and_windows(&mut random);
-        for minute in minutes {
-            every_budget(checker, &FeedCall { minute, ..feed.clone() }, 1)?;
-        }
-    }
-    Ok(())
+    let tried = |feed: &FeedCall| every_budget(checker, feed, 1);
+    at_their_minutes(&mut Random::new(30), 300, maps::with_ties_and_windows, tried)
 }
 
 /// A square of places with spans to the right and down, and across two of them at the same loss; its sides have `side`

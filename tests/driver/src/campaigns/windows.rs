@@ -240,15 +240,25 @@ pub fn always_open_within(checker: &mut Checker) -> Verdict {
     Ok(())
 }
 
-pub fn random_maps(checker: &mut Checker) -> Verdict {
-    let mut random = Random::new(23);
-    for _ in 0..1_500 {
-        let (call, minutes) = maps::with_windows(&mut random);
+/// Tries so many maps, each at all the minutes that are made with it.
+pub fn at_their_minutes(
+    random: &mut Random,
+    count: usize,
+    map: fn(&mut Random) -> (FeedCall, Vec<u32>),
+    mut tried: impl FnMut(&FeedCall) -> Verdict,
+) -> Verdict {
+    for _ in 0..count {
+        let (call, minutes) = map(random);
         for minute in minutes {
-            as_the_open_spans_alone(checker, &FeedCall { minute, ..call.clone() })?;
+            tried(&FeedCall { minute, ..call.clone() })?;
         }
     }
     Ok(())
+}
+
+pub fn random_maps(checker: &mut Checker) -> Verdict {
+    let tried = |call: &FeedCall| as_the_open_spans_alone(checker, call);
+    at_their_minutes(&mut Random::new(23), 1_500, maps::with_windows, tried)
 }
 
 /// The numbers of the spans that are open at the call's minute.
