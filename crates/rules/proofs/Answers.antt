@@ -4,7 +4,7 @@ use mathlib.Core.List.{List, [], _∷_, _++_}
 use Rattle.rules.specs.declared.Line.{Line}
 use Rattle.rules.specs.Answers.{after, answer, answers}
 use Rattle.rules.specs.Forests.{Forests}
-use Rattle.rules.specs.Theorems.{InRange}
+pub use Rattle.rules.specs.Theorems.{AllInRange}
 use Rattle.rules.specs.WellFormed.{WellFormed}
 use Rattle.rules.proofs.KeepsWellFormed.{keepsWellFormed}
 
@@ -17,11 +17,6 @@ pub answers-append : (s : Forests) (a b : List Line) → answers s (a ++ b) ≡ 
 unfolding answers after
 answers-append s [] b = refl
 answers-append s (l ∷ a) b = ap (λ r. (answer s l) .reply ∷ r) (answers-append ((answer s l) .next) a b)
-
--- every line's numbers are words
-abbrev pub AllInRange : List Line → Type 0
-AllInRange [] = Unit {0}
-AllInRange (l ∷ ls) = InRange l × AllInRange ls
 
 pub after-well-formed : (s : Forests) → WellFormed s → (ls : List Line) → AllInRange ls → WellFormed (after s ls)
 unfolding after

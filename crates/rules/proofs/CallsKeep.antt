@@ -9,7 +9,7 @@ use borrow.Author.Tests.{eqb-true, eqb-false, ne-eqb, not-true, not-false}
 use Rattle.rules.specs.declared.Line.{Line}
 use Rattle.rules.specs.declared.Line.the-variants.{NoCall, Yields}
 use Rattle.rules.specs.declared.Call.{Call}
-use Rattle.rules.specs.declared.Call.the-variants.{DecreaseKey, Delete, ExtractMin, FindMin, Insert, Meld}
+use Rattle.rules.specs.declared.Call.the-variants.{DecreaseKey, Delete, ExtractMin, FindMin, Insert, Meld, Raise}
 use Rattle.rules.specs.Answers.{answer, refusal, refused, unlessRefused}
 use Rattle.rules.specs.Calls.{Outcome, decreaseKey, delete, deleteAs, extract, hasParent, perform, removeRoot}
 use Rattle.rules.specs.Cut.{Cuts, cutIf}
@@ -45,6 +45,7 @@ use Rattle.rules.proofs.Minimum.{minimum-root}
 use Rattle.rules.proofs.Occurs.{byItem}
 use Rattle.rules.proofs.Order.{precedes-irrefl, precedes-total}
 use Rattle.rules.proofs.Potential.{extract-potential, insert-potential, meld-potential, removeRoot-potential}
+use Rattle.rules.proofs.RaiseKeeps.{raise-formed, raise-potential}
 use Rattle.rules.proofs.RankBound.{rank-le}
 use Rattle.rules.proofs.Refusals.{decrease-ok, delete-ok, extract-ok, insert-ok, meld-ok}
 use Rattle.rules.proofs.RemoveRootKeeps.{remove-formed}
@@ -188,6 +189,7 @@ perform-kept s S (Meld a b) e =
       formed = meld-formed s (S .disjoint) a b (o .0) (o .1) (o .2) (S .ordered) (S .ranked);
       paid = omega (arith, meld-potential a b s (o .2));
     }
+perform-kept s S (Raise h d) e = record { formed = raise-formed h d s S; paid = omega (arith, raise-potential h d s) }
 
 pub answer-kept : (s : Forests) → Formed s → (l : Line) → CallKept s (answer s l) (allowance s l)
 unfolding answer allowance unlessRefused refused ifDone

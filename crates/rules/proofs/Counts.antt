@@ -10,9 +10,10 @@ use borrow.Author.Tests.{ne-eqb}
 use Rattle.rules.specs.Calls.{meld, moveHeap}
 use Rattle.rules.specs.Forests.{Forests, count, heapOf, tableSize}
 use Rattle.rules.specs.Lists.{delta, sumBy}
+use Rattle.rules.proofs.MeldKeeps.{moved-b, moved-other}
 use Rattle.rules.proofs.Members.{heap-in}
 use Rattle.rules.proofs.Occurs.{byItem, eqb-self}
-use Rattle.rules.proofs.Sums.{sumBy-map, sumBy-set, sumBy-two}
+use Rattle.rules.proofs.Sums.{sumBy-cong, sumBy-map, sumBy-set, sumBy-two, sumBy-zero}
 
 -- 1 for a heap field that names heap g
 unfoldable pub inHeap : ℕ → ℕ → ℕ
@@ -52,7 +53,23 @@ unfolding count inHeap
 count-entered s t h i g j e z =
     rw z (omega (arith, count-set s g i (suc h) j, in-free g, ap (inHeap g) e, in-heap g h))
 
--- after melding, heap a has the items of both
+-- after melding, heap b has no items, and a heap other than both has those that it had
+pub count-melded : (s : Forests) (a b : ℕ) → a ≢ b → count (meld a b s) b ≡ 0
+unfolding count meld inHeap
+count-melded s a b n = sumBy-map (inHeap b) (moveHeap a b) (s .heap) ∙ sumBy-zero _ (s .heap) each
+  where
+    each : (v : ℕ) → inHeap b (moveHeap a b v) ≡ 0
+    each v = rw (moved-b a b n v)
+
+pub count-apart : (s : Forests) (a b g : ℕ) → g ≢ a → g ≢ b → count (meld a b s) g ≡ count s g
+unfolding count meld inHeap
+count-apart s a b g m n =
+    sumBy-map (inHeap g) (moveHeap a b) (s .heap) ∙ sumBy-cong _ (inHeap g) (s .heap) each
+  where
+    each : (v : ℕ) → inHeap g (moveHeap a b v) ≡ inHeap g v
+    each v = rw (moved-other a b g m n v)
+
+-- heap a has the items of both
 pub count-meld : (s : Forests) (a b : ℕ) → a ≢ b → count (meld a b s) a ≡ count s a + count s b
 unfolding count meld moveHeap inHeap
 count-meld s a b n =

@@ -1,26 +1,29 @@
--- The forests are read back from their words, so the words determine the forests.
-use Prim.Native.Nat.{ℕ, zero, suc, _+_, _*_, _≤_, _<_}
+-- The queues are read back from their words, so the words determine the queues.
+use Prim.Native.Nat.{ℕ, zero, suc, _+_, _-_, _*_, _≤_, _<_}
 use mathlib.Core.Path.{_≡_, refl, sym, ap, _∙_}
 use mathlib.Core.Logic.{_≢_}
 use mathlib.Core.List.{List, []}
-use mathlib.Core.Bool.{cond}
+use mathlib.Core.Bool.{cond, false}
 use native.Mathlib.Omega.{arith}
 use lib.ListN.{length}
 use lib.Dec.{eqb}
 use borrow.Author.Tests.{ne-eqb}
 use Rattle.rules.specs.declared.Field.{Field}
-use Rattle.rules.specs.declared.Field.the-variants.{FirstChild, FirstTree, Key, Next, Parent, State}
-use Rattle.rules.specs.Forests.{Forests, childrenOf, heapOf, markOf, none, rowOf, tableSize}
-use Rattle.rules.specs.Lists.{occurs}
+use Rattle.rules.specs.declared.Field.the-variants.{Amount, FirstChild, FirstTree, Key, Next, Parent, State}
+use Rattle.rules.specs.Forests.{Forests, childrenOf, heapOf, keyOf, markOf, none, rowOf, tableSize}
+use Rattle.rules.specs.Lists.{occurs, tabulate}
+use Rattle.rules.specs.Queues.{Queues, amountOf, keyFrom, keyWord}
 use Rattle.rules.specs.Theorems.{DecodeEncode, EncodeInjective, EncodeLength}
-use Rattle.rules.specs.WellFormed.{Disjoint}
+use Rattle.rules.specs.WellFormed.{Disjoint, KeysFit}
 use Rattle.rules.specs.Words.{
   decode,
+  decodeForests,
   encode,
   headOr,
   listFrom,
   look,
   fieldSize,
+  readKey,
   siblings,
   stateHeap,
   stateMark,
@@ -28,7 +31,9 @@ use Rattle.rules.specs.Words.{
   storeSize,
   unlessFree,
   word,
+  wordsWith,
 }
+use Rattle.rules.proofs.KeyWords.{keyWords}
 use Rattle.rules.proofs.Follow.{follow-list, once-short}
 use Rattle.rules.proofs.Members.{free-children, heap-in}
 use Rattle.rules.proofs.SiblingLists.{list-inside, once-children, once-row, siblings-children, siblings-row}
@@ -49,101 +54,149 @@ unfolding stateMark stateOf
 state-mark zero m k f = sym (f refl)
 state-mark (suc h) m k f = let e : 1 + 2 * h + m ≡ suc (2 * h + m) = omega arith in rw e (omega arith)
 
-pub encode-length : (s : Forests) → length (encode s) ≡ storeSize (tableSize s)
-unfolding encode
-encode-length s = length-wordsOf (tableSize s) (word s)
+state-free : (m : ℕ) → stateOf 0 m ≡ 0
+unfolding stateOf
+state-free m = refl
+
+state-live : (h m : ℕ) → eqb (stateOf (suc h) m) 0 ≡ false
+unfolding stateOf
+state-live h m = ne-eqb (1 + 2 * h + m) 0 (λ z. omega arith)
+
+pub encode-length : (q : Queues) → length (encode q) ≡ storeSize (tableSize (q .forests))
+unfolding encode wordsWith
+encode-length q = length-wordsOf (tableSize (q .forests)) (word (amountOf q) (q .forests))
 
 pub encodeLength : EncodeLength
 encodeLength = encode-length
 
-module _ (s : Forests) (D : Disjoint s) where
-  looks : (f : Field) (i : ℕ) → i < fieldSize (tableSize s) f → look (tableSize s) (encode s) f i ≡ word s f i
-  unfolding encode
-  looks f i h = look-wordsOf (tableSize s) (word s) f i h
+module _ (q : Queues) (D : Disjoint (q .forests)) where
+  abbrev s : Forests
+  s = q .forests
+
+  abbrev n : ℕ
+  n = tableSize s
+
+  abbrev w : List ℕ
+  w = encode q
+
+  looks : (f : Field) (i : ℕ) → i < fieldSize n f → look n w f i ≡ word (amountOf q) s f i
+  unfolding encode wordsWith
+  looks f i h = look-wordsOf n (word (amountOf q) s) f i h
 
   read-list : (l : List ℕ) → Once l → ((y : ℕ) → 1 ≤ occurs y l → (heapOf s y ≢ 0) × (siblings s y ≡ l))
-      → listFrom (tableSize s) (encode s) (headOr none l) ≡ l
+      → listFrom n w (headOr none l) ≡ l
   unfolding listFrom word unlessFree
   read-list l o f =
       let out = list-inside s D l (λ y i. f y i .0) in
-      follow-list (tableSize s) (look (tableSize s) (encode s) Next) l (once-short (tableSize s) l o out) o
+      follow-list n (look n w Next) l (once-short n l o out) o
       (out none (omega (arith, D .small)))
       (λ y i.
       let e = f y i in
       looks Next y (heap-in s y (e .0)) ∙ rw (ne-eqb (heapOf s y) 0 (e .0), e .1))
 
-  rows-again : (decode (tableSize s) (encode s)) .rows ≡ s .rows
-  unfolding decode word
+  rows-again : (decodeForests n w) .rows ≡ s .rows
+  unfolding decodeForests word
   rows-again =
-      tabulate-is [] 8 (λ h. listFrom (tableSize s) (encode s) (look (tableSize s) (encode s) FirstTree h)) (s .rows)
+      tabulate-is [] 8 (λ h. listFrom n w (look n w FirstTree h)) (s .rows)
       (D .rows8) (λ h k.
-      ap (listFrom (tableSize s) (encode s)) (looks FirstTree h k)
+      ap (listFrom n w) (looks FirstTree h k)
       ∙ read-list (rowOf s h) (once-row s D h) (siblings-row s D h))
 
-  children-at : (i : ℕ) → i < tableSize s
-      → cond (eqb (look (tableSize s) (encode s) State i) 0) []
-      (listFrom (tableSize s) (encode s) (look (tableSize s) (encode s) FirstChild i))
+  children-at : (i : ℕ) → i < n
+      → cond (eqb (look n w State i) 0) []
+      (listFrom n w (look n w FirstChild i))
       ≡ childrenOf s i
   unfolding word unlessFree stateOf
   children-at i k = rw (looks State i k, looks FirstChild i k) (go (heapOf s i) refl)
     where
       go : (v : ℕ) → heapOf s i ≡ v
           → cond (eqb (stateOf v (markOf s i)) 0) []
-          (listFrom (tableSize s) (encode s) (cond (eqb v 0) 0 (headOr none (childrenOf s i))))
+          (listFrom n w (cond (eqb v 0) 0 (headOr none (childrenOf s i))))
           ≡ childrenOf s i
       go zero e = sym (free-children s D i k e)
       go (suc h) e =
           rw (ne-eqb (1 + 2 * h + markOf s i) 0 (λ z. omega arith), ne-eqb (suc h) 0 (λ z. omega arith))
           (read-list (childrenOf s i) (once-children s D i k) (siblings-children s D i k))
 
-  children-again : (decode (tableSize s) (encode s)) .children ≡ s .children
-  unfolding decode
+  children-again : (decodeForests n w) .children ≡ s .children
+  unfolding decodeForests
   children-again =
-      tabulate-is [] (tableSize s)
+      tabulate-is [] n
       (λ i.
-      cond (eqb (look (tableSize s) (encode s) State i) 0) []
-      (listFrom (tableSize s) (encode s) (look (tableSize s) (encode s) FirstChild i)))
+      cond (eqb (look n w State i) 0) []
+      (listFrom n w (look n w FirstChild i)))
       (s .children) (D .childrenN) children-at
 
-  parent-again : (decode (tableSize s) (encode s)) .parent ≡ s .parent
-  unfolding decode word
+  parent-again : (decodeForests n w) .parent ≡ s .parent
+  unfolding decodeForests word
   parent-again =
-      tabulate-is 0 (tableSize s) (look (tableSize s) (encode s) Parent) (s .parent) (D .parentN) (looks Parent)
+      tabulate-is 0 n (look n w Parent) (s .parent) (D .parentN) (looks Parent)
 
-  key-again : (decode (tableSize s) (encode s)) .key ≡ s .key
-  unfolding decode word
-  key-again = tabulate-is 0 (tableSize s) (look (tableSize s) (encode s) Key) (s .key) (D .keyN) (looks Key)
+  -- an item of heap g has its key by the amount of g, and a free item has key 0
+  key-at : KeysFit s → (i : ℕ) → i < n → readKey n w i ≡ keyOf s i
+  unfolding readKey word unlessFree KeysFit
+  key-at fit i k = rw (looks State i k, looks Key i k) (go (heapOf s i) refl)
+    where
+      go : (v : ℕ) → heapOf s i ≡ v
+          → cond (eqb (stateOf v (markOf s i)) 0) 0
+          (keyFrom (look n w Amount (stateHeap (stateOf v (markOf s i)) - 1))
+          (cond (eqb v 0) 0 (keyWord (amountOf q (v - 1)) (keyOf s i))))
+          ≡ keyOf s i
+      go zero e = rw (state-free (markOf s i)) (sym (D .free i e .0))
+      go (suc g) e =
+          let h : stateHeap (stateOf (suc g) (markOf s i)) - 1 ≡ g =
+          omega (arith, state-heap (suc g) (markOf s i) (D .bit i)) in
+          let z : suc g - 1 ≡ g = omega arith in
+          let a = looks Amount g (omega (arith, e, D .heaps i)) in
+          rw (state-live g (markOf s i), ne-eqb (suc g) 0 (λ v. omega arith), h, z, a)
+          (keyWords .keyBack (amountOf q g) (keyOf s i) (fit i))
 
-  mark-again : (decode (tableSize s) (encode s)) .mark ≡ s .mark
-  unfolding decode word
+  key-again : KeysFit s → (decodeForests n w) .key ≡ s .key
+  unfolding decodeForests
+  key-again fit = tabulate-is 0 n (readKey n w) (s .key) (D .keyN) (key-at fit)
+
+  mark-again : (decodeForests n w) .mark ≡ s .mark
+  unfolding decodeForests word
   mark-again =
-      tabulate-is 0 (tableSize s) (λ i. stateMark (look (tableSize s) (encode s) State i)) (s .mark) (D .markN) (λ i k.
+      tabulate-is 0 n (λ i. stateMark (look n w State i)) (s .mark) (D .markN) (λ i k.
       ap stateMark (looks State i k)
       ∙ state-mark (heapOf s i) (markOf s i) (D .bit i) (λ e. D .free i e .2))
 
-  heap-again : (decode (tableSize s) (encode s)) .heap ≡ s .heap
-  unfolding decode word
+  heap-again : (decodeForests n w) .heap ≡ s .heap
+  unfolding decodeForests word
   heap-again =
-      tabulate-is 0 (tableSize s) (λ i. stateHeap (look (tableSize s) (encode s) State i)) (s .heap) refl (λ i k.
+      tabulate-is 0 n (λ i. stateHeap (look n w State i)) (s .heap) refl (λ i k.
       ap stateHeap (looks State i k) ∙ state-heap (heapOf s i) (markOf s i) (D .bit i))
 
-  -- of disjoint forests the words are read back; that they are well-formed is not needed
-  pub decode-encode : decode (tableSize s) (encode s) ≡ s
-  decode-encode = λ i.
+  -- of disjoint forests with keys of 32 bits the words are read back, whatever the amounts are
+  pub decode-forests : KeysFit s → decodeForests n w ≡ s
+  decode-forests fit = λ i.
       record {
         rows = rows-again i;
         children = children-again i;
         parent = parent-again i;
-        key = key-again i;
+        key = key-again fit i;
         mark = mark-again i;
         heap = heap-again i;
       }
 
+  amounts-again : length (q .amounts) ≡ 8 → tabulate 8 (look n w Amount) ≡ q .amounts
+  unfolding word
+  amounts-again e = tabulate-is 0 8 (look n w Amount) (q .amounts) e (looks Amount)
+
 pub decodeEncode : DecodeEncode
-decodeEncode s W = decode-encode s (W .disjoint)
+decodeEncode q W = λ i.
+    record {
+      forests = decode-forests q (W .forests .disjoint) (W .forests .keys) i;
+      amounts = amounts-again q (W .forests .disjoint) (W .amounts8) i;
+    }
 
 pub encodeInjective : EncodeInjective
-encodeInjective s t S T e =
-    let n : tableSize s ≡ tableSize t =
-    size-injective (tableSize s) (tableSize t) (sym (encode-length s) ∙ ap length e ∙ encode-length t) in
-    sym (decodeEncode s S) ∙ ap (decode (tableSize s)) e ∙ ap (λ k. decode k (encode t)) n ∙ decodeEncode t T
+encodeInjective q r Q R e =
+    let n : tableSize (q .forests) ≡ tableSize (r .forests) =
+    size-injective (tableSize (q .forests)) (tableSize (r .forests))
+    (sym (encode-length q) ∙ ap length e ∙ encode-length r) in
+    sym (decodeEncode q Q)
+    ∙ ap (decode (tableSize (q .forests))) e
+    ∙ ap (λ k. decode k (encode r)) n
+    ∙ decodeEncode r R

@@ -11,9 +11,9 @@ use borrow.Author.Tests.{ne-eqb}
 use Rattle.rules.specs.declared.Line.{Line}
 use Rattle.rules.specs.declared.Line.the-variants.{NoCall, Yields}
 use Rattle.rules.specs.declared.Call.{Call}
-use Rattle.rules.specs.declared.Call.the-variants.{DecreaseKey, Delete, ExtractMin, FindMin, Insert, Meld}
+use Rattle.rules.specs.declared.Call.the-variants.{DecreaseKey, Delete, ExtractMin, FindMin, Insert, Meld, Raise}
 use Rattle.rules.specs.Answers.{after, answer, refusal, refused, unlessRefused}
-use Rattle.rules.specs.Calls.{decreaseKey, delete, deleteAs, extract, insert, meld, moveHeap, perform}
+use Rattle.rules.specs.Calls.{decreaseKey, delete, deleteAs, extract, insert, meld, moveHeap, perform, raise}
 use Rattle.rules.specs.Forests.{Forests, count, heapNumber, heapOf, items, tableSize}
 use Rattle.rules.specs.Ledger.{ifDone}
 use Rattle.rules.specs.Lists.{delta, sumBy, sumTo}
@@ -27,7 +27,7 @@ use Rattle.rules.proofs.Lists.{decrease-heap, delete-heap, extract-heap
 use Rattle.rules.proofs.Members.{heap-in, row-root}
 use Rattle.rules.proofs.Refusals.{delete-ok, extract-ok, insert-ok}
 use Rattle.rules.proofs.SumTo.{sumTo-add, sumTo-cong, sumTo-pick, sumTo-zero}
-use Rattle.rules.proofs.Sums.{sumBy-map, sumBy-set}
+use Rattle.rules.proofs.Sums.{sumBy-cong, sumBy-map, sumBy-set}
 
 -- 1 for an item in a heap
 live : ℕ → ℕ
@@ -77,20 +77,17 @@ items-same : (s t : Forests) → Disjoint s → Disjoint t → sumBy live (t .he
 items-same s t S T e = omega (arith, items-live s S, items-live t T)
 
 meld-live : (s : Forests) (a b : ℕ) → sumBy live (map (moveHeap a b) (s .heap)) ≡ sumBy live (s .heap)
-unfolding moveHeap live sumBy
-meld-live s a b = sumBy-map live (moveHeap a b) (s .heap) ∙ all (s .heap)
+unfolding moveHeap live
+meld-live s a b =
+    sumBy-map live (moveHeap a b) (s .heap) ∙ sumBy-cong (λ v. live (moveHeap a b v)) live (s .heap) each
   where
     each : (v : ℕ) → live (moveHeap a b v) ≡ live v
     each zero = refl
     each (suc g) = rw (ne-eqb (suc (cond (eqb g b) a g)) 0 (λ e. omega arith), ne-eqb (suc g) 0 (λ e. omega arith))
 
-    all : (l : List ℕ) → sumBy (λ v. live (moveHeap a b v)) l ≡ sumBy live l
-    all [] = refl
-    all (v ∷ l) = omega (arith, each v, all l)
-
 perform-items : (s : Forests) → Formed s → (c : Call) → refusal s c ≡ 0
     → items ((perform s c) .next) + itemsRemoved c ≡ items s + itemsInserted c
-unfolding perform itemsRemoved itemsInserted delete insert meld
+unfolding perform itemsRemoved itemsInserted delete insert meld raise
 perform-items s S c e = go c e (S .disjoint) (perform-kept s S c e .formed .disjoint)
   where
     go : (c : Call) → refusal s c ≡ 0 → Disjoint s → Disjoint ((perform s c) .next)
@@ -108,6 +105,7 @@ perform-items s S c e = go c e (S .disjoint) (perform-kept s S c e .formed .disj
         let b : Bool = eqb (minimum s (heapNumber s i)) i in
         omega (arith, items-left s ((deleteAs b i s) .next) i D T (delete-ok s i e) (delete-heap b i s))
     go (Meld a b) e D T = omega (arith, items-same s (meld a b s) D T (meld-live s a b))
+    go (Raise h d) e D T = omega (arith, items-same s (raise h d s) D T refl)
 
 answer-items : (s : Forests) → Formed s → (l : Line)
     → items ((answer s l) .next) + ifDone itemsRemoved s l ≡ items s + ifDone itemsInserted s l

@@ -27,6 +27,7 @@ pub mod RanksRise
 pub mod InsertKeeps
 pub mod KeyKeeps
 pub mod MeldKeeps
+pub mod RaiseKeeps
 pub mod Minimum
 pub mod Refusals
 pub mod Potential
@@ -34,9 +35,11 @@ pub mod CallsKeep
 pub mod Ledger
 pub mod Lists
 pub mod Counts
+pub mod CountAfter
 pub mod KeepsSound
 pub mod ItemsBalance
 pub mod KeepsWellFormed
+pub mod KeepsQueues
 pub mod RankOfAny
 pub mod EmptyForests
 pub mod Sizes
@@ -44,6 +47,8 @@ pub mod Places
 pub mod ByKind
 pub mod Parts
 pub mod Words
+pub mod KeyWords
+pub mod AmountWords
 pub mod Siblings
 pub mod LeastOfTwo
 pub mod ConcatLinks
@@ -56,3 +61,7 @@ pub mod ReplyBounds
 pub mod Answers
 pub mod SoundWords
 pub mod MinimumAfter
+pub mod Flatten
+pub mod UnraisedWords
+pub mod Unraised
+pub mod BaseAnswers

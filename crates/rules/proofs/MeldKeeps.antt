@@ -30,16 +30,23 @@ unfolding moveHeap
 move-back a b zero e = refl
 move-back a b (suc g) e = absurd (omega arith)
 
+-- no item is b's now, and the items of a heap other than a and b stay
+pub moved-b : (a b : ℕ) → a ≢ b → (v : ℕ) → eqb (moveHeap a b v) (suc b) ≡ false
+moved-b a b ab = byItem (suc b) (rw move-b (ne-eqb (suc a) (suc b) (λ e. ab (omega arith))))
+    (λ v n. rw (move-o a b v n) (ne-eqb v (suc b) n))
+
+pub moved-other : (a b g : ℕ) → g ≢ a → g ≢ b → (v : ℕ) → eqb (moveHeap a b v) (suc g) ≡ eqb v (suc g)
+moved-other a b g m n =
+    byItem (suc b)
+    (rw (move-b, ne-eqb (suc a) (suc g) (λ e. m (omega arith)), ne-eqb (suc b) (suc g) (λ e. n (omega arith))))
+    (λ v k. rw (move-o a b v k))
+
 module _ (s : Forests) (S : Disjoint s) (a b : ℕ) (aa : a < 8) (bb : b < 8) (ab : a ≢ b) where
   heap-t : (y : ℕ) → getD (map (moveHeap a b) (s .heap)) y 0 ≡ moveHeap a b (heapOf s y)
   unfolding moveHeap
   heap-t y = List·getD-map (moveHeap a b) (s .heap) y 0
 
-  -- no item is b's now; a's are those of both; the others stay
-  heap-b : (v : ℕ) → eqb (moveHeap a b v) (suc b) ≡ false
-  heap-b = byItem (suc b) (rw move-b (ne-eqb (suc a) (suc b) (λ e. ab (omega arith))))
-      (λ v n. rw (move-o a b v n) (ne-eqb v (suc b) n))
-
+  -- a's items are those of both
   heap-a : (v : ℕ) (r : Bool)
       → indicator (eqb v (suc a) && r) + indicator (eqb v (suc b) && r) ≡ indicator
       (eqb (moveHeap a b v) (suc a) && r)
@@ -47,12 +54,6 @@ module _ (s : Forests) (S : Disjoint s) (a b : ℕ) (aa : a < 8) (bb : b < 8) (a
       (λ r. rw (move-b, ne-eqb (suc b) (suc a) (λ e. ab (omega arith)), eqb-self (suc b), eqb-self (suc a))
       (omega arith))
       (λ v n r. rw (move-o a b v n, ne-eqb v (suc b) n) (omega arith))
-
-  heap-g : (g : ℕ) → g ≢ a → g ≢ b → (v : ℕ) → eqb (moveHeap a b v) (suc g) ≡ eqb v (suc g)
-  heap-g g m n =
-      byItem (suc b)
-      (rw (move-b, ne-eqb (suc a) (suc g) (λ e. m (omega arith)), ne-eqb (suc b) (suc g) (λ e. n (omega arith))))
-      (λ v k. rw (move-o a b v k))
 
   heap-0 : (v : ℕ) → eqb (moveHeap a b v) 0 ≡ eqb v 0
   heap-0 = byItem (suc b) (rw (move-b, ne-eqb (suc a) 0 (λ e. omega arith), ne-eqb (suc b) 0 (λ e. omega arith)))
@@ -75,7 +76,7 @@ module _ (s : Forests) (S : Disjoint s) (a b : ℕ) (aa : a < 8) (bb : b < 8) (a
   meld-row = byItem a
       (λ n y. rw (getD-set-same (s .rows) a (rowOf s a ++ rowOf s b) [] (omega (arith, S .rows8)), ← heap-a)
       (omega (arith, occurs-append y (rowOf s a) (rowOf s b), S .inRow a y, S .inRow b y)))
-      (λ g m n y. rw (getD-set-other (s .rows) a g, heap-g g m n) (S .inRow g y))
+      (λ g m n y. rw (getD-set-other (s .rows) a g, moved-other a b g m n) (S .inRow g y))
 
   meld-disjoint : Disjoint (meld a b s)
   unfolding meld
@@ -87,7 +88,7 @@ module _ (s : Forests) (S : Disjoint s) (a b : ℕ) (aa : a < 8) (bb : b < 8) (a
     markN = simp length-map (S .markN);
     small = simp length-map (S .small);
     heaps = λ y. rw (heap-t y) (heap-le (heapOf s y) (S .heaps y));
-    inRow = byItem b (λ y. rw (heap-t y, heap-b, row-b) (occurs-nil y))
+    inRow = byItem b (λ y. rw (heap-t y, moved-b, row-b) (occurs-nil y))
         (λ g n y. rw (heap-t y, getD-set-other (set (s .rows) a (rowOf s a ++ rowOf s b)) b g) (meld-row g n y));
     inChildren = λ q y. rw (length-map (s .heap) (moveHeap a b), heap-t y, heap-0) (S .inChildren q y);
     up = λ y. rw (heap-t y, length-map (s .heap) (moveHeap a b))

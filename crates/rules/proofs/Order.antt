@@ -9,7 +9,7 @@ use native.Mathlib.Omega.{arith}
 use lib.ListN.{getD, set}
 use lib.Seq.{getD-set-other}
 use lib.Dec.{eqb, ltb}
-use borrow.Author.Tests.{eqb-true, eqb-false, ltb-true, ltb-false, lt-ltb, le-ltb}
+use borrow.Author.Tests.{eqb-true, eqb-false, ltb-true, ltb-false, lt-ltb, le-ltb, eq-eqb, ne-eqb}
 use Rattle.rules.specs.Order.{comesBefore, keyIn, precedes}
 
 -- ---- by a table of keys
@@ -45,6 +45,26 @@ pub before-keys : (key key′ : ℕ → ℕ) (a b : ℕ) → key a ≡ key′ a 
     → comesBefore key a b ≡ comesBefore key′ a b
 unfolding comesBefore
 before-keys key key′ a b p q = rw (p, q)
+
+-- and stays where both rise by d
+pub before-raised : (key key′ : ℕ → ℕ) (a b d : ℕ) → key a ≡ key′ a + d → key b ≡ key′ b + d
+    → comesBefore key a b ≡ comesBefore key′ a b
+unfolding comesBefore
+before-raised key key′ a b d p q = rw (p, q, ltb-add (key′ a) (key′ b), eqb-add (key′ a) (key′ b))
+  where
+    ltb-add : (x y : ℕ) → ltb (x + d) (y + d) ≡ ltb x y
+    ltb-add x y = go (ltb x y) refl
+      where
+        go : (t : Bool) → ltb x y ≡ t → ltb (x + d) (y + d) ≡ t
+        go true e = lt-ltb (x + d) (y + d) (omega (arith, ltb-true x y e))
+        go false e = le-ltb (x + d) (y + d) (omega (arith, ltb-false x y e))
+
+    eqb-add : (x y : ℕ) → eqb (x + d) (y + d) ≡ eqb x y
+    eqb-add x y = go (eqb x y) refl
+      where
+        go : (t : Bool) → eqb x y ≡ t → eqb (x + d) (y + d) ≡ t
+        go true e = eq-eqb (x + d) (y + d) (omega (arith, eqb-true x y e))
+        go false e = let n : x ≢ y = eqb-false x y e in ne-eqb (x + d) (y + d) (λ z. n (omega arith))
 
 -- ---- by a list of keys
 

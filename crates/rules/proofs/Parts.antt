@@ -13,6 +13,7 @@ use Rattle.rules.specs.declared.Field.the-variants.{
   LastTree,
   Minimum,
   Count,
+  Amount,
   Key,
   Parent,
   FirstChild,
@@ -62,7 +63,8 @@ reads FirstTree = rows ∷ []
 reads LastTree = rows ∷ []
 reads Minimum = rows ∷ keys ∷ []
 reads Count = heaps ∷ []
-reads Key = keys ∷ []
+reads Amount = []
+reads Key = heaps ∷ keys ∷ []
 reads Parent = parents ∷ []
 reads FirstChild = heaps ∷ children ∷ []
 reads LastChild = heaps ∷ children ∷ []
@@ -71,20 +73,22 @@ reads Prev = heaps ∷ parents ∷ rows ∷ children ∷ []
 reads Rank = children ∷ []
 reads State = heaps ∷ marks ∷ []
 
-word-reads : (s t : Forests) (f : Field) → Each (Alike s t) (reads f) → (i : ℕ) → word s f i ≡ word t f i
+word-reads : (a : ℕ → ℕ) (s t : Forests) (f : Field) → Each (Alike s t) (reads f) → (i : ℕ)
+    → word a s f i ≡ word a t f i
 unfolding word minimum count siblings unlessFree
-word-reads s t FirstTree e i = rw (e .0)
-word-reads s t LastTree e i = rw (e .0)
-word-reads s t Minimum e i = rw (e .0, e .1 .0)
-word-reads s t Count e i = rw (e .0)
-word-reads s t Key e i = rw (e .0)
-word-reads s t Parent e i = rw (e .0)
-word-reads s t FirstChild e i = rw (e .0, e .1 .0)
-word-reads s t LastChild e i = rw (e .0, e .1 .0)
-word-reads s t Next e i = rw (e .0, e .1 .0, e .1 .1 .0, e .1 .1 .1 .0)
-word-reads s t Prev e i = rw (e .0, e .1 .0, e .1 .1 .0, e .1 .1 .1 .0)
-word-reads s t Rank e i = rw (e .0)
-word-reads s t State e i = rw (e .0, e .1 .0)
+word-reads a s t FirstTree e i = rw (e .0)
+word-reads a s t LastTree e i = rw (e .0)
+word-reads a s t Minimum e i = rw (e .0, e .1 .0)
+word-reads a s t Count e i = rw (e .0)
+word-reads a s t Amount e i = refl
+word-reads a s t Key e i = rw (e .0, e .1 .0)
+word-reads a s t Parent e i = rw (e .0)
+word-reads a s t FirstChild e i = rw (e .0, e .1 .0)
+word-reads a s t LastChild e i = rw (e .0, e .1 .0)
+word-reads a s t Next e i = rw (e .0, e .1 .0, e .1 .1 .0, e .1 .1 .1 .0)
+word-reads a s t Prev e i = rw (e .0, e .1 .0, e .1 .1 .0, e .1 .1 .1 .0)
+word-reads a s t Rank e i = rw (e .0)
+word-reads a s t State e i = rw (e .0, e .1 .0)
 
 -- ---- by computation: every kind apart from gs is read from the parts ps alone
 
@@ -139,13 +143,13 @@ only-one ps gs (f ∷ fs) (suc k) h e =
     only-one ps gs fs k (omega arith) (and-split (isOneOf gs f || within ps (reads f)) _ e .1)
 
 -- Forests that have the parts ps alike have the same words of every kind apart from gs.
-pub kept-each : (ps : List Part) (gs : List Field) (s t : Forests) → onlyFrom ps gs fields ≡ true → Each (Alike s t) ps
-    → (f : Field) → Apart gs f → (i : ℕ) → word s f i ≡ word t f i
-kept-each ps gs s t o e f a =
-    word-reads s t f (some-of (Alike s t) ps (reads f) e
+pub kept-each : (ps : List Part) (gs : List Field) (amounts : ℕ → ℕ) (s t : Forests) → onlyFrom ps gs fields ≡ true
+    → Each (Alike s t) ps → (f : Field) → Apart gs f → (i : ℕ) → word amounts s f i ≡ word amounts t f i
+kept-each ps gs amounts s t o e f a =
+    word-reads amounts s t f (some-of (Alike s t) ps (reads f) e
     (rw a at (rw (field-number f) at (only-one ps gs fields (fieldNumber f) (number-bound f) o))))
 
 -- the same, from a proof for each part
-pub kept-words : (ps : List Part) (gs : List Field) (s t : Forests) → onlyFrom ps gs fields ≡ true
-    → From (Alike s t) ps ((f : Field) → Apart gs f → (i : ℕ) → word s f i ≡ word t f i)
-kept-words ps gs s t o = from-each (Alike s t) ps (kept-each ps gs s t o)
+pub kept-words : (ps : List Part) (gs : List Field) (amounts : ℕ → ℕ) (s t : Forests) → onlyFrom ps gs fields ≡ true
+    → From (Alike s t) ps ((f : Field) → Apart gs f → (i : ℕ) → word amounts s f i ≡ word amounts t f i)
+kept-words ps gs amounts s t o = from-each (Alike s t) ps (kept-each ps gs amounts s t o)

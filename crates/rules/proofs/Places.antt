@@ -16,6 +16,7 @@ use Rattle.rules.specs.declared.Field.the-variants.{
   LastTree,
   Minimum,
   Count,
+  Amount,
   Key,
   Parent,
   FirstChild,
@@ -35,6 +36,7 @@ field-number FirstTree = refl
 field-number LastTree = refl
 field-number Minimum = refl
 field-number Count = refl
+field-number Amount = refl
 field-number Key = refl
 field-number Parent = refl
 field-number FirstChild = refl
@@ -57,15 +59,16 @@ number-onto k h =
 
 -- where a kind lies: among the words of the heaps, or as a column of words of the items
 data Lies (n : ℕ) (f : Field) : Type 0 where
-  ofHeaps : fieldNumber f < 4 → fieldSize n f ≡ 8 → ((i : ℕ) → at n f i ≡ 4 * i + fieldNumber f) → Lies n f
-  ofItems : (c : ℕ) → fieldNumber f ≡ 4 + c → c < 8 → fieldSize n f ≡ n
-      → ((i : ℕ) → at n f i ≡ 32 + (c * n + i)) → Lies n f
+  ofHeaps : fieldNumber f < 5 → fieldSize n f ≡ 8 → ((i : ℕ) → at n f i ≡ 5 * i + fieldNumber f) → Lies n f
+  ofItems : (c : ℕ) → fieldNumber f ≡ 5 + c → c < 8 → fieldSize n f ≡ n
+      → ((i : ℕ) → at n f i ≡ 40 + (c * n + i)) → Lies n f
 
 lies : (n : ℕ) (f : Field) → Lies n f
 lies n FirstTree = ofHeaps (omega arith) refl (λ i. omega arith)
 lies n LastTree = ofHeaps (omega arith) refl (λ i. omega arith)
 lies n Minimum = ofHeaps (omega arith) refl (λ i. omega arith)
 lies n Count = ofHeaps (omega arith) refl (λ i. omega arith)
+lies n Amount = ofHeaps (omega arith) refl (λ i. omega arith)
 lies n Key = ofItems 0 refl (omega arith) refl (λ i. omega arith)
 lies n Parent = ofItems 1 refl (omega arith) refl (λ i. omega arith)
 lies n FirstChild = ofItems 2 refl (omega arith) refl (λ i. omega arith)
@@ -126,42 +129,42 @@ pub record Place (n p : ℕ) : Type 0 where
   pub inside : index < fieldSize n field
   pub there : at n field index ≡ p
 
-of-heaps : (n p : ℕ) → p < 32 → Place n p
+of-heaps : (n p : ℕ) → p < 40 → Place n p
 of-heaps n p h = go (lies n f)
   where
     f : Field
-    f = getD fields (p % 4) State
+    f = getD fields (p % 5) State
 
     i : ℕ
-    i = p / 4
+    i = p / 5
 
     go : Lies n f → Place n p
     go (ofHeaps a r e) =
         record
-        { field = f; index = i; inside = omega arith; there = omega (arith, e i, number-onto (p % 4) (omega arith)) }
-    go (ofItems c a b r e) = absurd (omega (arith, number-onto (p % 4) (omega arith)))
+        { field = f; index = i; inside = omega arith; there = omega (arith, e i, number-onto (p % 5) (omega arith)) }
+    go (ofItems c a b r e) = absurd (omega (arith, number-onto (p % 5) (omega arith)))
 
-of-items : (n p : ℕ) → 32 ≤ p → p < storeSize n → Place n p
+of-items : (n p : ℕ) → 40 ≤ p → p < storeSize n → Place n p
 unfolding storeSize
 of-items n p l h = go (lies n f)
   where
     c : ℕ
-    c = (p - 32) / n
+    c = (p - 40) / n
 
     i : ℕ
-    i = (p - 32) % n
+    i = (p - 40) % n
 
     f : Field
-    f = getD fields (4 + c) State
+    f = getD fields (5 + c) State
 
-    split : c * n + i ≡ p - 32
-    split = div-add-mod' (p - 32) n
+    split : c * n + i ≡ p - 40
+    split = div-add-mod' (p - 40) n
 
     low : c < 8
-    low = (div-lt-iff-lt-mul {k = n} {x = p - 32} {y = 8} (omega arith)) .1 (omega arith)
+    low = (div-lt-iff-lt-mul {k = n} {x = p - 40} {y = 8} (omega arith)) .1 (omega arith)
 
-    number : fieldNumber f ≡ 4 + c
-    number = number-onto (4 + c) (omega (arith, low))
+    number : fieldNumber f ≡ 5 + c
+    number = number-onto (5 + c) (omega (arith, low))
 
     go : Lies n f → Place n p
     go (ofHeaps a r e) = absurd (omega (arith, number))
@@ -170,13 +173,13 @@ of-items n p l h = go (lies n f)
         record {
           field = f;
           index = i;
-          inside = omega (arith, mod-lt (p - 32) {m = n} (omega arith));
+          inside = omega (arith, mod-lt (p - 40) {m = n} (omega arith));
           there = omega (arith, e i, split);
         }
 
 pub at-onto : (n p : ℕ) → p < storeSize n → Place n p
-at-onto n p h = go (ltb p 32) refl
+at-onto n p h = go (ltb p 40) refl
   where
-    go : (t : Bool) → ltb p 32 ≡ t → Place n p
-    go true e = of-heaps n p (ltb-true p 32 e)
-    go false e = of-items n p (ltb-false p 32 e) h
+    go : (t : Bool) → ltb p 40 ≡ t → Place n p
+    go true e = of-heaps n p (ltb-true p 40 e)
+    go false e = of-items n p (ltb-false p 40 e) h

@@ -1,20 +1,22 @@
 -- What is known of a call that is not refused.
-use Prim.Native.Nat.{ℕ, _≤_, _<_}
+use Prim.Native.Nat.{ℕ, zero, suc, _+_, _≤_, _<_}
 use mathlib.Core.Path.{_≡_, refl}
 use mathlib.Core.Logic.{_≢_}
 use mathlib.Core.List.{List, [], _∷_}
-use mathlib.Core.Bool.{Bool, true, false, cond, _||_}
+use mathlib.Core.Bool.{Bool, true, false, cond, _||_, true≢false}
 use native.Mathlib.Omega.{arith}
 use lib.ListN.{length}
 use lib.Dec.{eqb, ltb, leb}
 use borrow.Author.Tests.{eqb-true, eqb-false, ltb-false, leb-false}
 use Rattle.rules.specs.declared.Call.{Call}
-use Rattle.rules.specs.declared.Call.the-variants.{DecreaseKey, Delete, ExtractMin, FindMin, Insert, Meld}
-use Rattle.rules.specs.Answers.{isEmpty, refusal}
+use Rattle.rules.specs.declared.Call.the-variants.{DecreaseKey, Delete, ExtractMin, FindMin, Insert, Meld, Raise}
+use Rattle.rules.specs.Answers.{carriedOver, isEmpty, refusal, someCarriedOver}
 use Rattle.rules.specs.Forests.{Forests, heapOf, keyOf, rowOf, tableSize}
 use Rattle.rules.specs.Lists.{occurs}
 use Rattle.rules.specs.Order.{leastIn, minimum}
+use Rattle.rules.proofs.Members.{heap-in}
 use Rattle.rules.proofs.Minimum.{leastOf-in}
+use Rattle.rules.proofs.Occurs.{byItem, eqb-self}
 
 pub insert-ok : (s : Forests) (h i k : ℕ) → refusal s (Insert h i k) ≡ 0
     → (h < 8) × (i < length (s .heap)) × (heapOf s i ≡ 0)
@@ -74,27 +76,63 @@ pub find-ok : (s : Forests) (h : ℕ) → refusal s (FindMin h) ≡ 0 → 1 ≤ 
 unfolding refusal
 find-ok s h e = extract-ok s h e
 
+-- where no item below n is carried over, each is not
+none-carried : (h d : ℕ) (s : Forests) (n : ℕ) → someCarriedOver h d s n ≡ false → (x : ℕ) → x < n
+    → carriedOver h d s x ≡ false
+unfolding someCarriedOver
+none-carried h d s zero e x k = absurd (omega arith)
+none-carried h d s (suc n) e x k =
+    let f = neither (someCarriedOver h d s n) (carriedOver h d s n) e in
+    byItem {P = λ x. x < suc n → carriedOver h d s x ≡ false} n (λ _. f .1)
+    (λ x m k. none-carried h d s n (f .0) x (omega arith)) x k
+  where
+    neither : (a b : Bool) → (a || b) ≡ false → (a ≡ false) × (b ≡ false)
+    neither true b e = absurd (true≢false e)
+    neither false b e = (refl, e)
+
+-- a raise carries no key of its heap above 4,294,967,295
+pub raise-ok : (s : Forests) (h d : ℕ) → refusal s (Raise h d) ≡ 0
+    → (h < 8) × ((x : ℕ) → heapOf s x ≡ suc h → keyOf s x + d ≤ 4294967295)
+unfolding refusal carriedOver
+raise-ok s h d e = go (ltb 7 h) (someCarriedOver h d s (tableSize s)) refl refl e
+  where
+    go : (u v : Bool) → ltb 7 h ≡ u → someCarriedOver h d s (tableSize s) ≡ v
+        → _≡_ {A = ℕ} (cond u 7 (cond v 25 0)) 0
+        → (h < 8) × ((x : ℕ) → heapOf s x ≡ suc h → keyOf s x + d ≤ 4294967295)
+    go true v p q e = absurd (omega arith)
+    go false true p q e = absurd (omega arith)
+    go false false p q e = (
+      omega (arith, ltb-false 7 h p),
+      λ x i.
+          let c = none-carried h d s (tableSize s) q x (heap-in s x (λ z. omega (arith, i))) in
+          let f = rw (i, eqb-self (suc h)) at c in
+          omega (arith, ltb-false),
+    )
+
 -- of two numbers up to n, the chosen one is
 cond-le : (n a b : ℕ) (t : Bool) → a ≤ n → b ≤ n → cond t a b ≤ n
 cond-le n a b true p q = p
 cond-le n a b false p q = q
 
-pub refusal-le : (s : Forests) (c : Call) → refusal s c ≤ 13
+pub refusal-le : (s : Forests) (c : Call) → refusal s c ≤ 25
 unfolding refusal
 refusal-le s (Insert h i k) =
-    cond-le 13 _ _ (ltb 7 h) (omega arith)
-    (cond-le 13 _ _ (leb (tableSize s) i) (omega arith)
-    (cond-le 13 _ _ (eqb (heapOf s i) 0) (omega arith) (omega arith)))
+    cond-le 25 _ _ (ltb 7 h) (omega arith)
+    (cond-le 25 _ _ (leb (tableSize s) i) (omega arith)
+    (cond-le 25 _ _ (eqb (heapOf s i) 0) (omega arith) (omega arith)))
 refusal-le s (FindMin h) =
-    cond-le 13 _ _ (ltb 7 h) (omega arith) (cond-le 13 _ _ (isEmpty (rowOf s h)) (omega arith) (omega arith))
+    cond-le 25 _ _ (ltb 7 h) (omega arith) (cond-le 25 _ _ (isEmpty (rowOf s h)) (omega arith) (omega arith))
 refusal-le s (ExtractMin h) =
-    cond-le 13 _ _ (ltb 7 h) (omega arith) (cond-le 13 _ _ (isEmpty (rowOf s h)) (omega arith) (omega arith))
+    cond-le 25 _ _ (ltb 7 h) (omega arith) (cond-le 25 _ _ (isEmpty (rowOf s h)) (omega arith) (omega arith))
 refusal-le s (DecreaseKey i k) =
-    cond-le 13 _ _ (leb (tableSize s) i) (omega arith)
-    (cond-le 13 _ _ (eqb (heapOf s i) 0) (omega arith)
-    (cond-le 13 _ _ (ltb (keyOf s i) k) (omega arith) (omega arith)))
+    cond-le 25 _ _ (leb (tableSize s) i) (omega arith)
+    (cond-le 25 _ _ (eqb (heapOf s i) 0) (omega arith)
+    (cond-le 25 _ _ (ltb (keyOf s i) k) (omega arith) (omega arith)))
 refusal-le s (Delete i) =
-    cond-le 13 _ _ (leb (tableSize s) i) (omega arith)
-    (cond-le 13 _ _ (eqb (heapOf s i) 0) (omega arith) (omega arith))
+    cond-le 25 _ _ (leb (tableSize s) i) (omega arith)
+    (cond-le 25 _ _ (eqb (heapOf s i) 0) (omega arith) (omega arith))
 refusal-le s (Meld a b) =
-    cond-le 13 _ _ (ltb 7 a || ltb 7 b) (omega arith) (cond-le 13 _ _ (eqb a b) (omega arith) (omega arith))
+    cond-le 25 _ _ (ltb 7 a || ltb 7 b) (omega arith) (cond-le 25 _ _ (eqb a b) (omega arith) (omega arith))
+refusal-le s (Raise h d) =
+    cond-le 25 _ _ (ltb 7 h) (omega arith)
+    (cond-le 25 _ _ (someCarriedOver h d s (tableSize s)) (omega arith) (omega arith))

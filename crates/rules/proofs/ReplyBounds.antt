@@ -10,7 +10,7 @@ use Rattle.rules.specs.declared.Answer.{Answer}
 use Rattle.rules.specs.declared.Line.{Line}
 use Rattle.rules.specs.declared.Line.the-variants.{NoCall, Yields}
 use Rattle.rules.specs.declared.Call.{Call}
-use Rattle.rules.specs.declared.Call.the-variants.{DecreaseKey, Delete, ExtractMin, FindMin, Insert, Meld}
+use Rattle.rules.specs.declared.Call.the-variants.{DecreaseKey, Delete, ExtractMin, FindMin, Insert, Meld, Raise}
 use Rattle.rules.specs.Answers.{answer, refusal, refused, unlessRefused}
 use Rattle.rules.specs.Calls.{decreaseKey, delete, deleteAs, extract, perform}
 use Rattle.rules.specs.Forests.{Forests, heapNumber, keyOf, potential, rowOf, tableSize, trees}
@@ -25,11 +25,20 @@ use Rattle.rules.proofs.Excused.{to-formed}
 use Rattle.rules.proofs.Follow.{once-short}
 use Rattle.rules.proofs.Members.{heap-in, row-root, row-small}
 use Rattle.rules.proofs.RankSixteen.{R-sixteen, count-table}
-use Rattle.rules.proofs.Refusals.{decrease-ok, delete-ok, extract-ok, find-ok, insert-ok, meld-ok, refusal-le}
+use Rattle.rules.proofs.Refusals.{
+  decrease-ok,
+  delete-ok,
+  extract-ok,
+  find-ok,
+  insert-ok,
+  meld-ok,
+  raise-ok,
+  refusal-le,
+}
 use Rattle.rules.proofs.SiblingLists.{list-inside, once-row}
 
 pub record Small (a : Answer) : Type 0 where
-  pub code : a .code ≤ 13
+  pub code : a .code ≤ 25
   pub item : a .item ≤ 4096
   pub key : a .key < 4294967296
   pub moves : a .links + a .cuts ≤ 41000
@@ -61,6 +70,7 @@ price-le s S (ExtractMin h) = omega (arith, R-sixteen s S h)
 price-le s S (DecreaseKey i k) = omega arith
 price-le s S (Delete i) = omega (arith, R-sixteen s S (heapNumber s i))
 price-le s S (Meld a b) = omega arith
+price-le s S (Raise h d) = omega arith
 
 -- ---- item and key
 
@@ -84,6 +94,7 @@ perform-code s (ExtractMin h) = refl
 perform-code s (DecreaseKey i k) = refl
 perform-code s (Delete i) = delete-says (eqb (minimum s (heapNumber s i)) i) i s .code
 perform-code s (Meld a b) = refl
+perform-code s (Raise h d) = refl
 
 perform-small : (s : Forests) → WellFormed s → (c : Call) → refusal s c ≡ 0 → InRange (Yields c)
     → Small ((perform s c) .reply)
@@ -107,6 +118,7 @@ perform-small s W c e f =
           D .small,
         )
     item (Meld a b) e = omega (arith, meld-ok s a b e .0)
+    item (Raise h d) e = omega (arith, raise-ok s h d e .0)
 
     key : (c : Call) → refusal s c ≡ 0 → InRange (Yields c) → (perform s c) .reply .key < 4294967296
     key (Insert h i k) e f = f
@@ -115,11 +127,12 @@ perform-small s W c e f =
     key (DecreaseKey i k) e f = omega (arith, decrease-ok s i k e .1, W .keys i)
     key (Delete i) e f = omega (arith, delete-says (eqb (minimum s (heapNumber s i)) i) i s .key, W .keys i)
     key (Meld a b) e f = omega (arith, count-table s a, count-table s b, D .small)
+    key (Raise h d) e f = omega (arith, count-table s h, D .small)
 
     paid : (perform s c) .reply .links + (perform s c) .reply .cuts ≤ 41000
     paid = omega (arith, perform-kept s (to-formed s W) c e .paid, potential-le s D, price-le s D c)
 
-refused-small : (r : ℕ) (s : Forests) → r ≤ 13 → Small ((refused r s) .reply)
+refused-small : (r : ℕ) (s : Forests) → r ≤ 25 → Small ((refused r s) .reply)
 unfolding refused
 refused-small r s k = record { code = k; item = zero-le; key = omega arith; moves = zero-le }
 

@@ -36,6 +36,16 @@ unfolding sumBy
 sumBy-map f g [] = refl
 sumBy-map f g (x ∷ l) = omega (arith, sumBy-map f g l)
 
+pub sumBy-cong : (f g : ℕ → ℕ) (l : List ℕ) → ((x : ℕ) → f x ≡ g x) → sumBy f l ≡ sumBy g l
+unfolding sumBy
+sumBy-cong f g [] e = refl
+sumBy-cong f g (x ∷ l) e = omega (arith, sumBy-cong f g l e, e x)
+
+pub sumBy-zero : (f : ℕ → ℕ) (l : List ℕ) → ((x : ℕ) → f x ≡ 0) → sumBy f l ≡ 0
+unfolding sumBy
+sumBy-zero f [] e = refl
+sumBy-zero f (x ∷ l) e = omega (arith, sumBy-zero f l e, e x)
+
 pub sumBy-two : (f g k : ℕ → ℕ) (l : List ℕ) → ((x : ℕ) → f x ≡ g x + k x) → sumBy f l ≡ sumBy g l + sumBy k l
 unfolding sumBy
 sumBy-two f g k [] e = refl

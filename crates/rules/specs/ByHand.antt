@@ -1,72 +1,12 @@
 -- The runs worked by hand: one table, and the claim that the rules give it. Rows (a) to (h) are the scope paper's; the
--- others show what its runs do not reach: equal keys, a marked child released, M and J.
-use Prim.Native.Nat.{ℕ, suc}
+-- others show what its runs do not reach: equal keys, a marked child released, M and J, and raises (RaisesByHand).
 use mathlib.Core.Path.{_≡_}
 use mathlib.Core.List.{List, [], _∷_, _++_, map}
-use mathlib.Core.Bool.{cond}
-use lib.Dec.{eqb}
 use Rattle.rules.specs.declared.Call.the-variants.{Insert, FindMin, ExtractMin, DecreaseKey, Delete, Meld}
 use Rattle.rules.specs.declared.Line.{Line}
 use Rattle.rules.specs.declared.Line.the-variants.{Yields}
-use Rattle.rules.specs.declared.Answer.{Answer}
-use Rattle.rules.specs.Forests.{empty, rowOf, potential}
-use Rattle.rules.specs.Answers.{isEmpty, answers, after}
-use Rattle.rules.specs.Fibonacci.{R}
-use Rattle.rules.specs.Ledger.{moves, allowed}
-
--- What is seen after a run on nine items: the last answer, heap 0's row, the items that have children with these, the
--- marked items, the potential, and over the whole run its moves and its allowance.
-pub record Seen : Type 0 where
-  pub last : Answer
-  pub row : List ℕ
-  pub families : List (ℕ × List ℕ)
-  pub marked : List ℕ
-  pub potentialLeft : ℕ
-  pub movesMade : ℕ
-  pub movesAllowed : ℕ
-
-unfoldable pub lastAnswer : Answer → List Answer → Answer
-lastAnswer a [] = a
-lastAnswer a (b ∷ bs) = lastAnswer b bs
-
-unfoldable pub familiesFrom : ℕ → List (List ℕ) → List (ℕ × List ℕ)
-familiesFrom i [] = []
-familiesFrom i (c ∷ cs) = cond (isEmpty c) (familiesFrom (suc i) cs) ((i, c) ∷ familiesFrom (suc i) cs)
-
-unfoldable pub markedFrom : ℕ → List ℕ → List ℕ
-markedFrom i [] = []
-markedFrom i (m ∷ ms) = cond (eqb m 0) (markedFrom (suc i) ms) (i ∷ markedFrom (suc i) ms)
-
-unfoldable pub reply : ℕ → ℕ → ℕ → ℕ → ℕ → Answer
-reply code item key links cuts = record { code = code; item = item; key = key; links = links; cuts = cuts }
-
-unfoldable pub sees : Answer → List ℕ → List (ℕ × List ℕ) → List ℕ → ℕ → ℕ → ℕ → Seen
-sees last row families marked potentialLeft movesMade movesAllowed =
-    record {
-      last = last;
-      row = row;
-      families = families;
-      marked = marked;
-      potentialLeft = potentialLeft;
-      movesMade = movesMade;
-      movesAllowed = movesAllowed;
-    }
-
-unfoldable pub seen : List Line → Seen
-seen ls =
-    let s = after (empty 9) ls in
-    sees (lastAnswer (reply 0 0 0 0 0) (answers (empty 9) ls)) (rowOf s 0) (familiesFrom 0 (s .children))
-    (markedFrom 0 (s .mark)) (potential s) (moves (empty 9) ls) (allowed (empty 9) ls)
-
--- A row of the table: R at n is k, or a run and what is seen after it.
-pub data Worked : Type 0 where
-  rank : ℕ → ℕ → Worked
-  run : List Line → Seen → Worked
-
--- a row as the rules have it
-unfoldable pub byRules : Worked → Worked
-byRules (rank n k) = rank n (R n)
-byRules (run ls e) = run ls (seen ls)
+use Rattle.rules.specs.WorkedRow.{Worked, rank, run, byRules, sees, reply}
+use Rattle.rules.specs.RaisesByHand.{raiseRows}
 
 -- ---- the paper's runs
 
@@ -184,7 +124,7 @@ unfoldable pub workedTable : List Worked
 workedTable =
     rank 1 0 ∷ rank 2 1 ∷ rank 3 2 ∷ rank 4 2 ∷ rank 5 3 ∷ rank 8 4
     ∷ runB ∷ runC ∷ runD ∷ runE ∷ runF1 ∷ runF2 ∷ runF ∷ runG ∷ runH ∷ runTie ∷ runRelease
-    ∷ runJ ∷ runM ∷ runEmptied ∷ runMoved ∷ runJoinAgain ∷ []
+    ∷ runJ ∷ runM ∷ runEmptied ∷ runMoved ∷ runJoinAgain ∷ raiseRows
 
 abbrev pub WorkedRuns : Type 0
 WorkedRuns = map byRules workedTable ≡ workedTable

@@ -1,13 +1,13 @@
--- What each of the six calls does where it is not refused.
+-- What each of the seven calls does where it is not refused.
 use Prim.Native.Nat.{ℕ, zero, suc, _+_}
 use mathlib.Core.List.{List, [], _∷_, _++_, map}
 use mathlib.Core.Bool.{Bool, true, false, cond, not, _&&_}
 use lib.ListN.{set}
 use lib.Dec.{eqb}
 use Rattle.rules.specs.declared.Call.{Call}
-use Rattle.rules.specs.declared.Call.the-variants.{Insert, FindMin, ExtractMin, DecreaseKey, Delete, Meld}
+use Rattle.rules.specs.declared.Call.the-variants.{Insert, FindMin, ExtractMin, DecreaseKey, Delete, Meld, Raise}
 use Rattle.rules.specs.declared.Answer.{Answer}
-use Rattle.rules.specs.Lists.{without, setAll}
+use Rattle.rules.specs.Lists.{without, setAll, tabulate}
 use Rattle.rules.specs.Forests.{
   Forests,
   none,
@@ -15,7 +15,9 @@ use Rattle.rules.specs.Forests.{
   childrenOf,
   parentOf,
   keyOf,
+  heapOf,
   heapNumber,
+  tableSize,
   setRow,
   setChildren,
   setParent,
@@ -109,6 +111,21 @@ meld a b s =
       heap = map (moveHeap a b) (s .heap);
     }
 
+-- A: d is added to the key of each item of heap h.
+unfoldable pub raisedKey : ℕ → ℕ → Forests → ℕ → ℕ
+raisedKey h d s i = cond (eqb (heapOf s i) (suc h)) (keyOf s i + d) (keyOf s i)
+
+unfoldable pub raise : ℕ → ℕ → Forests → Forests
+raise h d s =
+    record {
+      rows = s .rows;
+      children = s .children;
+      parent = s .parent;
+      key = tabulate (tableSize s) (raisedKey h d s);
+      mark = s .mark;
+      heap = s .heap;
+    }
+
 unfoldable pub perform : Forests → Call → Outcome
 perform s (Insert h i k) = done i k 0 0 (insert h i k s)
 perform s (FindMin h) = done (minimum s h) (keyOf s (minimum s h)) 0 0 s
@@ -116,3 +133,4 @@ perform s (ExtractMin h) = extract h (minimum s h) s
 perform s (DecreaseKey i k) = decreaseKey i k s
 perform s (Delete i) = delete i s
 perform s (Meld a b) = done a (count s a + count s b) 0 0 (meld a b s)
+perform s (Raise h d) = done h (count s h) 0 0 (raise h d s)

@@ -5,7 +5,7 @@ use mathlib.Core.Bool.{cond}
 use lib.ListN.{take, drop}
 use lib.Dec.{eqb}
 use Rattle.rules.specs.declared.Call.{Call}
-use Rattle.rules.specs.declared.Call.the-variants.{Insert, FindMin, ExtractMin, DecreaseKey, Delete, Meld}
+use Rattle.rules.specs.declared.Call.the-variants.{Insert, FindMin, ExtractMin, DecreaseKey, Delete, Meld, Raise}
 use Rattle.rules.specs.declared.Answer.{Answer}
 use Rattle.rules.specs.declared.Line.{Line}
 use Rattle.rules.specs.declared.Line.the-variants.{Yields, NoCall}
@@ -29,6 +29,7 @@ price s (ExtractMin h) = R (count s h)
 price s (DecreaseKey i k) = 4
 price s (Delete i) = R (count s (heapNumber s i)) + 3
 price s (Meld a b) = 0
+price s (Raise h d) = 0
 
 unfoldable pub allowance : Forests → Line → ℕ
 allowance s l = ifDone (price s) s l

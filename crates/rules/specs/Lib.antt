@@ -5,11 +5,16 @@ pub mod Cut
 pub mod Consolidate
 pub mod Calls
 pub mod Answers
+pub mod Queues
 pub mod Fibonacci
 pub mod WellFormed
 pub mod Ledger
 pub mod Words
+pub mod WorkedRow
+pub mod RaisesByHand
 pub mod ByHand
 pub mod SetWord
 pub mod Kinds
 pub mod Theorems
+pub mod Unraised
+pub mod BaseAnswers

@@ -8,6 +8,7 @@ use Rattle.rules.specs.declared.Field.the-variants.{
   LastTree,
   Minimum,
   Count,
+  Amount,
   Key,
   Parent,
   FirstChild,
@@ -18,20 +19,21 @@ use Rattle.rules.specs.declared.Field.the-variants.{
   State,
 }
 
--- the kinds by number: those of a heap from 0, those of an item from 4
+-- the kinds by number: those of a heap from 0, those of an item from 5
 abbrev pub fieldNumber : Field → ℕ
 fieldNumber FirstTree = 0
 fieldNumber LastTree = 1
 fieldNumber Minimum = 2
 fieldNumber Count = 3
-fieldNumber Key = 4
-fieldNumber Parent = 5
-fieldNumber FirstChild = 6
-fieldNumber LastChild = 7
-fieldNumber Next = 8
-fieldNumber Prev = 9
-fieldNumber Rank = 10
-fieldNumber State = 11
+fieldNumber Amount = 4
+fieldNumber Key = 5
+fieldNumber Parent = 6
+fieldNumber FirstChild = 7
+fieldNumber LastChild = 8
+fieldNumber Next = 9
+fieldNumber Prev = 10
+fieldNumber Rank = 11
+fieldNumber State = 12
 
 -- v with the value x for word i of kind f
 abbrev pub setWord : Field → ℕ → ℕ → (Field → ℕ → ℕ) → Field → ℕ → ℕ

@@ -1,13 +1,13 @@
 -- What is proved of the rules. Each statement is a type; its proof is in proofs/, under the same name in lower case.
 -- The ledger (demand 3) has a file of its own.
-use Prim.Native.Nat.{ℕ, suc, _+_, _≤_, _<_}
+use Prim.Native.Nat.{ℕ, suc, _+_, _%_, _≤_, _<_}
 use mathlib.Core.Path.{_≡_}
 use mathlib.Core.Logic.{_≢_}
 use mathlib.Core.List.{List, [], _∷_, map}
 use mathlib.Core.Bool.{true}
 use lib.ListN.{length}
 use Rattle.rules.specs.declared.Call.{Call}
-use Rattle.rules.specs.declared.Call.the-variants.{Insert, FindMin, ExtractMin, DecreaseKey, Delete, Meld}
+use Rattle.rules.specs.declared.Call.the-variants.{Insert, FindMin, ExtractMin, DecreaseKey, Delete, Meld, Raise}
 use Rattle.rules.specs.declared.Line.{Line}
 use Rattle.rules.specs.declared.Line.the-variants.{Yields, NoCall}
 use Rattle.rules.specs.Lists.{sumTo}
@@ -28,15 +28,17 @@ use Rattle.rules.specs.Consolidate.{consolidateWithin, consolidate}
 use Rattle.rules.specs.Calls.{removeRoot}
 use Rattle.rules.specs.Answers.{refusal, answer, after}
 use Rattle.rules.specs.Fibonacci.{F, R}
-use Rattle.rules.specs.WellFormed.{WellFormed, isRootOf}
+use Rattle.rules.specs.Queues.{Queues, keyFrom, keyWord, afterLine}
+use Rattle.rules.specs.WellFormed.{WellFormed, WellFormedQueues, isRootOf}
 use Rattle.rules.specs.Ledger.{ifDone}
-use Rattle.rules.specs.Words.{encode, decode, forestsOf, storeSize, Sound}
+use Rattle.rules.specs.Words.{encode, decode, queuesOf, forestsOf, storeSize, Sound}
 
 -- The empty forests of a fresh run are well-formed.
 abbrev pub EmptyWellFormed : Type 0
 EmptyWellFormed = (n : ℕ) → n ≤ 4096 → WellFormed (empty n)
 
--- A line's numbers are at most 4,294,967,295. Of these only an inserted key is kept, or lowered.
+-- A line's numbers are at most 4,294,967,295. Of these only an inserted key is kept; it may be lowered, and a raise
+-- that would carry it too far is refused.
 unfoldable pub InRange : Line → Type 0
 InRange (Yields (Insert h i k)) = k < 4294967296
 InRange (Yields (FindMin h)) = Unit {0}
@@ -44,11 +46,21 @@ InRange (Yields (ExtractMin h)) = Unit {0}
 InRange (Yields (DecreaseKey i k)) = Unit {0}
 InRange (Yields (Delete i)) = Unit {0}
 InRange (Yields (Meld a b)) = Unit {0}
+InRange (Yields (Raise h d)) = Unit {0}
 InRange NoCall = Unit {0}
+
+-- each line of a list is
+abbrev pub AllInRange : List Line → Type 0
+AllInRange [] = Unit {0}
+AllInRange (l ∷ ls) = InRange l × AllInRange ls
 
 -- Every line, done or refused, leaves well-formed forests well-formed, and the table as long as it was.
 abbrev pub KeepsWellFormed : Type 0
 KeepsWellFormed = (s : Forests) → WellFormed s → (l : Line) → InRange l → WellFormed ((answer s l) .next)
+
+-- and well-formed queues too
+abbrev pub KeepsQueues : Type 0
+KeepsQueues = (q : Queues) → WellFormedQueues q → (l : Line) → InRange l → WellFormedQueues (afterLine q l)
 
 abbrev pub KeepsTableSize : Type 0
 KeepsTableSize = (s : Forests) → (l : Line) → tableSize ((answer s l) .next) ≡ tableSize s
@@ -117,6 +129,7 @@ itemsInserted (ExtractMin h) = 0
 itemsInserted (DecreaseKey i k) = 0
 itemsInserted (Delete i) = 0
 itemsInserted (Meld a b) = 0
+itemsInserted (Raise h d) = 0
 
 unfoldable pub itemsRemoved : Call → ℕ
 itemsRemoved (Insert h i k) = 0
@@ -125,6 +138,7 @@ itemsRemoved (ExtractMin h) = 1
 itemsRemoved (DecreaseKey i k) = 0
 itemsRemoved (Delete i) = 1
 itemsRemoved (Meld a b) = 0
+itemsRemoved (Raise h d) = 0
 
 unfoldable pub total : (Call → ℕ) → Forests → List Line → ℕ
 total f s [] = 0
@@ -135,21 +149,33 @@ ItemsBalance =
     (s : Forests) → WellFormed s → (ls : List Line)
     → items (after s ls) + total itemsRemoved s ls ≡ items s + total itemsInserted s ls
 
--- The words determine the forests.
+-- A key and its word, by any amount: there and back, both ways; with amount 0 the word is the key; a sum of 2^32 or
+-- more wraps; and where the amount rises by d, wrapping, the word of a key that rises by d stays.
+pub record KeyWords : Type 0 where
+  pub keyBack : (a k : ℕ) → k < 4294967296 → keyFrom a (keyWord a k) ≡ k
+  pub wordBack : (a w : ℕ) → w < 4294967296 → keyWord a (keyFrom a w) ≡ w
+  pub keyFits : (a w : ℕ) → keyFrom a w < 4294967296
+  pub wordFits : (a k : ℕ) → keyWord a k < 4294967296
+  pub zeroFrom : (w : ℕ) → w < 4294967296 → keyFrom 0 w ≡ w
+  pub zeroWord : (k : ℕ) → k < 4294967296 → keyWord 0 k ≡ k
+  pub wraps : (a w : ℕ) → a < 4294967296 → w < 4294967296 → 4294967296 ≤ w + a → keyFrom a w + 4294967296 ≡ w + a
+  pub raised : (a d k : ℕ) → keyWord ((a + d) % 4294967296) (k + d) ≡ keyWord a k
+
+-- The words determine the queues.
 abbrev pub EncodeLength : Type 0
-EncodeLength = (s : Forests) → length (encode s) ≡ storeSize (tableSize s)
+EncodeLength = (q : Queues) → length (encode q) ≡ storeSize (tableSize (q .forests))
 
 abbrev pub DecodeEncode : Type 0
-DecodeEncode = (s : Forests) → WellFormed s → decode (tableSize s) (encode s) ≡ s
+DecodeEncode = (q : Queues) → WellFormedQueues q → decode (tableSize (q .forests)) (encode q) ≡ q
 
 abbrev pub EncodeInjective : Type 0
-EncodeInjective = (s t : Forests) → WellFormed s → WellFormed t → encode s ≡ encode t → s ≡ t
+EncodeInjective = (q r : Queues) → WellFormedQueues q → WellFormedQueues r → encode q ≡ encode r → q ≡ r
 
 -- So of words: every line, done or refused, leaves a sound store sound, and a refused one leaves every word of it.
 abbrev pub KeepsSound : Type 0
-KeepsSound = (w : List ℕ) → Sound w → (l : Line) → InRange l → Sound (encode ((answer (forestsOf w) l) .next))
+KeepsSound = (w : List ℕ) → Sound w → (l : Line) → InRange l → Sound (encode (afterLine (queuesOf w) l))
 
 abbrev pub RefusedKeepsWords : Type 0
 RefusedKeepsWords =
     (w : List ℕ) → Sound w → (l : Line) → (answer (forestsOf w) l) .reply .code ≢ 0
-    → encode ((answer (forestsOf w) l) .next) ≡ w
+    → encode (afterLine (queuesOf w) l) ≡ w

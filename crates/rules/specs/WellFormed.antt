@@ -1,4 +1,5 @@
--- Well-formed forests: eight disjoint forests in heap order, with their marks and ranks (scope paper, Store, "Sound").
+-- Well-formed forests: eight disjoint forests in heap order, with their marks and ranks (scope paper, Store, "Sound");
+-- and well-formed queues, with their amounts.
 use Prim.Native.Nat.{ℕ, suc, _+_, _-_, _≤_, _<_}
 use mathlib.Core.Path.{_≡_}
 use mathlib.Core.Logic.{_≢_}
@@ -18,8 +19,10 @@ use Rattle.rules.specs.Forests.{
   heapOf,
   rankOf,
   tableSize,
+  count,
 }
 use Rattle.rules.specs.Order.{precedes}
+use Rattle.rules.specs.Queues.{Queues, amountOf}
 
 abbrev pub isRootOf : Forests → ℕ → ℕ → Bool
 isRootOf s h x = eqb (heapOf s x) (suc h) && eqb (parentOf s x) none
@@ -70,3 +73,10 @@ pub record WellFormed (s : Forests) : Type 0 where
   pub ordered : HeapOrdered s
   pub ranked : RankRule s
   pub keys : KeysFit s
+
+-- An amount is any word of 32 bits, 0 where the heap is empty.
+pub record WellFormedQueues (q : Queues) : Type 0 where
+  pub forests : WellFormed (q .forests)
+  pub amounts8 : length (q .amounts) ≡ 8
+  pub amountsFit : (h : ℕ) → amountOf q h < 4294967296
+  pub ofEmpty : (h : ℕ) → count (q .forests) h ≡ 0 → amountOf q h ≡ 0

@@ -1,5 +1,5 @@
--- The words of a store (scope paper, Store): where each word lies, what it says of the forests, and how the forests
--- are read back.
+-- The words of a store (scope paper, Store): where each word lies, what it says of the queues, and how the queues are
+-- read back.
 use Prim.Native.Nat.{ℕ, zero, suc, _+_, _-_, _*_, _/_, _%_}
 use mathlib.Core.Path.{_≡_}
 use mathlib.Core.List.{List, [], _∷_}
@@ -12,6 +12,7 @@ use Rattle.rules.specs.declared.Field.the-variants.{
   LastTree,
   Minimum,
   Count,
+  Amount,
   Key,
   Parent,
   FirstChild,
@@ -37,17 +38,18 @@ use Rattle.rules.specs.Forests.{
   count,
 }
 use Rattle.rules.specs.Order.{minimum}
-use Rattle.rules.specs.WellFormed.{WellFormed}
+use Rattle.rules.specs.Queues.{Queues, amountOf, keyFrom, keyWord}
+use Rattle.rules.specs.WellFormed.{WellFormedQueues}
 
 -- ---- how many words there are and where each lies: nothing but these definitions knows
 
 -- the words of a store for n items
 unfoldable pub storeSize : ℕ → ℕ
-storeSize n = 32 + 8 * n
+storeSize n = 40 + 8 * n
 
 -- N, which the length of a store sets
 unfoldable pub itemsIn : List ℕ → ℕ
-itemsIn w = (length w - 32) / 8
+itemsIn w = (length w - 40) / 8
 
 -- a store for N items, N from 0 to 4,096
 unfoldable pub isStore : List ℕ → Bool
@@ -59,6 +61,7 @@ fieldSize n FirstTree = 8
 fieldSize n LastTree = 8
 fieldSize n Minimum = 8
 fieldSize n Count = 8
+fieldSize n Amount = 8
 fieldSize n Key = n
 fieldSize n Parent = n
 fieldSize n FirstChild = n
@@ -70,24 +73,25 @@ fieldSize n State = n
 
 -- the place of word i of a kind
 abbrev pub at : ℕ → Field → ℕ → ℕ
-at n FirstTree i = 4 * i
-at n LastTree i = 4 * i + 1
-at n Minimum i = 4 * i + 2
-at n Count i = 4 * i + 3
-at n Key i = 32 + i
-at n Parent i = 32 + n + i
-at n FirstChild i = 32 + 2 * n + i
-at n LastChild i = 32 + 3 * n + i
-at n Next i = 32 + 4 * n + i
-at n Prev i = 32 + 5 * n + i
-at n Rank i = 32 + 6 * n + i
-at n State i = 32 + 7 * n + i
+at n FirstTree i = 5 * i
+at n LastTree i = 5 * i + 1
+at n Minimum i = 5 * i + 2
+at n Count i = 5 * i + 3
+at n Amount i = 5 * i + 4
+at n Key i = 40 + i
+at n Parent i = 40 + n + i
+at n FirstChild i = 40 + 2 * n + i
+at n LastChild i = 40 + 3 * n + i
+at n Next i = 40 + 4 * n + i
+at n Prev i = 40 + 5 * n + i
+at n Rank i = 40 + 6 * n + i
+at n State i = 40 + 7 * n + i
 
 -- word i of a kind in a store for n items
 abbrev pub look : ℕ → List ℕ → Field → ℕ → ℕ
 look n w f i = getD w (at n f i) 0
 
--- ---- the words of forests
+-- ---- the words of queues
 
 -- the ends of a list, where d stands for those of an empty one
 unfoldable pub headOr : ℕ → List ℕ → ℕ
@@ -128,24 +132,27 @@ unfoldable pub stateMark : ℕ → ℕ
 stateMark zero = 0
 stateMark (suc v) = v % 2
 
-unfoldable pub word : Forests → Field → ℕ → ℕ
-word s FirstTree h = headOr none (rowOf s h)
-word s LastTree h = lastOr none (rowOf s h)
-word s Minimum h = minimum s h
-word s Count h = count s h
-word s Key i = keyOf s i
-word s Parent i = parentOf s i
-word s FirstChild i = unlessFree s i (headOr none (childrenOf s i))
-word s LastChild i = unlessFree s i (lastOr none (childrenOf s i))
-word s Next i = unlessFree s i (nextIn i (siblings s i))
-word s Prev i = unlessFree s i (prevIn none i (siblings s i))
-word s Rank i = rankOf s i
-word s State i = stateOf (heapOf s i) (markOf s i)
+-- the words of forests whose heaps have these amounts
+unfoldable pub word : (ℕ → ℕ) → Forests → Field → ℕ → ℕ
+word amounts s FirstTree h = headOr none (rowOf s h)
+word amounts s LastTree h = lastOr none (rowOf s h)
+word amounts s Minimum h = minimum s h
+word amounts s Count h = count s h
+word amounts s Amount h = amounts h
+word amounts s Key i = unlessFree s i (keyWord (amounts (heapNumber s i)) (keyOf s i))
+word amounts s Parent i = parentOf s i
+word amounts s FirstChild i = unlessFree s i (headOr none (childrenOf s i))
+word amounts s LastChild i = unlessFree s i (lastOr none (childrenOf s i))
+word amounts s Next i = unlessFree s i (nextIn i (siblings s i))
+word amounts s Prev i = unlessFree s i (prevIn none i (siblings s i))
+word amounts s Rank i = rankOf s i
+word amounts s State i = stateOf (heapOf s i) (markOf s i)
 
 -- all kinds
 abbrev pub fields : List Field
 fields =
-    FirstTree ∷ LastTree ∷ Minimum ∷ Count ∷ Key ∷ Parent ∷ FirstChild ∷ LastChild ∷ Next ∷ Prev ∷ Rank ∷ State ∷ []
+    FirstTree ∷ LastTree ∷ Minimum ∷ Count ∷ Amount ∷ Key ∷ Parent ∷ FirstChild ∷ LastChild ∷ Next ∷ Prev ∷ Rank
+    ∷ State ∷ []
 
 -- w with v i stored at the place of i, for each i below k
 unfoldable pub storeField : (ℕ → ℕ) → (ℕ → ℕ) → ℕ → List ℕ → List ℕ
@@ -161,11 +168,14 @@ storeFields n v (f ∷ fs) w = storeFields n v fs (storeField (at n f) (v f) (fi
 unfoldable pub wordsOf : ℕ → (Field → ℕ → ℕ) → List ℕ
 wordsOf n v = storeFields n v fields (replicate (storeSize n) 0)
 
--- the words of forests
-unfoldable pub encode : Forests → List ℕ
-encode s = wordsOf (tableSize s) (word s)
+-- the words of forests with these amounts, and those of queues
+unfoldable pub wordsWith : (ℕ → ℕ) → Forests → List ℕ
+wordsWith amounts s = wordsOf (tableSize s) (word amounts s)
 
--- ---- the forests of words
+unfoldable pub encode : Queues → List ℕ
+encode q = wordsWith (amountOf q) (q .forests)
+
+-- ---- the queues of words
 
 -- the list that starts with y and goes on by the next words, at most d of it
 unfoldable pub follow : ℕ → (ℕ → ℕ) → ℕ → List ℕ
@@ -175,23 +185,35 @@ follow (suc d) next y = cond (eqb y none) [] (y ∷ follow d next (next y))
 unfoldable pub listFrom : ℕ → List ℕ → ℕ → List ℕ
 listFrom n w y = follow n (look n w Next) y
 
-unfoldable pub decode : ℕ → List ℕ → Forests
-decode n w =
+-- the key of item i, by the amount of its heap; 0 for a free item
+unfoldable pub readKey : ℕ → List ℕ → ℕ → ℕ
+readKey n w i =
+    let state = look n w State i in
+    cond (eqb state 0) 0 (keyFrom (look n w Amount (stateHeap state - 1)) (look n w Key i))
+
+unfoldable pub decodeForests : ℕ → List ℕ → Forests
+decodeForests n w =
     record {
       rows = tabulate 8 (λ h. listFrom n w (look n w FirstTree h));
       children = tabulate n (λ i. cond (eqb (look n w State i) 0) [] (listFrom n w (look n w FirstChild i)));
       parent = tabulate n (look n w Parent);
-      key = tabulate n (look n w Key);
+      key = tabulate n (readKey n w);
       mark = tabulate n (λ i. stateMark (look n w State i));
       heap = tabulate n (λ i. stateHeap (look n w State i));
     }
 
--- the forests that the words of a store stand for
-unfoldable pub forestsOf : List ℕ → Forests
-forestsOf w = decode (itemsIn w) w
+abbrev pub decode : ℕ → List ℕ → Queues
+decode n w = record { forests = decodeForests n w; amounts = tabulate 8 (look n w Amount) }
 
--- Sound: the words are exactly those of well-formed forests.
+-- the queues, and the forests, that the words of a store stand for
+abbrev pub queuesOf : List ℕ → Queues
+queuesOf w = decode (itemsIn w) w
+
+abbrev pub forestsOf : List ℕ → Forests
+forestsOf w = (queuesOf w) .forests
+
+-- Sound: the words are exactly those of well-formed queues.
 pub record Sound (w : List ℕ) : Type 0 where
-  pub forests : Forests
-  pub wellFormed : WellFormed forests
-  pub words : w ≡ encode forests
+  pub queues : Queues
+  pub wellFormed : WellFormedQueues queues
+  pub words : w ≡ encode queues

@@ -2,7 +2,7 @@
 ghost use mathlib.Core.Path.{_≡_};
 ghost use Prim.Native.Nat.{_+_, _<_, _≤_};
 
-// A call on the queues: one of six kinds, each with its own numbers.
+// A call on the queues: one of seven kinds, each with its own numbers.
 pub enum Call {
     Insert { heap: u32, item: u32, key: u32 },
     FindMin { heap: u32 },
@@ -10,6 +10,7 @@ pub enum Call {
     DecreaseKey { item: u32, key: u32 },
     Delete { item: u32 },
     Meld { into: u32, from: u32 },
+    Raise { heap: u32, by: u32 },
 }
 
 // A line of a sheet: the call that it yields, or that it yields none and is refused.
@@ -27,12 +28,13 @@ pub struct Answer {
     pub cuts: u32,
 }
 
-// The kinds of words in a store: four to a heap, eight to an item.
+// The kinds of words in a store: five to a heap, eight to an item.
 pub enum Field {
     FirstTree,
     LastTree,
     Minimum,
     Count,
+    Amount,
     Key,
     Parent,
     FirstChild,
