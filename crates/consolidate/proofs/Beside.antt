@@ -1,21 +1,24 @@
 -- The words beside a row, by kind, and the order of items by them.
-use Prim.Native.Nat.{ℕ, _<_}
+use Prim.Native.Nat.{ℕ, suc, _<_}
 use mathlib.Core.Path.{_≡_, refl, _∙_}
 use mathlib.Core.List.{List}
-use Rattle.rules.specs.declared.Field.the-variants.{Count, Key, Parent, Rank, State}
+use native.Mathlib.Omega.{arith}
+use Rattle.rules.specs.declared.Field.the-variants.{Amount, Count, Key, Parent, Rank, State}
 use Rattle.rules.specs.Forests.{Forests, count, heapOf, keyOf, markOf, parentOf, rankOf}
 use Rattle.rules.specs.Order.{comesBefore, precedes}
+use Rattle.rules.specs.WellFormed.{KeysFit}
 use Rattle.rules.specs.Words.{look, stateOf, word}
+use Rattle.rules.proofs.Members.{heap-in}
 use Rattle.rules.proofs.Order.{before-keys}
 use Rattle.store.specs.ItemOrder.{itemKey}
 use Rattle.store.specs.Says.{Says, Values}
 use Rattle.store.proofs.ItemOrder.{key-is, key-says}
 use Rattle.consolidate.specs.Stored.{Beside}
 
-module _ {n h : ℕ} {v : Values} {t : Forests} (B : Beside n h v t) where
-  pub beside-key : (i : ℕ) → i < n → v Key i ≡ keyOf t i
+module _ {n h : ℕ} {v : Values} {amounts : ℕ → ℕ} {t : Forests} (B : Beside n h v amounts t) where
+  pub beside-amount : (g : ℕ) → g < 8 → v Amount g ≡ amounts g
   unfolding word
-  beside-key = B .words Key refl
+  beside-amount = B .words Amount refl
 
   pub beside-parent : (i : ℕ) → i < n → v Parent i ≡ parentOf t i
   unfolding word
@@ -33,10 +36,14 @@ module _ {n h : ℕ} {v : Values} {t : Forests} (B : Beside n h v t) where
   unfolding word
   beside-count = B .words Count refl
 
-  -- the keys by the words are those of the forests, and so is the order
-  module _ {w : List ℕ} (s : Says n w v) where
-    pub key-beside : (i : ℕ) → i < n → itemKey (look n w) i ≡ keyOf t i
-    key-beside i k = key-says s i k ∙ key-is v t i (beside-key i k)
+  -- the keys of the items of heap h by the words are those of the forests, and so is the order
+  module _ {w : List ℕ} (s : Says n w v) (l : h < 8) (fit : KeysFit t) where
+    pub key-beside : (i : ℕ) → heapOf t i ≡ suc h → itemKey h (look n w) i ≡ keyOf t i
+    unfolding KeysFit
+    key-beside i e =
+        let k : i < n = omega (arith, heap-in t i (λ z. omega (arith, z, e)), B .size) in
+        key-says s h i l k ∙ key-is v amounts t h i (beside-amount h l) (B .words Key refl i k) e (fit i)
 
-    pub before-says : (a b : ℕ) → a < n → b < n → comesBefore (itemKey (look n w)) a b ≡ precedes (t .key) a b
-    before-says a b i j = before-keys (itemKey (look n w)) (keyOf t) a b (key-beside a i) (key-beside b j)
+    pub before-says : (a b : ℕ) → heapOf t a ≡ suc h → heapOf t b ≡ suc h
+        → comesBefore (itemKey h (look n w)) a b ≡ precedes (t .key) a b
+    before-says a b i j = before-keys (itemKey h (look n w)) (keyOf t) a b (key-beside a i) (key-beside b j)

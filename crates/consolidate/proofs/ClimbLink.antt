@@ -41,8 +41,8 @@ use Rattle.consolidate.proofs.ClimbMeeting.{
 use Rattle.consolidate.proofs.LinkLists.{keeps}
 use Rattle.consolidate.proofs.LinkWords.{link-beside}
 
-module _ {n h base : ℕ} {rest : List ℕ} {goal : Linking} {w ps : List ℕ} {x r links : ℕ}
-    (G : Climbing n h base rest goal w ps x r links) {a : ℕ} (e : a ≡ getD ps r 0) (z : a ≢ none) where
+module _ {n h base : ℕ} {rest : List ℕ} {amounts : ℕ → ℕ} {goal : Linking} {w ps : List ℕ} {x r links : ℕ}
+    (G : Climbing n h base rest amounts goal w ps x r links) {a : ℕ} (e : a ≡ getD ps r 0) (z : a ≢ none) where
   abbrev t : Forests
   t = G .here
 
@@ -104,7 +104,7 @@ module _ {n h base : ℕ} {rest : List ℕ} {goal : Linking} {w ps : List ℕ} {
             (omega (arith, H .formed .disjoint .parentN, G .state .beside .size, second-inside G e z))
 
     -- the invariant after the link
-    linked : Consolidating n h w′ (set ps r none) (first ∷ rest) rest t′
+    linked : Consolidating n h w′ (set ps r none) (first ∷ rest) rest amounts t′
     unfolding KeysFit link
     linked =
         record {
@@ -122,7 +122,7 @@ module _ {n h base : ℕ} {rest : List ℕ} {goal : Linking} {w ps : List ℕ} {
     -- the rules make the same link
     next-step : (d : ℕ) → 18 ≤ d + r
         → climb d (isFree ps r) r x (record { places = ps; links = G .made; forests = t }) ≡ goal
-        → Climbing n h base rest goal w′ (set ps r none) first (suc r) (links + 1)
+        → Climbing n h base rest amounts goal w′ (set ps r none) first (suc r) (links + 1)
     unfolding climb isFree
     next-step zero k q = absurd (omega (arith, rank-inside G))
     next-step (suc d) k q =
@@ -138,10 +138,10 @@ module _ {n h base : ℕ} {rest : List ℕ} {goal : Linking} {w ps : List ℕ} {
           whole = rw (ne-eqb (getD ps r none) none (taken G e z)) at q;
         }
 
-  pub climb-step : {b c : ℕ} {w′ ps′ : List ℕ} {links′ : ℕ} → b ≡ cond (comesBefore (itemKey (look n w)) a x) a x
-      → c ≡ cond (comesBefore (itemKey (look n w)) a x) x a → Changes n w (appended (Children b) c) w′
+  pub climb-step : {b c : ℕ} {w′ ps′ : List ℕ} {links′ : ℕ} → b ≡ cond (comesBefore (itemKey h (look n w)) a x) a x
+      → c ≡ cond (comesBefore (itemKey h (look n w)) a x) x a → Changes n w (appended (Children b) c) w′
       → ps′ ≡ set ps r none
-      → links′ ≡ links + 1 → Climbing n h base rest goal w′ ps′ b (r + 1) links′
+      → links′ ≡ links + 1 → Climbing n h base rest amounts goal w′ ps′ b (r + 1) links′
   climb-step {b} {c} {w′} p q g u l =
       rw (is-first G e z p, u, l, add-one r)
       (next-step (rw (is-first G e z p, is-second G e z q) at g) (G .fuel) (G .enough) (G .whole))

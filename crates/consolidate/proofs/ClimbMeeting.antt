@@ -9,7 +9,7 @@ use native.Mathlib.Omega.{arith}
 use lib.ListN.{getD}
 use Rattle.rules.specs.declared.Field.the-variants.{LastChild, Rank}
 use Rattle.rules.specs.Consolidate.{Linking, loser, occupied, winner}
-use Rattle.rules.specs.Forests.{Forests, none, childrenOf, rankOf, setRow}
+use Rattle.rules.specs.Forests.{Forests, childrenOf, heapOf, none, rankOf, setRow}
 use Rattle.rules.specs.Lists.{occurs}
 use Rattle.rules.specs.Order.{comesBefore, precedes}
 use Rattle.rules.specs.Words.{lastOr, look}
@@ -23,11 +23,11 @@ use Rattle.store.proofs.Listed.{link-in}
 use Rattle.store.proofs.ListMembers.{root-in}
 use Rattle.consolidate.proofs.Beside.{beside-rank, before-says}
 use Rattle.consolidate.proofs.LinkedLists.{last-apart}
-use Rattle.consolidate.proofs.Climbing.{Climbing, held, place-at, rank-inside, tree-inside}
+use Rattle.consolidate.proofs.Climbing.{Climbing, held, keys-fit, place-at, rank-inside}
 use Rattle.consolidate.proofs.LinkLists.{TwoRoots, a-in, a-root, l-in}
 
-module _ {n h base : ℕ} {rest : List ℕ} {goal : Linking} {w ps : List ℕ} {x r links : ℕ}
-    (G : Climbing n h base rest goal w ps x r links) {a : ℕ} (e : a ≡ getD ps r 0) (z : a ≢ none) where
+module _ {n h base : ℕ} {rest : List ℕ} {amounts : ℕ → ℕ} {goal : Linking} {w ps : List ℕ} {x r links : ℕ}
+    (G : Climbing n h base rest amounts goal w ps x r links) {a : ℕ} (e : a ≡ getD ps r 0) (z : a ≢ none) where
   abbrev t : Forests
   t = G .here
 
@@ -64,15 +64,17 @@ module _ {n h base : ℕ} {rest : List ℕ} {goal : Linking} {w ps : List ℕ} {
   second = loser (t .key) y x
 
   -- what the code finds by the words
-  same-order : comesBefore (itemKey (look n w)) a x ≡ order
+  same-order : comesBefore (itemKey h (look n w)) a x ≡ order
   same-order =
-      before-says (G .state .beside) (G .state .says) a x holder-inside (tree-inside G)
+      let i = in-row t h ρ (H .formed) hh in
+      before-says (G .state .beside) (G .state .says) hh (keys-fit (G .state)) a x
+      (ap (heapOf t) (place-at G e) ∙ i y y-row .0) (i x (x-in h hh ps rest x t H) .0)
       ∙ ap (λ q. precedes (t .key) q x) (place-at G e)
 
-  pub is-first : {b : ℕ} → b ≡ cond (comesBefore (itemKey (look n w)) a x) a x → b ≡ first
+  pub is-first : {b : ℕ} → b ≡ cond (comesBefore (itemKey h (look n w)) a x) a x → b ≡ first
   is-first q = q ∙ rw (same-order, place-at G e)
 
-  pub is-second : {b : ℕ} → b ≡ cond (comesBefore (itemKey (look n w)) a x) x a → b ≡ second
+  pub is-second : {b : ℕ} → b ≡ cond (comesBefore (itemKey h (look n w)) a x) x a → b ≡ second
   is-second q = q ∙ rw (same-order, place-at G e)
 
   -- the two are roots, whichever comes first
@@ -116,8 +118,8 @@ module _ {n h base : ℕ} {rest : List ℕ} {goal : Linking} {w ps : List ℕ} {
       go false = G .rank
 
   -- so the link may be made
-  pub link-ready : {b c : ℕ} → b ≡ cond (comesBefore (itemKey (look n w)) a x) a x
-      → c ≡ cond (comesBefore (itemKey (look n w)) a x) x a → AppendReady n w (Children b) c
+  pub link-ready : {b c : ℕ} → b ≡ cond (comesBefore (itemKey h (look n w)) a x) a x
+      → c ≡ cond (comesBefore (itemKey h (look n w)) a x) x a → AppendReady n w (Children b) c
   unfolding lastOf RankRises
   link-ready p q =
       rw (is-first p, is-second q) (record {

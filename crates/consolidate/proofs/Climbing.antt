@@ -16,7 +16,8 @@ use Rattle.rules.proofs.Excused.{to-formed, well-formed}
 use Rattle.consolidate.specs.Consolidating.{Consolidating, Climbed, climbTree}
 use Rattle.consolidate.proofs.Beside.{beside-rank}
 
-module _ {n h : ℕ} {w ps trees rest : List ℕ} {t : Forests} (C : Consolidating n h w ps trees rest t) where
+module _ {n h : ℕ} {w ps trees rest : List ℕ} {amounts : ℕ → ℕ} {t : Forests}
+    (C : Consolidating n h w ps trees rest amounts t) where
   pub held : Held h ps trees t
   held = record
       { formed = to-formed (setRow h (occupied ps ++ trees) t) (C .formed); long = C .long; rank = C .placed }
@@ -26,11 +27,12 @@ module _ {n h : ℕ} {w ps trees rest : List ℕ} {t : Forests} (C : Consolidati
   keys-fit = C .formed .keys
 
 -- The tree x, of rank r, is on its way: what is left to do from here gives the goal. `fuel` bounds the links to come.
-pub record Climbing (n h base : ℕ) (rest : List ℕ) (goal : Linking) (w ps : List ℕ) (x r links : ℕ) : Type 0 where
+pub record Climbing (n h base : ℕ) (rest : List ℕ) (amounts : ℕ → ℕ) (goal : Linking) (w ps : List ℕ)
+    (x r links : ℕ) : Type 0 where
   pub here : Forests
   pub made : ℕ
   pub fuel : ℕ
-  pub state : Consolidating n h w ps (x ∷ rest) rest here
+  pub state : Consolidating n h w ps (x ∷ rest) rest amounts here
   pub rank : rankOf here x ≡ r
   pub tallied : links ≡ base + made
   pub fits : links + length (occupied ps) ≤ 4294967295
@@ -38,11 +40,11 @@ pub record Climbing (n h base : ℕ) (rest : List ℕ) (goal : Linking) (w ps : 
   pub whole : climb fuel (isFree ps r) r x (record { places = ps; links = made; forests = here }) ≡ goal
 
 -- a tree comes to the places
-pub climb-starts : (n h base k : ℕ) (rest w ps : List ℕ) (t : Forests) (x links r : ℕ)
-    → Consolidating n h w ps (x ∷ rest) rest t → links ≡ base + k → links + length (occupied ps) ≤ 4294967295
-    → r ≡ look n w Rank x → Climbing n h base rest (climbTree ps k t x) w ps x r links
+pub climb-starts : (n h base k : ℕ) (rest w ps : List ℕ) (amounts : ℕ → ℕ) (t : Forests) (x links r : ℕ)
+    → Consolidating n h w ps (x ∷ rest) rest amounts t → links ≡ base + k → links + length (occupied ps) ≤ 4294967295
+    → r ≡ look n w Rank x → Climbing n h base rest amounts (climbTree ps k t x) w ps x r links
 unfolding climbTree
-climb-starts n h base k rest w ps t x links r C e f q =
+climb-starts n h base k rest w ps amounts t x links r C e f q =
     let i : x < n = omega (arith, C .beside .size, x-heap h (C .heap) ps rest x t (held C)) in
     let z : r ≡ rankOf t x = q ∙ C .says .says Rank x i ∙ beside-rank (C .beside) x i in
     rw z (record {
@@ -57,8 +59,8 @@ climb-starts n h base k rest w ps t x links r C e f q =
       whole = refl;
     })
 
-module _ {n h base : ℕ} {rest : List ℕ} {goal : Linking} {w ps : List ℕ} {x r links : ℕ}
-    (G : Climbing n h base rest goal w ps x r links) where
+module _ {n h base : ℕ} {rest : List ℕ} {amounts : ℕ → ℕ} {goal : Linking} {w ps : List ℕ} {x r links : ℕ}
+    (G : Climbing n h base rest amounts goal w ps x r links) where
   abbrev t : Forests
   t = G .here
 
@@ -80,7 +82,7 @@ module _ {n h base : ℕ} {rest : List ℕ} {goal : Linking} {w ps : List ℕ} {
   -- ---- the place is free
 
   -- it rests there
-  pub climb-ends : {a : ℕ} → a ≡ getD ps r 0 → a ≡ none → Climbed n h base rest w (set ps r x) links goal
+  pub climb-ends : {a : ℕ} → a ≡ getD ps r 0 → a ≡ none → Climbed n h base rest w (set ps r x) links amounts goal
   unfolding climb isFree KeysFit
   climb-ends e z =
       let f : getD ps r none ≡ none = sym (place-at e) ∙ z in
@@ -89,7 +91,7 @@ module _ {n h base : ℕ} {rest : List ℕ} {goal : Linking} {w ps : List ℕ} {
       record {
         places = ap (λ l. l .places) g;
         tallied = G .tallied ∙ ap (λ l. base + l .links) g;
-        state = subst (λ l. Consolidating n h w (set ps r x) rest rest (l .forests)) g
+        state = subst (λ l. Consolidating n h w (set ps r x) rest rest amounts (l .forests)) g
             (record {
               heap = hh;
               values = G .state .values;

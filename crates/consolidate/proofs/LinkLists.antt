@@ -32,7 +32,8 @@ pub record TwoRoots (h : ℕ) (ρ : List ℕ) (t : Forests) (a l : ℕ) : Type 0
   pub first : 1 ≤ occurs a ρ
   pub second : 1 ≤ occurs l ρ
 
-module _ {n h : ℕ} {v : Values} {t : Forests} (B : Beside n h v t) {ρ : List ℕ} {a l : ℕ} (T : TwoRoots h ρ t a l) where
+module _ {n h : ℕ} {v : Values} {amounts : ℕ → ℕ} {t : Forests} (B : Beside n h v amounts t) {ρ : List ℕ} {a l : ℕ}
+    (T : TwoRoots h ρ t a l) where
   abbrev old : Forests
   old = setRow h ρ t
 

@@ -33,7 +33,8 @@ use Rattle.consolidate.proofs.LinkLists.{
 }
 use Rattle.consolidate.proofs.MoveWords.{child-other, child-parent, child-rank}
 
-module _ {n h : ℕ} {v : Values} {t : Forests} (B : Beside n h v t) {ρ : List ℕ} {a l : ℕ} (T : TwoRoots h ρ t a l) where
+module _ {n h : ℕ} {v : Values} {amounts : ℕ → ℕ} {t : Forests} (B : Beside n h v amounts t) {ρ : List ℕ} {a l : ℕ}
+    (T : TwoRoots h ρ t a l) where
   D : Disjoint (setRow h ρ t)
   D = T .formed .disjoint
 
@@ -47,7 +48,7 @@ module _ {n h : ℕ} {v : Values} {t : Forests} (B : Beside n h v t) {ρ : List 
   abbrev all : List Field
   all = also changed linked
 
-  new-parent : Agree n v′ (link a l t) Parent
+  new-parent : Agree n v′ amounts (link a l t) Parent
   unfolding link word
   new-parent =
       byItem l
@@ -56,7 +57,7 @@ module _ {n h : ℕ} {v : Values} {t : Forests} (B : Beside n h v t) {ρ : List 
       (λ i m k. child-parent a l v i
       ∙ rw (ne-eqb l i (λ e. m (sym e))) (beside-parent B i k ∙ sym (getD-set-other (t .parent) l i a 0 m)))
 
-  new-rank : Agree n v′ (link a l t) Rank
+  new-rank : Agree n v′ amounts (link a l t) Rank
   unfolding link word
   new-rank =
       byItem a
@@ -72,7 +73,7 @@ module _ {n h : ℕ} {v : Values} {t : Forests} (B : Beside n h v t) {ρ : List 
       ) (beside-rank B i k))
 
   -- l had no mark as a root, and has none now
-  new-state : Agree n v′ (link a l t) State
+  new-state : Agree n v′ amounts (link a l t) State
   unfolding link word
   new-state =
       byItem l
@@ -82,15 +83,15 @@ module _ {n h : ℕ} {v : Values} {t : Forests} (B : Beside n h v t) {ρ : List 
       (λ i m k. child-other a l v State i refl ∙ beside-state B i k
       ∙ ap (stateOf (heapOf t i)) (sym (getD-set-other (t .mark) l i 0 0 m)))
 
-  pub link-beside : Beside n h (appended (Children a) l v) (link a l t)
+  pub link-beside : Beside n h (appended (Children a) l v) amounts (link a l t)
   unfolding link minimum
   link-beside =
       record {
         size = B .size;
-        words = by-others linked changed (Agree n v′ (link a l t)) new-parent new-rank new-state (λ f o i k.
+        words = by-others linked changed (Agree n v′ amounts (link a l t)) new-parent new-rank new-state (λ f o i k.
             child-other a l v f i (apart-some all (Parent ∷ Rank ∷ linkKinds (Children a)) f refl o)
             ∙ B .words f (apart-some all linked f refl o) i k
-            ∙ kept-words (rows ∷ keys ∷ heaps ∷ []) all t (link a l t) refl refl refl refl f o i);
+            ∙ kept-words (rows ∷ keys ∷ heaps ∷ []) all amounts t (link a l t) refl refl refl refl f o i);
         frees = linked-frees B T;
         families = linked-families B T;
         otherRows = linked-rows B T;

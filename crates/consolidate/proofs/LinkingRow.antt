@@ -23,24 +23,24 @@ use Rattle.consolidate.proofs.LinkedLists.{head-none}
 use Rattle.consolidate.proofs.TreesToCome.{comes-inside, comes-once, follows, none-comes, rest-short}
 
 -- The trees of rest are to come, x first: what is left to do from here gives the goal.
-pub record LinkingRow (n h base : ℕ) (goal : Linking) (w ps : List ℕ) (x links : ℕ) : Type 0 where
+pub record LinkingRow (n h base : ℕ) (amounts : ℕ → ℕ) (goal : Linking) (w ps : List ℕ) (x links : ℕ) : Type 0 where
   pub here : Forests
   pub made : ℕ
   pub rest : List ℕ
-  pub state : Consolidating n h w ps rest rest here
+  pub state : Consolidating n h w ps rest rest amounts here
   pub head : x ≡ headOr none rest
   pub tallied : links ≡ base + made
   pub fits : links + length (occupied ps) + length rest ≤ 4294967295
   pub whole : linkTrees 18 rest (record { places = ps; links = made; forests = here }) ≡ goal
 
 -- all trees of the row are to come, and all places are free
-pub walk-starts : {n h m : ℕ} {w : List ℕ} {t : Forests} (x links : ℕ) → Rowed n h m w t → WellFormed t → h < 8
-    → x ≡ look n w FirstTree h → links + 4096 ≤ 4294967295
-    → LinkingRow n h links (linkRow h t) w (replicate 17 none) x links
+pub walk-starts : {n h m : ℕ} {w : List ℕ} {amounts : ℕ → ℕ} {t : Forests} (x links : ℕ) → Rowed n h m w amounts t
+    → WellFormed t → h < 8 → x ≡ look n w FirstTree h → links + 4096 ≤ 4294967295
+    → LinkingRow n h links amounts (linkRow h t) w (replicate 17 none) x links
 unfolding linkRow KeysFit occupied
-walk-starts {n} {h} {m} {w} {t} x links R W k e f =
+walk-starts {n} {h} {m} {w} {amounts} {t} x links R W k e f =
     let H = held-start h t k (to-formed t W) in
-    let C : Consolidating n h w (replicate 17 none) (rowOf t h) (rowOf t h) t =
+    let C : Consolidating n h w (replicate 17 none) (rowOf t h) (rowOf t h) amounts t =
     record {
       heap = k;
       values = R .values;
@@ -62,26 +62,27 @@ walk-starts {n} {h} {m} {w} {t} x links R W k e f =
       whole = refl;
     }
 
-module _ {n h base : ℕ} {goal : Linking} {w ps : List ℕ} {x links : ℕ} (G : LinkingRow n h base goal w ps x links) where
+module _ {n h base : ℕ} {amounts : ℕ → ℕ} {goal : Linking} {w ps : List ℕ} {x links : ℕ}
+    (G : LinkingRow n h base amounts goal w ps x links) where
   -- as many are to come as the next words lead to
   pub walk-left : length (follow n (look n w Next) x) ≡ length (G .rest)
   walk-left = rw (G .head) (ap length (follows (G .state)))
 
   -- ---- no tree is left
 
-  pub walk-ends : x ≡ none → Climbed n h base [] w ps links goal
+  pub walk-ends : x ≡ none → Climbed n h base [] w ps links amounts goal
   unfolding linkTrees
   walk-ends e =
       go (G .rest) (head-none (G .rest) (none-comes (G .state)) (sym (G .head) ∙ e)) (G .state) (G .whole)
     where
-      go : (l : List ℕ) → l ≡ [] → Consolidating n h w ps l l (G .here)
+      go : (l : List ℕ) → l ≡ [] → Consolidating n h w ps l l amounts (G .here)
           → linkTrees 18 l (record { places = ps; links = G .made; forests = G .here }) ≡ goal
-          → Climbed n h base [] w ps links goal
+          → Climbed n h base [] w ps links amounts goal
       go [] z C q =
           record {
             places = ap (λ l. l .places) q;
             tallied = G .tallied ∙ ap (λ l. base + l .links) q;
-            state = subst (λ l. Consolidating n h w ps [] [] (l .forests)) q C;
+            state = subst (λ l. Consolidating n h w ps [] [] amounts (l .forests)) q C;
           }
       go (y ∷ l) z C q = absurd (omega (arith, ap length z))
 
@@ -102,7 +103,7 @@ module _ {n h base : ℕ} {goal : Linking} {w ps : List ℕ} {x links : ℕ} (G 
         go (y ∷ l) e q = record { tail = l; is = q ∙ ap (λ z. z ∷ l) (sym e) }
 
     -- the same with x in front
-    whole-state : Consolidating n h w ps (x ∷ first .tail) (x ∷ first .tail) (G .here)
+    whole-state : Consolidating n h w ps (x ∷ first .tail) (x ∷ first .tail) amounts (G .here)
     whole-state = rw (first .is) at (G .state)
 
     pub walk-inside : x < n
@@ -110,7 +111,7 @@ module _ {n h base : ℕ} {goal : Linking} {w ps : List ℕ} {x links : ℕ} (G 
     walk-inside = comes-inside whole-state x (omega (arith, delta-self x))
 
     -- its link is not needed any more
-    climbing : Consolidating n h w ps (x ∷ first .tail) (first .tail) (G .here)
+    climbing : Consolidating n h w ps (x ∷ first .tail) (first .tail) amounts (G .here)
     unfolding occurs sumBy nextIn
     climbing =
         let C = whole-state in
@@ -130,11 +131,11 @@ module _ {n h base : ℕ} {goal : Linking} {w ps : List ℕ} {x links : ℕ} (G 
     room : links + length (occupied ps) + suc (length (first .tail)) ≤ 4294967295
     room = rw (first .is) at (G .fits)
 
-    pub walk-ready : ClimbReady n w ps x links
+    pub walk-ready : ClimbReady n h w ps x links
     walk-ready =
         record {
-          inHeap = h;
           rest = first .tail;
+          amounts = amounts;
           forests = G .here;
           state = climbing;
           fits = omega (arith, room);
@@ -142,14 +143,14 @@ module _ {n h base : ℕ} {goal : Linking} {w ps : List ℕ} {x links : ℕ} (G 
 
     -- one tree fewer is to come
     pub record Step (w′ ps′ : List ℕ) (x′ links′ : ℕ) : Type 0 where
-      pub next : LinkingRow n h base goal w′ ps′ x′ links′
+      pub next : LinkingRow n h base amounts goal w′ ps′ x′ links′
       pub less : length (next .rest) < length (G .rest)
 
-    pub walk-step : {w′ ps′ : List ℕ} {x′ links′ : ℕ} → x′ ≡ look n w Next x → Climbs n w ps x links w′ ps′ links′
+    pub walk-step : {w′ ps′ : List ℕ} {x′ links′ : ℕ} → x′ ≡ look n w Next x → Climbs n h w ps x links w′ ps′ links′
         → Step w′ ps′ x′ links′
     unfolding Climbs climbTree linkTrees nextIn occurs sumBy
     walk-step {w′} {ps′} {x′} {links′} e f =
-        let S = f h base (G .made) (G .here) (first .tail) climbing (G .tallied) in
+        let S = f base (G .made) amounts (G .here) (first .tail) climbing (G .tallied) in
         let L : Linking = climbTree ps (G .made) (G .here) x in
         let q : linkTrees 18 (x ∷ first .tail) (record { places = ps; links = G .made; forests = G .here }) ≡ goal =
         rw (first .is) at (G .whole) in

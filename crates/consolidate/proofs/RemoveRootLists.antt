@@ -44,7 +44,8 @@ use Rattle.consolidate.proofs.MoveWords.{out-first, out-last, released-
 use Rattle.consolidate.proofs.RemoveRootRow.{family, out-keeps, row₂, x-in, x-row}
 use Rattle.consolidate.proofs.RootRemoved.{plain, rootRemoved, rowJoined}
 
-module _ {n h m : ℕ} {w : List ℕ} {t : Forests} (R : Rowed n h m w t) {x : ℕ} (O : RootOf t h x) where
+module _ {n h m : ℕ} {w : List ℕ} {amounts : ℕ → ℕ} {t : Forests} (R : Rowed n h m w amounts t) {x : ℕ}
+    (O : RootOf t h x) where
   abbrev v : Values
   v = R .values
 

@@ -32,7 +32,8 @@ use Rattle.consolidate.proofs.LinkedLists.{linked-concat, linked-frame,
 use Rattle.consolidate.proofs.MoveWords.{out-first, out-last, out-next, out-prev, released-other}
 use Rattle.consolidate.proofs.RootRemoved.{rootRemoved, rowJoined}
 
-module _ {n h m : ℕ} {w : List ℕ} {t : Forests} (R : Rowed n h m w t) {x : ℕ} (O : RootOf t h x) where
+module _ {n h m : ℕ} {w : List ℕ} {amounts : ℕ → ℕ} {t : Forests} (R : Rowed n h m w amounts t) {x : ℕ}
+    (O : RootOf t h x) where
   abbrev v : Values
   v = R .values
 

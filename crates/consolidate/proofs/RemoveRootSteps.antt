@@ -36,7 +36,8 @@ use Rattle.consolidate.proofs.RemoveRootRow.{
 use Rattle.consolidate.proofs.RemoveRootWords.{remove-beside}
 use Rattle.consolidate.proofs.RootRemoved.{plain, rootRemoved}
 
-module _ {n h m : ℕ} {w : List ℕ} {t : Forests} (R : Rowed n h m w t) {x : ℕ} (O : RootOf t h x) where
+module _ {n h m : ℕ} {w : List ℕ} {amounts : ℕ → ℕ} {t : Forests} (R : Rowed n h m w amounts t) {x : ℕ}
+    (O : RootOf t h x) where
   pub root-inside : x < n
   root-inside = omega (arith, R .beside .size, x-in R O)
 
@@ -141,7 +142,7 @@ module _ {n h m : ℕ} {w : List ℕ} {t : Forests} (R : Rowed n h m w t) {x : �
       module _ {b c : ℕ} (eb : b ≡ look n w LastChild x) (ec : c ≡ look n w Count h) where
         pub root-removed : {w₃ w₄ w₅ : List ℕ} → Changes n w₂ (concatenated (Row h) a b) w₃
             → Changes n w₃ (freeItem x) w₄ → Changes n w₄ (setWord Count h (c - 1)) w₅
-            → Rowed n h m w₅ (removeRoot h x t)
+            → Rowed n h m w₅ amounts (removeRoot h x t)
         unfolding rootRemoved freeItem
         root-removed {w₅ = w₅} c₃ c₄ c₅ =
             let D = O .disjoint in

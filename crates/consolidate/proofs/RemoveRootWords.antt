@@ -28,7 +28,7 @@ use Rattle.rules.specs.Kinds.{Apart}
 use Rattle.rules.specs.Lists.{delta, without}
 use Rattle.rules.specs.Order.{minimum}
 use Rattle.rules.specs.WellFormed.{Disjoint}
-use Rattle.rules.specs.Words.{stateOf, word}
+use Rattle.rules.specs.Words.{stateOf, unlessFree, word}
 use Rattle.rules.proofs.ByKind.{also, apart-from, apart-some, by-others}
 use Rattle.rules.proofs.Counts.{count-left}
 use Rattle.rules.proofs.LeastOfTwo.{least-other}
@@ -39,7 +39,6 @@ use Rattle.rules.proofs.RemoveRootKeeps.{
   children-x,
   heap-o,
   heap-x,
-  key-x,
   mark-children,
   mark-o,
   parent-children,
@@ -55,12 +54,13 @@ use Rattle.store.proofs.ListMembers.{other-row}
 use Rattle.consolidate.specs.Released.{released}
 use Rattle.consolidate.specs.Removed.{RootOf}
 use Rattle.consolidate.specs.Stored.{linked, Beside, Rowed}
-use Rattle.consolidate.proofs.Beside.{beside-count, beside-key, beside-parent, beside-rank, beside-state}
+use Rattle.consolidate.proofs.Beside.{beside-count, beside-parent, beside-rank, beside-state}
 use Rattle.consolidate.proofs.MoveWords.{released-in}
 use Rattle.consolidate.proofs.RemoveRootLists.{free-links, other-families, other-rows}
 use Rattle.consolidate.proofs.RootRemoved.{moved, not-released, plain, rootRemoved}
 
-module _ {n h m : ℕ} {w : List ℕ} {t : Forests} (R : Rowed n h m w t) {x : ℕ} (O : RootOf t h x) (c : ℕ)
+module _ {n h m : ℕ} {w : List ℕ} {amounts : ℕ → ℕ} {t : Forests} (R : Rowed n h m w amounts t) {x : ℕ}
+    (O : RootOf t h x) (c : ℕ)
     (ec : c + 1 ≡ R .values Count h) where
   abbrev v : Values
   v = R .values
@@ -108,14 +108,14 @@ module _ {n h m : ℕ} {w : List ℕ} {t : Forests} (R : Rowed n h m w t) {x : �
   abbrev after : Forests
   after = removeRoot h x t
 
-  new-key : Agree n v₅ after Key
-  unfolding removeRoot setFree release rootRemoved freeItem stateOf word
+  new-key : Agree n v₅ amounts after Key
+  unfolding removeRoot setFree release rootRemoved freeItem stateOf word unlessFree
   new-key =
-      byItem x (λ k. rw (eqb-self x, key-x t D h x hx rx))
-      (λ i m k. rw (ne-eqb x i (λ e. m (sym e)), getD-set-other (t .key) x i 0 0 m)
-      (plain h x cs v Key i refl ∙ beside-key (R .beside) i k))
+      byItem x (λ k. rw (eqb-self x, heap-x t D h x hx rx))
+      (λ i m k. rw (ne-eqb x i (λ e. m (sym e)), getD-set-other (t .key) x i 0 0 m, heap-o t D h x hx rx i m)
+      (plain h x cs v Key i refl ∙ R .beside .words Key refl i k))
 
-  new-parent : Agree n v₅ after Parent
+  new-parent : Agree n v₅ amounts after Parent
   unfolding removeRoot setFree release rootRemoved freeItem stateOf word
   new-parent =
       byChild t D h x hx rx (λ k. rw (eqb-self x, parent-x t D h x hx rx))
@@ -125,14 +125,14 @@ module _ {n h m : ℕ} {w : List ℕ} {t : Forests} (R : Rowed n h m w t) {x : �
       (λ i m k j. rw (ne-eqb x i (λ e. m (sym e)), parent-o t D h x hx rx i m k)
       (not-released h x cs v Parent i refl k ∙ beside-parent (R .beside) i j))
 
-  new-rank : Agree n v₅ after Rank
+  new-rank : Agree n v₅ amounts after Rank
   unfolding removeRoot setFree release rootRemoved freeItem stateOf word
   new-rank =
       byItem x (λ k. rw (eqb-self x, children-x t D h x hx rx))
       (λ i m k. rw (ne-eqb x i (λ e. m (sym e)), getD-set-other (t .children) x i [] [] m)
       (plain h x cs v Rank i refl ∙ beside-rank (R .beside) i k))
 
-  new-state : Agree n v₅ after State
+  new-state : Agree n v₅ amounts after State
   unfolding removeRoot setFree release rootRemoved freeItem stateOf word
   new-state =
       byChild t D h x hx rx (λ k. rw (eqb-self x, heap-x t D h x hx rx))
@@ -144,7 +144,7 @@ module _ {n h m : ℕ} {w : List ℕ} {t : Forests} (R : Rowed n h m w t) {x : �
       rw (ne-eqb x i (λ e. m (sym e)), heap-o t D h x hx rx i m, mark-o t D h x hx rx i m k)
       (not-released h x cs v State i refl k ∙ beside-state (R .beside) i j))
 
-  new-count : Agree n v₅ after Count
+  new-count : Agree n v₅ amounts after Count
   unfolding rootRemoved freeItem word
   new-count g k =
       ap (λ z. cond (eqb h g) c z) (plain h x cs v Count g refl) ∙ left g k (eqb h g) refl
@@ -156,7 +156,7 @@ module _ {n h m : ℕ} {w : List ℕ} {t : Forests} (R : Rowed n h m w t) {x : �
   abbrev all : List Field
   all = also changed linked
 
-  new-other : (f : Field) → Apart all f → Agree n v₅ after f
+  new-other : (f : Field) → Apart all f → Agree n v₅ amounts after f
   unfolding rootRemoved freeItem
   new-other f o i k =
       let e = apart-from all f o in
@@ -173,14 +173,15 @@ module _ {n h m : ℕ} {w : List ℕ} {t : Forests} (R : Rowed n h m w t) {x : �
       )
       (plain h x cs v f i (apart-some all (moved h) f refl o)
       ∙ R .beside .words f (apart-some all linked f refl o) i k
-      ∙ kept-words [] all t after refl f o i)
+      ∙ kept-words [] all amounts t after refl f o i)
 
-  pub remove-beside : Beside n h (rootRemoved h x (childrenOf t x) c (R .values)) (removeRoot h x t)
+  pub remove-beside : Beside n h (rootRemoved h x (childrenOf t x) c (R .values)) amounts (removeRoot h x t)
   unfolding removeRoot setFree release rootRemoved freeItem
   remove-beside =
       record {
         size = length-set (t .heap) x 0 ∙ R .beside .size;
-        words = by-others linked changed (Agree n v₅ after) new-key new-parent new-rank new-state new-count new-other;
+        words = by-others linked changed (Agree n v₅ amounts after) new-key new-parent new-rank new-state new-count
+            new-other;
         frees = free-links R O c;
         families = other-families R O c;
         otherRows = other-rows R O c;

@@ -38,15 +38,15 @@ use Rattle.consolidate.proofs.Beside.{beside-parent}
 use Rattle.consolidate.proofs.LinkedLists.{linked-append, linked-frame, last-apart}
 use Rattle.consolidate.proofs.MoveWords.{row-first, row-last, row-next, row-other, row-parent, row-prev}
 
-module _ {n h : ℕ} {v : Values} {t : Forests} (B : Beside n h v t) where
+module _ {n h : ℕ} {v : Values} {amounts : ℕ → ℕ} {t : Forests} (B : Beside n h v amounts t) where
   -- the row itself is not looked at
-  pub beside-row : (r : List ℕ) → Beside n h v (setRow h r t)
+  pub beside-row : (r : List ℕ) → Beside n h v amounts (setRow h r t)
   unfolding minimum
   beside-row r =
       record {
         size = B .size;
         words = λ f o i k. B .words f o i k
-            ∙ kept-words (children ∷ parents ∷ keys ∷ marks ∷ heaps ∷ []) linked t (setRow h r t) refl
+            ∙ kept-words (children ∷ parents ∷ keys ∷ marks ∷ heaps ∷ []) linked amounts t (setRow h r t) refl
             refl refl refl refl refl f o i;
         frees = B .frees;
         families = B .families;
@@ -55,7 +55,7 @@ module _ {n h : ℕ} {v : Values} {t : Forests} (B : Beside n h v t) where
       }
 
   -- nor are its ends
-  pub beside-ends : (a b : ℕ) → Beside n h (setWord LastTree h b (setWord FirstTree h a v)) t
+  pub beside-ends : (a b : ℕ) → Beside n h (setWord LastTree h b (setWord FirstTree h a v)) amounts t
   beside-ends a b =
       record {
         size = B .size;
@@ -69,7 +69,7 @@ module _ {n h : ℕ} {v : Values} {t : Forests} (B : Beside n h v t) where
       }
 
   -- nor its minimum
-  pub beside-minimum : (m : ℕ) → Beside n h (setWord Minimum h m v) t
+  pub beside-minimum : (m : ℕ) → Beside n h (setWord Minimum h m v) amounts t
   beside-minimum m =
       record {
         size = B .size;
@@ -82,7 +82,8 @@ module _ {n h : ℕ} {v : Values} {t : Forests} (B : Beside n h v t) where
 
 -- ---- a tree at the end of the row, of which m is written and k is to come
 
-module _ {n h : ℕ} {v : Values} {t : Forests} (D : Disjoint t) (B : Beside n h v t) {m : List ℕ}
+module _ {n h : ℕ} {v : Values} {amounts : ℕ → ℕ} {t : Forests} (D : Disjoint t) (B : Beside n h v amounts t)
+    {m : List ℕ}
     (C : LinkedList (v FirstTree h) (v LastTree h) (v Next) (v Prev) m) (x : ℕ) (k : List ℕ)
     (e : rowOf t h ≡ m ++ (x ∷ k)) where
   abbrev v′ : Values
@@ -140,19 +141,19 @@ module _ {n h : ℕ} {v : Values} {t : Forests} (D : Disjoint t) (B : Beside n h
       (heap-in t y (r .0), not-row t D h y (λ z. some-item t D p j (sym (r .1) ∙ z)))
 
   -- x is a root, and all others keep their parents
-  at-x : x < n → v′ Parent x ≡ word t Parent x
+  at-x : x < n → v′ Parent x ≡ word amounts t Parent x
   unfolding word
   at-x j = row-parent h x v x ∙ rw (eqb-self x) (sym (x-root .1))
 
-  other-parent : (i : ℕ) → i ≢ x → i < n → v′ Parent i ≡ word t Parent i
+  other-parent : (i : ℕ) → i ≢ x → i < n → v′ Parent i ≡ word amounts t Parent i
   unfolding word
   other-parent i d j = row-parent h x v i ∙ rw (ne-eqb x i (λ z. d (sym z))) (beside-parent B i j)
 
-  pub longer-beside : Beside n h (appended (Row h) x v) t
+  pub longer-beside : Beside n h (appended (Row h) x v) amounts t
   longer-beside =
       record {
         size = B .size;
-        words = by-others linked (Parent ∷ []) (Agree n v′ t) (byItem x at-x other-parent)
+        words = by-others linked (Parent ∷ []) (Agree n v′ amounts t) (byItem x at-x other-parent)
             (λ f o i j. row-other h x v f i (apart-some (Parent ∷ linked) (Parent ∷ linkKinds (Row h)) f refl o)
             ∙ B .words f (apart-some (Parent ∷ linked) linked f refl o) i j);
         frees = λ i j z.

@@ -14,8 +14,8 @@ use Rattle.rules.specs.Forests.{Forests, none, rowOf, setRow}
 use Rattle.rules.specs.Lists.{occurs, sumBy}
 use Rattle.rules.specs.Order.{leastIn, minimum}
 use Rattle.rules.specs.SetWord.{setWord}
-use Rattle.rules.specs.WellFormed.{Disjoint, WellFormed}
-use Rattle.rules.specs.Words.{encode, headOr, lastOr}
+use Rattle.rules.specs.WellFormed.{Disjoint, KeysFit, WellFormed}
+use Rattle.rules.specs.Words.{wordsWith, headOr, lastOr}
 use Rattle.rules.proofs.Occurs.{eqb-self}
 use Rattle.store.specs.Says.{Changes}
 use Rattle.consolidate.specs.Consolidating.{Consolidating}
@@ -35,7 +35,7 @@ occupied-append (x ∷ a) b = go (eqb x none) (occupied-append a b)
     go false e = ap (λ l. x ∷ l) e
 
 -- the forests with the row of the places
-module _ {n h : ℕ} {w ps : List ℕ} {t : Forests} (C : Consolidating n h w ps [] [] t) where
+module _ {n h : ℕ} {w ps : List ℕ} {amounts : ℕ → ℕ} {t : Forests} (C : Consolidating n h w ps [] [] amounts t) where
   pub places-formed : WellFormed (setRow h (occupied ps) t)
   places-formed = subst (λ l. WellFormed (setRow h l t)) (append-nil (occupied ps)) (C .formed)
 
@@ -46,7 +46,7 @@ module _ {n h : ℕ} {w ps : List ℕ} {t : Forests} (C : Consolidating n h w ps
 
   -- an empty row
   pub writing-starts : {w₁ w₂ : List ℕ} → Changes n w (setWord FirstTree h none) w₁
-      → Changes n w₁ (setWord LastTree h none) w₂ → WritingRow n h w₂ [] none (setRow h (occupied ps) t)
+      → Changes n w₁ (setWord LastTree h none) w₂ → WritingRow n h w₂ [] none amounts (setRow h (occupied ps) t)
   unfolding headOr lastOr leastIn occurs sumBy
   writing-starts a b =
       record {
@@ -64,7 +64,8 @@ module _ {n h : ℕ} {w ps : List ℕ} {t : Forests} (C : Consolidating n h w ps
 
 -- ---- one place
 
-module _ (h : ℕ) (ps : List ℕ) (r : ℕ) (t : Forests) (D : Disjoint t) (hh : h < 8) (e : rowOf t h ≡ occupied ps)
+module _ (h : ℕ) (ps : List ℕ) (r : ℕ) (t : Forests) (D : Disjoint t) (K : KeysFit t) (hh : h < 8)
+    (e : rowOf t h ≡ occupied ps)
     (long : length ps ≡ 17) where
   -- the trees up to place r, and the one there
   next-place : (x : ℕ) → r < 17 → x ≡ getD ps r 0
@@ -75,6 +76,7 @@ module _ (h : ℕ) (ps : List ℕ) (r : ℕ) (t : Forests) (D : Disjoint t) (hh 
   coming {x} k q =
       record {
         disjoint = D;
+        keys = K;
         heap = hh;
         row = e
             ∙ ap occupied (sym (take-append-drop (r + 1) ps))
@@ -86,20 +88,21 @@ module _ (h : ℕ) (ps : List ℕ) (r : ℕ) (t : Forests) (D : Disjoint t) (hh 
             );
       }
 
-  pub place-written : {n m x : ℕ} {w : List ℕ} → r < 17 → x ≡ getD ps r 0
-      → WritingRow n h w (occupied (take r ps) ++ occupied (x ∷ [])) m t
-      → WritingRow n h w (occupied (take (r + 1) ps)) m t
+  pub place-written : {n m x : ℕ} {w : List ℕ} {amounts : ℕ → ℕ} → r < 17 → x ≡ getD ps r 0
+      → WritingRow n h w (occupied (take r ps) ++ occupied (x ∷ [])) m amounts t
+      → WritingRow n h w (occupied (take (r + 1) ps)) m amounts t
   place-written {x = x} k q W = rw (next-place x k q) W
 
   -- ---- all places
 
-  pub row-written : {n m : ℕ} {w w′ : List ℕ} → 17 ≤ r → WritingRow n h w (occupied (take r ps)) m t
+  pub row-written : {n m : ℕ} {w w′ : List ℕ} {amounts : ℕ → ℕ} → 17 ≤ r
+      → WritingRow n h w (occupied (take r ps)) m amounts t
       → Changes n w (setWord Minimum h m) w′
-      → w′ ≡ encode t
+      → w′ ≡ wordsWith amounts t
   unfolding minimum
-  row-written {n} {m} {w} {w′} k W c =
+  row-written {n} {m} {w} {w′} {amounts} k W c =
       let z : occupied (take r ps) ≡ rowOf t h = ap occupied (take-all r ps (omega arith)) ∙ sym e in
-      rowed-words t D {n = n} {h = h} {w = w′}
+      rowed-words amounts t D {n = n} {h = h} {w = w′}
       (record {
         values = setWord Minimum h m (W .values);
         says = c .says (W .values) (W .says);

@@ -13,7 +13,7 @@ use Rattle.rules.specs.Forests.{Forests, none, rowOf, childrenOf, parentOf, hea
 use Rattle.rules.specs.Lists.{occurs}
 use Rattle.rules.specs.Order.{minimum}
 use Rattle.rules.specs.WellFormed.{Disjoint}
-use Rattle.rules.specs.Words.{fieldSize, nextIn, prevIn, siblings, unlessFree, word, encode}
+use Rattle.rules.specs.Words.{fieldSize, nextIn, prevIn, siblings, unlessFree, word, wordsWith}
 use Rattle.rules.proofs.ByKind.{apart-some, by-kinds}
 use Rattle.rules.proofs.Members.{root-row, parent-child}
 use Rattle.rules.proofs.SiblingLists.{siblings-row, siblings-children}
@@ -25,9 +25,11 @@ use Rattle.store.proofs.Says.{says-as}
 use Rattle.consolidate.specs.LinkedList.{LinkedList}
 use Rattle.consolidate.specs.Stored.{linked, Beside, Rowed}
 
-module _ (t : Forests) (D : Disjoint t) where
+module _ (amounts : ℕ → ℕ) (t : Forests) (D : Disjoint t) where
   -- the words of a row, and of the children of an item
-  row-list : (g : ℕ) → LinkedList (word t FirstTree g) (word t LastTree g) (word t Next) (word t Prev) (rowOf t g)
+  row-list : (g : ℕ)
+      → LinkedList (word amounts t FirstTree g) (word amounts t LastTree g) (word amounts t Next) (word amounts t Prev)
+      (rowOf t g)
   unfolding word unlessFree
   row-list g =
       record {
@@ -38,7 +40,8 @@ module _ (t : Forests) (D : Disjoint t) where
       }
 
   family-list : (p : ℕ) → p < tableSize t → heapOf t p ≢ 0
-      → LinkedList (word t FirstChild p) (word t LastChild p) (word t Next) (word t Prev) (childrenOf t p)
+      → LinkedList (word amounts t FirstChild p) (word amounts t LastChild p) (word amounts t Next)
+      (word amounts t Prev) (childrenOf t p)
   unfolding word unlessFree
   family-list p k f =
       record {
@@ -49,18 +52,18 @@ module _ (t : Forests) (D : Disjoint t) where
       }
 
   -- words that hold the forests, with the minimum of h on its own
-  pub holds-rowed : {n : ℕ} (h : ℕ) {w : List ℕ} {counts minima : ℕ → ℕ} → Holds n w counts minima t none
+  pub holds-rowed : {n : ℕ} (h : ℕ) {w : List ℕ} {counts minima : ℕ → ℕ} → Holds n w amounts counts minima t none
       → ((g : ℕ) → g < 8 → counts g ≡ count t g) → ((g : ℕ) → g < 8 → g ≢ h → minima g ≡ minimum t g)
-      → Rowed n h (minima h) w t
+      → Rowed n h (minima h) w amounts t
   unfolding wordBut word unlessFree
   holds-rowed {n} h {w} {counts} {minima} H c m =
       let e = H .shape .heapN in
       record {
-        values = wordBut counts minima t;
+        values = wordBut amounts counts minima t;
         says = holds-says H;
         beside = record {
           size = e;
-          words = λ f a. but-minima n counts minima t c f (apart-some linked (Minimum ∷ []) f refl a);
+          words = λ f a. but-minima n amounts counts minima t c f (apart-some linked (Minimum ∷ []) f refl a);
           frees = λ i k z. (rw z, rw z, rw z, rw z);
           families = λ p k f. family-list p (omega (arith, e)) f;
           otherRows = λ g k d. row-list g;
@@ -70,11 +73,11 @@ module _ (t : Forests) (D : Disjoint t) where
         least = refl;
       }
 
-  module _ {n h m : ℕ} {w : List ℕ} (R : Rowed n h m w t) where
+  module _ {n h m : ℕ} {w : List ℕ} (R : Rowed n h m w amounts t) where
     abbrev v : Values
     v = R .values
 
-    B : Beside n h v t
+    B : Beside n h v amounts t
     B = R .beside
 
     -- the minimum of each heap, that of h as the words have it
@@ -125,24 +128,25 @@ module _ (t : Forests) (D : Disjoint t) where
         go true e = p (eqb-true (heapOf t i) 0 e)
         go false e = q (eqb-false (heapOf t i) 0 e)
 
-    same : (f : Field) (i : ℕ) → i < fieldSize n f → v f i ≡ wordBut (count t) minima t f i
+    same : (f : Field) (i : ℕ) → i < fieldSize n f → v f i ≡ wordBut amounts (count t) minima t f i
     unfolding wordBut word
     same =
-        by-kinds linked (λ f. (i : ℕ) → i < fieldSize n f → v f i ≡ wordBut (count t) minima t f i)
+        by-kinds linked (λ f. (i : ℕ) → i < fieldSize n f → v f i ≡ wordBut amounts (count t) minima t f i)
         (λ g k. row-of g k .front) (λ g k. row-of g k .back) least-of
         (λ i k. byHeap i (λ e. B .frees i k e .0) (λ e. B .families i k e .front))
         (λ i k. byHeap i (λ e. B .frees i k e .1) (λ e. B .families i k e .back))
         (λ i k. byHeap i (λ e. B .frees i k e .2) (λ e. links-of i e .0))
         (λ i k. byHeap i (λ e. B .frees i k e .3) (λ e. links-of i e .1))
         (λ f a i k. B .words f a i k
-        ∙ sym (but-minima n (count t) minima t (λ _ _. refl) f (apart-some linked (Minimum ∷ []) f refl a) i k))
+        ∙ sym (but-minima n amounts (count t) minima t (λ _ _. refl) f (apart-some linked (Minimum ∷ []) f refl a) i k))
 
-    rowed-holds : Holds n w (count t) (λ g. cond (eqb g h) m (minimum t g)) t none
+    rowed-holds : Holds n w amounts (count t) (λ g. cond (eqb g h) m (minimum t g)) t none
     rowed-holds =
-        says-holds (rw (B .size) at (disjoint-shape t D)) (says-as n w v (wordBut (count t) minima t) (R .says) same)
+        says-holds (rw (B .size) at (disjoint-shape t D))
+        (says-as n w v (wordBut amounts (count t) minima t) (R .says) same)
 
   -- where that is the least item, the words are those of the forests
-  pub rowed-words : {n h : ℕ} {w : List ℕ} → Rowed n h (minimum t h) w t → w ≡ encode t
+  pub rowed-words : {n h : ℕ} {w : List ℕ} → Rowed n h (minimum t h) w amounts t → w ≡ wordsWith amounts t
   rowed-words {n} {h} R = holds-encode (rowed-holds R) (λ g k. refl) (λ g k. go g (eqb g h) refl)
     where
       go : (g : ℕ) (b : Bool) → eqb g h ≡ b → cond b (minimum t h) (minimum t g) ≡ minimum t g

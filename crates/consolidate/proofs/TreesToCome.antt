@@ -21,7 +21,8 @@ use Rattle.store.proofs.ListMembers.{root-in}
 use Rattle.consolidate.specs.Consolidating.{Consolidating}
 use Rattle.consolidate.proofs.Climbing.{held}
 
-module _ {n h : ℕ} {w ps rest ahead : List ℕ} {t : Forests} (C : Consolidating n h w ps rest ahead t) where
+module _ {n h : ℕ} {w ps rest ahead : List ℕ} {amounts : ℕ → ℕ} {t : Forests}
+    (C : Consolidating n h w ps rest ahead amounts t) where
   abbrev ρ : List ℕ
   ρ = occupied ps ++ rest
 
@@ -57,7 +58,8 @@ module _ {n h : ℕ} {w ps rest ahead : List ℕ} {t : Forests} (C : Consolidati
   rest-short = once-short n rest comes-once outside
 
 -- the trees to come, by the next words
-pub follows : {n h : ℕ} {w ps rest : List ℕ} {t : Forests} → Consolidating n h w ps rest rest t
+pub follows : {n h : ℕ} {w ps rest : List ℕ} {amounts : ℕ → ℕ} {t : Forests}
+    → Consolidating n h w ps rest rest amounts t
     → follow n (look n w Next) (headOr none rest) ≡ rest
 follows {n} {h} {w} {ps} {rest} C =
     follow-list n (look n w Next) rest (rest-short C) (comes-once C) (none-comes C)

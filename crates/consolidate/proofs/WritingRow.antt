@@ -33,14 +33,17 @@ least-in key (z ∷ l) m = leastOf-in key z l
 
 -- ---- one tree
 
-module _ {n h m x : ℕ} {w written rest : List ℕ} {t : Forests} (C : Coming h written x rest t)
-    (W : WritingRow n h w written m t) where
-  -- who is written is in the table
+module _ {n h m x : ℕ} {w written rest : List ℕ} {amounts : ℕ → ℕ} {t : Forests} (C : Coming h written x rest t)
+    (W : WritingRow n h w written m amounts t) where
+  -- who is written is in heap h, and in the table
+  of-heap : (y : ℕ) → 1 ≤ occurs y written → heapOf t y ≡ suc h
+  of-heap y i =
+      row-root t (C .disjoint) h y
+      (rw (C .row) (omega (arith, occurs-append y written (occupied (x ∷ []) ++ rest)))) .0
+
   member : (y : ℕ) → 1 ≤ occurs y written → y < n
   member y i =
-      let r = row-root t (C .disjoint) h y
-      (rw (C .row) (omega (arith, occurs-append y written (occupied (x ∷ []) ++ rest)))) in
-      let k = heap-in t y (λ e. omega (arith, r .0)) in
+      let k = heap-in t y (λ e. omega (arith, of-heap y i)) in
       omega (arith, W .beside .size)
 
   none-written : occurs none written ≡ 0
@@ -48,7 +51,7 @@ module _ {n h m x : ℕ} {w written rest : List ℕ} {t : Forests} (C : Coming h
       not-in none written (λ i. omega (arith, member none i, W .says .sized .small))
 
   -- no tree
-  pub none-written-tree : x ≡ none → WritingRow n h w (written ++ occupied (x ∷ [])) m t
+  pub none-written-tree : x ≡ none → WritingRow n h w (written ++ occupied (x ∷ [])) m amounts t
   unfolding occupied
   none-written-tree e = rw (e, append-nil written) W
 
@@ -80,14 +83,15 @@ module _ {n h m x : ℕ} {w written rest : List ℕ} {t : Forests} (C : Coming h
           rank = tt;
         }
 
+    least-stands : m ≢ none → 1 ≤ occurs m written
+    least-stands d = rw (W .least) (least-in (t .key) written (λ e. d (W .least ∙ e)))
+
     pub least-inside : m ≢ none → m < n
-    least-inside d =
-        member m
-        (rw (W .least) (least-in (t .key) written (λ e. d (W .least ∙ e))))
+    least-inside d = member m (least-stands d)
 
     module _ {w′ : List ℕ} (c : Changes n w (appended (Row h) x) w′) where
       with-least : {m′ : ℕ} → m′ ≡ leastIn (t .key) (written ++ (x ∷ []))
-          → WritingRow n h w′ (written ++ occupied (x ∷ [])) m′ t
+          → WritingRow n h w′ (written ++ occupied (x ∷ [])) m′ amounts t
       unfolding occupied
       with-least e =
           rw (ne-eqb x none s) (record {
@@ -98,16 +102,18 @@ module _ {n h m x : ℕ} {w written rest : List ℕ} {t : Forests} (C : Coming h
             least = e;
           })
 
-      pub tree-written : {m′ : ℕ} → m′ ≡ lesser (itemKey (look n w′)) m x
-          → WritingRow n h w′ (written ++ occupied (x ∷ [])) m′ t
+      pub tree-written : {m′ : ℕ} → m′ ≡ lesser (itemKey h (look n w′)) m x
+          → WritingRow n h w′ (written ++ occupied (x ∷ [])) m′ amounts t
       unfolding leastIn leastOf
       tree-written e =
           with-least (e
-          ∙ lesser-keys (itemKey (look n w′)) (keyOf t) m x (λ d. key-at m (least-inside d)) (λ _. key-at x tree-inside)
+          ∙ lesser-keys (itemKey h (look n w′)) (keyOf t) m x (λ d. key-at m (of-heap m (least-stands d)))
+          (λ _. key-at x (x-root .0))
           ∙ ap (λ q. lesser (keyOf t) q x) (W .least)
           ∙ sym (least-append (t .key) written (x ∷ []) none-written
           (occurs-one none x ∙ delta-other none x s)))
         where
-          key-at : (i : ℕ) → i < n → itemKey (look n w′) i ≡ keyOf t i
+          key-at : (i : ℕ) → heapOf t i ≡ suc h → itemKey h (look n w′) i ≡ keyOf t i
           key-at =
               key-beside (longer-beside (C .disjoint) (W .beside) (W .row) x rest split) (c .says (W .values) (W .says))
+              (C .heap) (C .keys)

@@ -9,17 +9,18 @@ use Rattle.rules.specs.Consolidate.{Linking, climb, consolidate, isFree, linkTr
 use Rattle.rules.specs.Forests.{Forests, none, rankOf, rowOf, setRow}
 use Rattle.rules.specs.Lists.{occurs}
 use Rattle.rules.specs.WellFormed.{WellFormed}
-use Rattle.rules.specs.Words.{encode, nextIn}
+use Rattle.rules.specs.Words.{wordsWith, nextIn}
 use Rattle.store.specs.Says.{Values, Says}
 use Rattle.consolidate.specs.Stored.{Beside, Rowed}
 
 -- The roots of heap h are those at the places ps and the trees to come. A tree at place r has rank r. The words are
--- those of the forests t but for the row of h; of its links only those of the trees of rest are as they were.
-pub record Consolidating (n h : ℕ) (w ps trees rest : List ℕ) (t : Forests) : Type 0 where
+-- those of the forests t with these amounts, but for the row of h; of its links only those of the trees of rest are as
+-- they were.
+pub record Consolidating (n h : ℕ) (w ps trees rest : List ℕ) (amounts : ℕ → ℕ) (t : Forests) : Type 0 where
   pub heap : h < 8
   pub values : Values
   pub says : Says n w values
-  pub beside : Beside n h values t
+  pub beside : Beside n h values amounts t
   pub formed : WellFormed (setRow h (occupied ps ++ trees) t)
   pub long : length ps ≡ 17
   pub placed : (r : ℕ) → getD ps r none ≢ none → rankOf t (getD ps r none) ≡ r
@@ -33,32 +34,33 @@ climbTree ps k t x =
     climb 18 (isFree ps (rankOf t x)) (rankOf t x) x (record { places = ps; links = k; forests = t })
 
 -- the tree x may come: there is room in the tally for a link with each tree at the places
-pub record ClimbReady (n : ℕ) (w ps : List ℕ) (x links : ℕ) : Type 0 where
-  pub inHeap : ℕ
+pub record ClimbReady (n h : ℕ) (w ps : List ℕ) (x links : ℕ) : Type 0 where
   pub rest : List ℕ
+  pub amounts : ℕ → ℕ
   pub forests : Forests
-  pub state : Consolidating n inHeap w ps (x ∷ rest) rest forests
+  pub state : Consolidating n h w ps (x ∷ rest) rest amounts forests
   pub fits : links + length (occupied ps) ≤ 4294967295
 
 -- after a step: the places and links are those of the rules, and the words are as the next step needs them
-pub record Climbed (n h base : ℕ) (rest w ps : List ℕ) (links : ℕ) (l : Linking) : Type 0 where
+pub record Climbed (n h base : ℕ) (rest w ps : List ℕ) (links : ℕ) (amounts : ℕ → ℕ) (l : Linking) : Type 0 where
   pub places : ps ≡ l .places
   pub tallied : links ≡ base + l .links
-  pub state : Consolidating n h w ps rest rest (l .forests)
+  pub state : Consolidating n h w ps rest rest amounts (l .forests)
 
 -- whatever the forests are, and however many links were made before
-unfoldable pub Climbs : ℕ → List ℕ → List ℕ → ℕ → ℕ → List ℕ → List ℕ → ℕ → Type 0
-Climbs n w ps x links w′ ps′ links′ =
-    (h base k : ℕ) (t : Forests) (rest : List ℕ) → Consolidating n h w ps (x ∷ rest) rest t → links ≡ base + k
-    → Climbed n h base rest w′ ps′ links′ (climbTree ps k t x)
+unfoldable pub Climbs : ℕ → ℕ → List ℕ → List ℕ → ℕ → ℕ → List ℕ → List ℕ → ℕ → Type 0
+Climbs n h w ps x links w′ ps′ links′ =
+    (base k : ℕ) (a : ℕ → ℕ) (t : Forests) (rest : List ℕ) → Consolidating n h w ps (x ∷ rest) rest a t
+    → links ≡ base + k → Climbed n h base rest w′ ps′ links′ a (climbTree ps k t x)
 
 -- ---- the row
 
 pub record ConsolidateReady (n : ℕ) (w : List ℕ) (h links : ℕ) : Type 0 where
   pub heap : h < 8
   pub least : ℕ
+  pub amounts : ℕ → ℕ
   pub forests : Forests
-  pub rowed : Rowed n h least w forests
+  pub rowed : Rowed n h least w amounts forests
   pub formed : WellFormed forests
   pub fits : links + 4096 ≤ 4294967295
 
@@ -68,21 +70,24 @@ linkRow h t = linkTrees 18 (rowOf t h) (record { places = replicate 17 none; lin
 
 unfoldable pub LinksRow : ℕ → List ℕ → ℕ → ℕ → List ℕ → List ℕ → ℕ → Type 0
 LinksRow n w h links w′ ps links′ =
-    (m : ℕ) (t : Forests) → Rowed n h m w t → WellFormed t → Climbed n h links [] w′ ps links′ (linkRow h t)
+    (m : ℕ) (a : ℕ → ℕ) (t : Forests) → Rowed n h m w a t → WellFormed t
+    → Climbed n h links [] w′ ps links′ a (linkRow h t)
 
 -- the row is written anew from the places
 pub record RowReady (n : ℕ) (w : List ℕ) (h : ℕ) (ps : List ℕ) : Type 0 where
+  pub amounts : ℕ → ℕ
   pub forests : Forests
-  pub state : Consolidating n h w ps [] [] forests
+  pub state : Consolidating n h w ps [] [] amounts forests
 
 unfoldable pub WritesRow : ℕ → List ℕ → ℕ → List ℕ → List ℕ → Type 0
 WritesRow n w h ps w′ =
-    (t : Forests) → Consolidating n h w ps [] [] t → w′ ≡ encode (setRow h (occupied ps) t)
+    (a : ℕ → ℕ) (t : Forests) → Consolidating n h w ps [] [] a t → w′ ≡ wordsWith a (setRow h (occupied ps) t)
 
-pub record Consolidated (w : List ℕ) (links : ℕ) (base : ℕ) (l : Linking) : Type 0 where
-  pub words : w ≡ encode (l .forests)
+pub record Consolidated (w : List ℕ) (links : ℕ) (base : ℕ) (amounts : ℕ → ℕ) (l : Linking) : Type 0 where
+  pub words : w ≡ wordsWith amounts (l .forests)
   pub tallied : links ≡ base + l .links
 
 unfoldable pub Consolidates : ℕ → List ℕ → ℕ → ℕ → List ℕ → ℕ → Type 0
 Consolidates n w h links w′ links′ =
-    (m : ℕ) (t : Forests) → Rowed n h m w t → WellFormed t → Consolidated w′ links′ links (consolidate h t)
+    (m : ℕ) (a : ℕ → ℕ) (t : Forests) → Rowed n h m w a t → WellFormed t
+    → Consolidated w′ links′ links a (consolidate h t)

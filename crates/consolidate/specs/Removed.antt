@@ -15,11 +15,12 @@ pub record RootOf (t : Forests) (h x : ℕ) : Type 0 where
 
 pub record RootReady (n : ℕ) (w : List ℕ) (h x : ℕ) : Type 0 where
   pub least : ℕ
+  pub amounts : ℕ → ℕ
   pub forests : Forests
-  pub rowed : Rowed n h least w forests
+  pub rowed : Rowed n h least w amounts forests
   pub rooted : RootOf forests h x
 
 -- Whatever forests the words w are of, the words w′ are of those without the root. The minimum is left as it is.
 unfoldable pub RemovesRoot : ℕ → List ℕ → ℕ → ℕ → List ℕ → Type 0
 RemovesRoot n w h x w′ =
-    (m : ℕ) (t : Forests) → Rowed n h m w t → RootOf t h x → Rowed n h m w′ (removeRoot h x t)
+    (m : ℕ) (a : ℕ → ℕ) (t : Forests) → Rowed n h m w a t → RootOf t h x → Rowed n h m w′ a (removeRoot h x t)

@@ -15,10 +15,11 @@ use Rattle.consolidate.specs.LinkedList.{LinkedList}
 abbrev pub linked : List Field
 linked = FirstTree ∷ LastTree ∷ Minimum ∷ FirstChild ∷ LastChild ∷ Next ∷ Prev ∷ []
 
--- v has the words of the forests t, but for the row and the minimum of heap h: of these nothing is said.
-pub record Beside (n h : ℕ) (v : Values) (t : Forests) : Type 0 where
+-- v has the words of the forests t with these amounts, but for the row and the minimum of heap h: of these nothing is
+-- said.
+pub record Beside (n h : ℕ) (v : Values) (amounts : ℕ → ℕ) (t : Forests) : Type 0 where
   pub size : tableSize t ≡ n
-  pub words : (f : Field) → Apart linked f → Agree n v t f
+  pub words : (f : Field) → Apart linked f → Agree n v amounts t f
   pub frees : (i : ℕ) → i < n → heapOf t i ≡ 0
       → (v FirstChild i ≡ 0) × (v LastChild i ≡ 0) × (v Next i ≡ 0) × (v Prev i ≡ 0)
   pub families : (p : ℕ) → p < n → heapOf t p ≢ 0
@@ -26,10 +27,10 @@ pub record Beside (n h : ℕ) (v : Values) (t : Forests) : Type 0 where
   pub otherRows : (g : ℕ) → g < 8 → g ≢ h → LinkedList (v FirstTree g) (v LastTree g) (v Next) (v Prev) (rowOf t g)
   pub minima : (g : ℕ) → g < 8 → g ≢ h → v Minimum g ≡ minimum t g
 
--- The words w are those of the forests t, but for the minimum of heap h, which is m.
-pub record Rowed (n h m : ℕ) (w : List ℕ) (t : Forests) : Type 0 where
+-- The words w are those of the forests t with these amounts, but for the minimum of heap h, which is m.
+pub record Rowed (n h m : ℕ) (w : List ℕ) (amounts : ℕ → ℕ) (t : Forests) : Type 0 where
   pub values : Values
   pub says : Says n w values
-  pub beside : Beside n h values t
+  pub beside : Beside n h values amounts t
   pub row : LinkedList (values FirstTree h) (values LastTree h) (values Next) (values Prev) (rowOf t h)
   pub least : values Minimum h ≡ m

@@ -1,9 +1,8 @@
 // Linking, and taking a heap's minimum, on a store for n items.
 ghost use mathlib.Core.Path.{_≡_};
 ghost use mathlib.Core.Bool.{cond};
-ghost use Rattle.rules.specs.declared.Call.the-variants.{ExtractMin};
+ghost use Prim.Native.Nat.{_<_};
 ghost use Rattle.rules.specs.declared.Field.the-variants.{Key};
-ghost use Rattle.rules.specs.Calls.{perform};
 ghost use Rattle.rules.specs.Order.{comesBefore};
 ghost use Rattle.rules.specs.Words.{decode, look};
 ghost use Rattle.store.specs.ItemOrder.{itemKey};
@@ -26,24 +25,27 @@ use store::append;
 use store::concat;
 use store::free_item;
 use store::get;
+use store::keys::key_of;
+use store::keys::settle_amount;
 use store::order::lesser_of;
 use store::order::precedes;
 use store::put;
 use store::remove;
 
-// Two items in their order.
+// Two items of a heap in their order.
 struct Pair {
     first: u32,
     second: u32,
 }
 
-fn in_order(s: &[u32], n: usize, a: u32, b: u32) -> Pair
+fn in_order(s: &[u32], n: usize, h: u32, a: u32, b: u32) -> Pair
+    requires { ⌜ h < 8 ⌝ }
     requires { ⌜ Within n (now s) Key a ⌝ }
     requires { ⌜ Within n (now s) Key b ⌝ }
-    ensures { λ r. ⌜ r .first ≡ cond (comesBefore (itemKey (look n (now (s .entry)))) a b) a b ⌝ }
-    ensures { λ r. ⌜ r .second ≡ cond (comesBefore (itemKey (look n (now (s .entry)))) a b) b a ⌝ }
+    ensures { λ r. ⌜ r .first ≡ cond (comesBefore (itemKey h (look n (now (s .entry)))) a b) a b ⌝ }
+    ensures { λ r. ⌜ r .second ≡ cond (comesBefore (itemKey h (look n (now (s .entry)))) a b) b a ⌝ }
 {
-    if precedes(s, n, a, b) {
+    if precedes(s, n, h, a, b) {
         Pair {
             first: a,
             second: b,
@@ -62,11 +64,11 @@ struct Linked {
     tally: Tally,
 }
 
-// A tree comes to the places: it is linked with the holder of the place of its rank, and the winner climbs one rank,
-// until it rests at a free place.
-fn climb(s: &mut [u32], n: usize, held: [u16; 17], tree: u32, tally: Tally) -> Linked
-    requires { ⌜ ClimbReady n (now s) (treesOf held) tree (tally .links) ⌝ }
-    ensures { λ r. ⌜ Climbs n (now (s .entry)) (treesOf held) tree (tally .links)
+// A tree of heap h comes to the places: it is linked with the holder of the place of its rank, and the winner climbs
+// one rank, until it rests at a free place.
+fn climb(s: &mut [u32], n: usize, h: u32, held: [u16; 17], tree: u32, tally: Tally) -> Linked
+    requires { ⌜ ClimbReady n h (now s) (treesOf held) tree (tally .links) ⌝ }
+    ensures { λ r. ⌜ Climbs n h (now (s .entry)) (treesOf held) tree (tally .links)
         (now (s .exit)) (treesOf (r .places)) (r .tally .links) ⌝ }
     ensures { λ r. ⌜ r .tally .cuts ≡ tally .cuts ⌝ }
 {
@@ -79,7 +81,7 @@ fn climb(s: &mut [u32], n: usize, held: [u16; 17], tree: u32, tally: Tally) -> L
         if y == NONE {
             break r;
         }
-        let pair = in_order(s, n, y, x);
+        let pair = in_order(s, n, h, y, x);
         let w = pair.first;
         append(s, n, Owner::Children(w), pair.second);
         hold(&mut places, r, NONE);
@@ -103,7 +105,7 @@ fn link_row(s: &mut [u32], n: usize, h: u32, tally: Tally) -> Linked
     let mut x = get(s, n, Field::FirstTree, h);
     while x != NONE {
         let next = get(s, n, Field::Next, x);
-        let c = climb(s, n, places, x, t);
+        let c = climb(s, n, h, places, x, t);
         let q = c.places;
         places = q;
         t = c.tally;
@@ -153,7 +155,7 @@ fn write_tree(s: &mut [u32], n: usize, h: u32, m: u32, x: u32) -> u32
         return m;
     }
     append(s, n, Owner::Row(h), x);
-    lesser_of(s, n, m, x)
+    lesser_of(s, n, h, m, x)
 }
 
 // The row of heap h written anew from the places, by ascending rank, with its minimum.
@@ -196,13 +198,14 @@ pub struct Extracted {
 pub fn extract_min(s: &mut [u32], n: usize, h: u32, tally: Tally) -> Extracted
     requires { ⌜ ExtractReady n (now s) h (tally .links) ⌝ }
     ensures { λ r. ⌜ Performs (now (s .exit)) (tally .links) (r .item) (r .key) (r .tally .links)
-        (perform (decode n (now (s .entry))) (ExtractMin h)) ⌝ }
+        (decode n (now (s .entry))) h ⌝ }
     ensures { λ r. ⌜ r .tally .cuts ≡ tally .cuts ⌝ }
 {
     let x = get(s, n, Field::Minimum, h);
-    let key = get(s, n, Field::Key, x);
+    let key = key_of(s, n, h, x);
     remove_root(s, n, h, x);
     let t = consolidate(s, n, h, tally);
+    settle_amount(s, n, h);
     Extracted {
         item: x,
         key,

@@ -19,14 +19,15 @@ cascade-few (suc d) unmarked h p s = zero-le
 cascade-few (suc d) marked h p s =
     omega (arith, cascade-few d (nodeKind (cut h p s) (parentOf s p)) h (parentOf s p) (cut h p s))
 
-module _ {n : ℕ} {w : List ℕ} {c m : ℕ → ℕ} {t : Forests} {h x p : ℕ} (H : Holds n w c m t none) (C : Child t h x)
+module _ {n : ℕ} {w : List ℕ} {amounts c m : ℕ → ℕ} {t : Forests} {h x p : ℕ} (H : Holds n w amounts c m t none)
+    (C : Child t h x)
     (e : p ≡ parentOf t x) where
   -- the parent is an item of the same heap after the cut
   pub parent-member : Member (cut h x t) h p
   parent-member = rw e (after-cut t h x (C .member) (C .child))
 
-  module _ {w₁ w₂ : List ℕ} {r : ℕ} (a : Holds n w₁ c m (cut h x t) none)
-      (b : Cascaded n w₂ c m (cascadingCut (suc n) (nodeKind (cut h x t) p) h p (cut h x t)) r) where
+  module _ {w₁ w₂ : List ℕ} {r : ℕ} (a : Holds n w₁ amounts c m (cut h x t) none)
+      (b : Cascaded n w₂ amounts c m (cascadingCut (suc n) (nodeKind (cut h x t) p) h p (cut h x t)) r) where
     -- the number of cuts, this one and those that follow, is that of the rules
     pub cuts-few : r ≤ 4097
     cuts-few =
@@ -37,7 +38,7 @@ module _ {n : ℕ} {w : List ℕ} {c m : ℕ → ℕ} {t : Forests} {h x p : ℕ
           H .shape .small,
         )
 
-    pub cut-out-holds : Cascaded n w₂ c m (cutOut h x t) (r + 1)
+    pub cut-out-holds : Cascaded n w₂ amounts c m (cutOut h x t) (r + 1)
     unfolding cutOut cutWithin
     cut-out-holds =
         let k : tableSize t ≡ n = H .shape .heapN in

@@ -28,19 +28,21 @@ use Rattle.cut.specs.Ready.{Member, Child}
 pub member-heap : {t : Forests} {h x : ℕ} → Member t h x → h < 8
 member-heap {t} {h} {x} M = omega (arith, M .disjoint .heaps x, M .heap)
 
-pub member-item : {n : ℕ} {w : List ℕ} {c m : ℕ → ℕ} {t : Forests} {h x y : ℕ} → Holds n w c m t y → Member t h x
+pub member-item : {n : ℕ} {w : List ℕ} {amounts c m : ℕ → ℕ} {t : Forests} {h x y : ℕ} → Holds n w amounts c m t y
+    → Member t h x
     → x < n
 member-item {t = t} {x = x} H M =
     omega (arith, root-in t (M .heap), H .shape .heapN)
 
 -- the parent word of an item
-pub parent-word : {n : ℕ} {w : List ℕ} {c m : ℕ → ℕ} {t : Forests} {x : ℕ} → Holds n w c m t none → x < n
+pub parent-word : {n : ℕ} {w : List ℕ} {amounts c m : ℕ → ℕ} {t : Forests} {x : ℕ} → Holds n w amounts c m t none
+    → x < n
     → look n w Parent x ≡ parentOf t x
 unfolding withLinks wordBut word
 parent-word {x = x} H k = H .says .says Parent x k
 
 -- and its state word
-pub state-word : {n : ℕ} {w : List ℕ} {c m : ℕ → ℕ} {t : Forests} {x : ℕ} → Holds n w c m t none → x < n
+pub state-word : {n : ℕ} {w : List ℕ} {amounts c m : ℕ → ℕ} {t : Forests} {x : ℕ} → Holds n w amounts c m t none → x < n
     → look n w State x ≡ stateOf (heapOf t x) (markOf t x)
 unfolding withLinks wordBut word
 state-word {x = x} H k = H .says .says State x k
@@ -58,7 +60,8 @@ after-cut t h p M ne =
       heap = M .disjoint .up p (λ e. omega (arith, e, M .heap)) ne .1 ∙ M .heap;
     }
 
-module _ {n : ℕ} {w : List ℕ} {c m : ℕ → ℕ} {t : Forests} {h x p : ℕ} (H : Holds n w c m t none) (C : Child t h x)
+module _ {n : ℕ} {w : List ℕ} {amounts c m : ℕ → ℕ} {t : Forests} {h x p : ℕ} (H : Holds n w amounts c m t none)
+    (C : Child t h x)
     (e : p ≡ parentOf t x) where
   D : Disjoint t
   D = C .member .disjoint
@@ -90,7 +93,7 @@ module _ {n : ℕ} {w : List ℕ} {c m : ℕ → ℕ} {t : Forests} {h x p : ℕ
       record { present = F .present; once = F .once; owned = F .owned }
 
   module _ {w₁ : List ℕ} (a : Changes n w (removed (Children p) x) w₁) where
-    H₁ : Holds n w₁ c m (removeFrom (Children p) x t) x
+    H₁ : Holds n w₁ amounts c m (removeFrom (Children p) x t) x
     H₁ = remove-holds (Children p) x H family among a
 
     -- x may then join the row, after any change that leaves the row's last
@@ -110,7 +113,7 @@ module _ {n : ℕ} {w : List ℕ} {c m : ℕ → ℕ} {t : Forests} {h x p : ℕ
 
     module _ {w₂ : List ℕ} (b : Changes n w₁ (setWord State x (1 + 2 * h)) w₂) where
       -- the mark is taken away
-      H₂ : Holds n w₂ c m (setMark x 0 (removeFrom (Children p) x t)) x
+      H₂ : Holds n w₂ amounts c m (setMark x 0 (removeFrom (Children p) x t)) x
       unfolding stateOf removeFrom
       H₂ = mark-holds H₁ x (1 + 2 * h) 0 (member-item H (C .member)) (rw (C .member .heap) (omega arith)) b
 
@@ -132,5 +135,5 @@ module _ {n : ℕ} {w : List ℕ} {c m : ℕ → ℕ} {t : Forests} {h x p : ℕ
       unfolding removeFrom
       joins = C .member .heap
 
-      pub cut-holds : {w₃ : List ℕ} → Changes n w₂ (appended (Row h) x) w₃ → Holds n w₃ c m (cut h x t) none
+      pub cut-holds : {w₃ : List ℕ} → Changes n w₂ (appended (Row h) x) w₃ → Holds n w₃ amounts c m (cut h x t) none
       cut-holds d = rw (← same) (append-holds (Row h) x H₂ row (member-item H (C .member)) absent joins d)

@@ -19,20 +19,22 @@ pub record Child (t : Forests) (h x : ℕ) : Type 0 where
   pub child : parentOf t x ≢ none
 
 pub record CutReady (n : ℕ) (w : List ℕ) (h x : ℕ) : Type 0 where
+  pub amounts : ℕ → ℕ
   pub counts : ℕ → ℕ
   pub minima : ℕ → ℕ
   pub forests : Forests
-  pub holds : Holds n w counts minima forests none
+  pub holds : Holds n w amounts counts minima forests none
   pub child : Child forests h x
 
 pub record CascadeReady (n : ℕ) (w : List ℕ) (h x : ℕ) : Type 0 where
+  pub amounts : ℕ → ℕ
   pub counts : ℕ → ℕ
   pub minima : ℕ → ℕ
   pub forests : Forests
-  pub holds : Holds n w counts minima forests none
+  pub holds : Holds n w amounts counts minima forests none
   pub member : Member forests h x
 
 -- after a cascade of cuts: the words hold its forests, and r is the number of its cuts
-pub record Cascaded (n : ℕ) (w : List ℕ) (counts minima : ℕ → ℕ) (k : Cuts) (r : ℕ) : Type 0 where
-  pub holds : Holds n w counts minima (k .forests) none
+pub record Cascaded (n : ℕ) (w : List ℕ) (amounts counts minima : ℕ → ℕ) (k : Cuts) (r : ℕ) : Type 0 where
+  pub holds : Holds n w amounts counts minima (k .forests) none
   pub cuts : r ≡ k .cuts

@@ -10,8 +10,8 @@ use store::Owner;
 // One cut: the tree x leaves its parent and goes unmarked to the end of row h.
 fn cut(s: &mut [u32], n: usize, h: u32, x: u32)
     requires { ⌜ CutReady n (now s) h x ⌝ }
-    ensures { λ r. ⌜ ((c m : ℕ → ℕ) (t : Forests) → Holds n (now (s .entry)) c m t none → Child t h x
-        → Holds n (now (s .exit)) c m (cut h x t) none) ⌝ }
+    ensures { λ r. ⌜ ((a c m : ℕ → ℕ) (t : Forests) → Holds n (now (s .entry)) a c m t none → Child t h x
+        → Holds n (now (s .exit)) a c m (cut h x t) none) ⌝ }
 {
     let p = store::get(s, n, Field::Parent, x);
     store::remove(s, n, Owner::Children(p), x);
@@ -23,8 +23,8 @@ fn cut(s: &mut [u32], n: usize, h: u32, x: u32)
 // Answers the number of cuts.
 fn cascading_cut(s: &mut [u32], n: usize, h: u32, x: u32) -> u32
     requires { ⌜ CascadeReady n (now s) h x ⌝ }
-    ensures { λ r. ⌜ ((c m : ℕ → ℕ) (t : Forests) → Holds n (now (s .entry)) c m t none → Member t h x
-        → Cascaded n (now (s .exit)) c m (cascadingCut (suc n) (nodeKind t x) h x t) r) ⌝ }
+    ensures { λ r. ⌜ ((a c m : ℕ → ℕ) (t : Forests) → Holds n (now (s .entry)) a c m t none → Member t h x
+        → Cascaded n (now (s .exit)) a c m (cascadingCut (suc n) (nodeKind t x) h x t) r) ⌝ }
 {
     let mut p = x;
     let mut cuts: u32 = 0;
@@ -50,8 +50,8 @@ fn cascading_cut(s: &mut [u32], n: usize, h: u32, x: u32) -> u32
 // x is cut, and its parent is then treated as one that lost a child. Answers the number of cuts.
 pub fn cut_out(s: &mut [u32], n: usize, h: u32, x: u32) -> u32
     requires { ⌜ CutReady n (now s) h x ⌝ }
-    ensures { λ r. ⌜ ((c m : ℕ → ℕ) (t : Forests) → Holds n (now (s .entry)) c m t none → Child t h x
-        → Cascaded n (now (s .exit)) c m (cutOut h x t) r) ⌝ }
+    ensures { λ r. ⌜ ((a c m : ℕ → ℕ) (t : Forests) → Holds n (now (s .entry)) a c m t none → Child t h x
+        → Cascaded n (now (s .exit)) a c m (cutOut h x t) r) ⌝ }
 {
     let p = store::get(s, n, Field::Parent, x);
     cut(s, n, h, x);

@@ -5,25 +5,37 @@ use mathlib.Core.Logic.{_≢_}
 use mathlib.Core.List.{List}
 use native.Mathlib.Omega.{arith}
 use lib.Dec.{eqb}
+use borrow.Author.Tests.{ne-eqb}
 use Rattle.rules.specs.declared.Call.{Call}
-use Rattle.rules.specs.declared.Call.the-variants.{DecreaseKey, Delete, ExtractMin, FindMin, Insert, Meld}
+use Rattle.rules.specs.declared.Call.the-variants.{
+  DecreaseKey,
+  Delete,
+  ExtractMin,
+  FindMin,
+  Insert,
+  Meld,
+  Raise,
+}
 use Rattle.rules.specs.declared.Line.the-variants.{Yields}
-use Rattle.rules.specs.declared.Field.the-variants.{Count, Key}
+use Rattle.rules.specs.declared.Field.the-variants.{Count}
 use Rattle.rules.specs.Answers.{answer, refusal, refused, unlessRefused}
-use Rattle.rules.specs.Calls.{Outcome, decreaseKey, delete, extract, insert, meld, perform}
-use Rattle.rules.specs.Forests.{heapNumber, keyOf}
+use Rattle.rules.specs.Calls.{decreaseKey, delete, extract, perform}
+use Rattle.rules.specs.Forests.{heapNumber, heapOf, keyOf}
 use Rattle.rules.specs.Order.{minimum}
-use Rattle.rules.specs.Words.{encode, forestsOf, look}
+use Rattle.rules.specs.Queues.{Queues, afterCall, afterLine, amountsAfterCall, amountsAfterLine}
+use Rattle.rules.specs.Words.{encode, forestsOf, look, queuesOf}
 use Rattle.rules.proofs.Members.{heap-in, row-root}
 use Rattle.rules.proofs.Refusals.{find-ok, meld-ok}
-use Rattle.rules.proofs.ReplyBounds.{delete-says}
+use Rattle.rules.proofs.ReplyBounds.{delete-says, perform-code}
 use Rattle.rules.proofs.SoundWords.{sound-words}
 use Rattle.rules.specs.declared.Tally.{Tally}
+use Rattle.store.specs.ItemOrder.{itemKey}
 use Rattle.heap.specs.declared.Reply.{Reply}
 use Rattle.heap.specs.Allowed.{Allowed, MayMove, Moves, Store}
 use Rattle.heap.specs.Performed.{Answers, Performed, Ready}
 use Rattle.heap.proofs.Deleting.{deleted-in-heap}
 use Rattle.heap.proofs.ItemHeap.{item-inside}
+use Rattle.heap.proofs.RaiseWords.{raise-heap}
 use Rattle.heap.proofs.SoundStore.{count-at, formed, items-size, key-at}
 
 pub may-move : {w : List ℕ} {n code : ℕ} {c : Call} {t : Tally} → Ready w t → Store w n
@@ -34,58 +46,64 @@ may-move Y S p e =
       room = Y .room;
     }
 
--- the contract, where the answer is the outcome o
-answered : {w w′ : List ℕ} {c : Call} {t : Tally} {r : Reply} (o : Outcome) → answer (forestsOf w) (Yields c) ≡ o
-    → r .code ≡ o .reply .code → r .item ≡ o .reply .item → r .key ≡ o .reply .key
-    → r .tally .links ≡ t .links + o .reply .links → r .tally .cuts ≡ t .cuts + o .reply .cuts → w′ ≡ encode (o .next)
-    → Performed w c t r w′
-answered o f code item key links cuts words =
-    record {
-      code = rw f code;
-      item = rw f item;
-      key = rw f key;
-      links = rw f links;
-      cuts = rw f cuts;
-      words = rw f words;
-    }
+-- the queues after a line whose call is done
+after-done : (q : Queues) (c : Call) → refusal (q .forests) c ≡ 0 → afterLine q (Yields c) ≡ afterCall q c
+unfolding answer unlessRefused amountsAfterLine
+after-done q c e = rw e
 
 -- a refused call: its code, and nothing is changed
 pub refused-performed : {w : List ℕ} {code : ℕ} {c : Call} {t : Tally} {r : Reply} → Ready w t
     → code ≡ refusal (forestsOf w) c → code ≢ 0 → Answers code 0 0 t r → Performed w c t r w
-unfolding answer unlessRefused refused
+unfolding answer unlessRefused refused amountsAfterLine
 refused-performed {w} {code} {c} {t} {r} Y p m A = go code (sym p) m A
   where
     go : (k : ℕ) → refusal (forestsOf w) c ≡ k → k ≢ 0 → Answers k 0 0 t r → Performed w c t r w
     go zero p m A = absurd (m refl)
     go (suc k) p m A =
-        answered (refused (suc k) (forestsOf w)) (rw p) (A .isCode) (A .isItem) (A .isKey) (omega (arith, A .links))
-        (omega (arith, A .cuts)) (sound-words w (Y .sound))
+        record {
+          code = rw p (A .isCode);
+          item = rw p (A .isItem);
+          key = rw p (A .isKey);
+          links = rw p (omega (arith, A .links));
+          cuts = rw p (omega (arith, A .cuts));
+          words = rw (p, ne-eqb (suc k) 0 (λ z. omega arith)) (sound-words w (Y .sound));
+        }
 
 -- a call that is done
-done-performed : {w w′ : List ℕ} {n item key : ℕ} {c : Call} {t u : Tally} {r : Reply} (o : Outcome)
-    → MayMove w n c t → perform (forestsOf w) c ≡ o → o .reply .code ≡ 0 → item ≡ o .reply .item → key ≡ o .reply .key
-    → Moves o t u w′ → Answers 0 item key u r → Performed w c t r w′
+done-performed : {w w′ : List ℕ} {n item key : ℕ} {c : Call} {t u : Tally} {r : Reply} → MayMove w n c t
+    → item ≡ (perform (forestsOf w) c) .reply .item → key ≡ (perform (forestsOf w) c) .reply .key
+    → Moves (queuesOf w) c t u w′ → Answers 0 item key u r → Performed w c t r w′
 unfolding answer unlessRefused
-done-performed o M e z i k N A =
-    answered o (rw (M .allowed .done) e) (A .isCode ∙ sym z) (A .isItem ∙ i) (A .isKey ∙ k) (A .links ∙ N .links)
-    (A .cuts ∙ N .cuts) (N .words)
+done-performed {w} {c = c} M i k N A =
+    let e = M .allowed .done in
+    record {
+      code = rw e (A .isCode ∙ sym (perform-code (forestsOf w) c));
+      item = rw e (A .isItem ∙ i);
+      key = rw e (A .isKey ∙ k);
+      links = rw e (A .links ∙ N .links);
+      cuts = rw e (A .cuts ∙ N .cuts);
+      words = N .words ∙ ap encode (sym (after-done (queuesOf w) c e));
+    }
 
--- ---- the six calls
+-- ---- the seven calls
 
 pub inserted-performed : {w w′ : List ℕ} {n h i k : ℕ} {t : Tally} {r : Reply} → MayMove w n (Insert h i k) t
-    → w′ ≡ encode (insert h i k (forestsOf w)) → Answers 0 i k t r → Performed w (Insert h i k) t r w′
+    → w′ ≡ encode (afterCall (queuesOf w) (Insert h i k)) → Answers 0 i k t r → Performed w (Insert h i k) t r w′
 unfolding perform
-inserted-performed {w} {w′} {n} {h} {i} {k} M e A =
-    done-performed (perform (forestsOf w) (Insert h i k)) M refl refl refl refl
-    (record { words = e; links = omega arith; cuts = omega arith }) A
+inserted-performed M e A =
+    done-performed M refl refl (record { words = e; links = omega arith; cuts = omega arith }) A
 
--- the minimum of a heap that is not empty is in the table
+-- the minimum of a heap that is not empty is in it, and in the table
+minimum-heap : {w : List ℕ} {n h : ℕ} → Allowed w n (FindMin h)
+    → heapOf (forestsOf w) (minimum (forestsOf w) h) ≡ suc h
+minimum-heap {w} {n} {h} A =
+    let t = forestsOf w in
+    row-root t (formed (A .store) .disjoint) h (minimum t h) (find-ok t h (A .done)) .0
+
 pub minimum-item : {w : List ℕ} {n h : ℕ} → Allowed w n (FindMin h) → minimum (forestsOf w) h < n
 minimum-item {w} {n} {h} A =
     let t = forestsOf w in
-    let i = find-ok t h (A .done) in
-    let r = row-root t (formed (A .store) .disjoint) h (minimum t h) i in
-    omega (arith, heap-in t (minimum t h) (λ e. omega (arith, e, r .0)), items-size (A .store))
+    omega (arith, heap-in t (minimum t h) (λ e. omega (arith, e, minimum-heap A)), items-size (A .store))
 
 -- T is refused as M is
 pub as-find : {w : List ℕ} {n h : ℕ} → Allowed w n (ExtractMin h) → Allowed w n (FindMin h)
@@ -93,50 +111,56 @@ unfolding refusal
 as-find A = record { store = A .store; done = A .done }
 
 minimum-key : {w : List ℕ} {n h i k : ℕ} → Allowed w n (FindMin h) → i ≡ minimum (forestsOf w) h
-    → k ≡ look n w Key i → k ≡ keyOf (forestsOf w) (minimum (forestsOf w) h)
+    → k ≡ itemKey h (look n w) i → k ≡ keyOf (forestsOf w) (minimum (forestsOf w) h)
 minimum-key {w} {n} {h} {i} A p q =
-    q ∙ ap (look n w Key) p ∙ key-at (A .store) (minimum-item A)
+    q ∙ ap (itemKey h (look n w)) p ∙ key-at (A .store) h (minimum (forestsOf w) h) (minimum-heap A)
 
 pub found-min-performed : {w : List ℕ} {n h i k : ℕ} {t : Tally} {r : Reply} → MayMove w n (FindMin h) t
-    → i ≡ minimum (forestsOf w) h → k ≡ look n w Key i → Answers 0 i k t r → Performed w (FindMin h) t r w
-unfolding perform
-found-min-performed {w} {n} {h} M p q A =
-    done-performed (perform (forestsOf w) (FindMin h)) M refl refl p (minimum-key (M .allowed) p q)
+    → i ≡ minimum (forestsOf w) h → k ≡ itemKey h (look n w) i → Answers 0 i k t r → Performed w (FindMin h) t r w
+unfolding perform amountsAfterCall
+found-min-performed {w} M p q A =
+    done-performed M p (minimum-key (M .allowed) p q)
     (record { words = sound-words w (M .allowed .store .sound); links = omega arith; cuts = omega arith }) A
 
 pub extracted-performed : {w w′ : List ℕ} {n h i k : ℕ} {t u : Tally} {r : Reply} → MayMove w n (ExtractMin h) t
-    → i ≡ minimum (forestsOf w) h → k ≡ look n w Key i
-    → Moves (extract h (minimum (forestsOf w) h) (forestsOf w)) t u w′ → Answers 0 i k u r
-    → Performed w (ExtractMin h) t r w′
+    → i ≡ minimum (forestsOf w) h → k ≡ itemKey h (look n w) i → Moves (queuesOf w) (ExtractMin h) t u w′
+    → Answers 0 i k u r → Performed w (ExtractMin h) t r w′
 unfolding perform extract
-extracted-performed {w} {w′} {n} {h} M p q N A =
-    done-performed (extract h (minimum (forestsOf w) h) (forestsOf w)) M refl refl p
-    (minimum-key (as-find (M .allowed)) p q) N A
+extracted-performed M p q N A = done-performed M p (minimum-key (as-find (M .allowed)) p q) N A
 
 pub decreased-performed : {w w′ : List ℕ} {n i k : ℕ} {t u : Tally} {r : Reply} → MayMove w n (DecreaseKey i k) t
-    → Moves (decreaseKey i k (forestsOf w)) t u w′ → Answers 0 i k u r → Performed w (DecreaseKey i k) t r w′
+    → Moves (queuesOf w) (DecreaseKey i k) t u w′ → Answers 0 i k u r → Performed w (DecreaseKey i k) t r w′
 unfolding perform decreaseKey
-decreased-performed {w} {w′} {n} {i} {k} M N A =
-    done-performed (decreaseKey i k (forestsOf w)) M refl refl refl refl N A
+decreased-performed M N A = done-performed M refl refl N A
 
+-- a deleted item is in the table, and its key is by the amount of its heap
 pub deleted-item : {w : List ℕ} {n i : ℕ} {t : Tally} → MayMove w n (Delete i) t → i < n
 deleted-item M = item-inside (deleted-in-heap M)
 
-pub deleted-performed : {w w′ : List ℕ} {n i k : ℕ} {t u : Tally} {r : Reply} → MayMove w n (Delete i) t
-    → k ≡ look n w Key i → Moves (delete i (forestsOf w)) t u w′ → Answers 0 i k u r → Performed w (Delete i) t r w′
+pub deleted-performed : {w w′ : List ℕ} {n h i k : ℕ} {t u : Tally} {r : Reply} → MayMove w n (Delete i) t
+    → h ≡ heapNumber (forestsOf w) i → k ≡ itemKey h (look n w) i → Moves (queuesOf w) (Delete i) t u w′
+    → Answers 0 i k u r → Performed w (Delete i) t r w′
 unfolding perform delete
-deleted-performed {w} {w′} {n} {i} M q N A =
+deleted-performed {w} {h = h} {i = i} M e q N A =
     let s = forestsOf w in
     let d = delete-says (eqb (minimum s (heapNumber s i)) i) i s in
-    done-performed (delete i s) M refl (d .code) (sym (d .item))
-    (q ∙ key-at (M .allowed .store) (deleted-item M) ∙ sym (d .key)) N A
+    done-performed M (sym (d .item))
+    (q ∙ key-at (M .allowed .store) h i (omega (arith, e, deleted-in-heap M .live)) ∙ sym (d .key)) N A
 
 pub melded-performed : {w w′ : List ℕ} {n a b c d : ℕ} {t : Tally} {r : Reply} → MayMove w n (Meld a b) t
-    → c ≡ look n w Count a → d ≡ look n w Count b → w′ ≡ encode (meld a b (forestsOf w)) → Answers 0 a (c + d) t r
-    → Performed w (Meld a b) t r w′
+    → c ≡ look n w Count a → d ≡ look n w Count b → w′ ≡ encode (afterCall (queuesOf w) (Meld a b))
+    → Answers 0 a (c + d) t r → Performed w (Meld a b) t r w′
 unfolding perform
 melded-performed {w} {w′} {n} {a} {b} M p q e A =
     let ok = meld-ok (forestsOf w) a b (M .allowed .done) in
-    done-performed (perform (forestsOf w) (Meld a b)) M refl refl refl
+    done-performed M refl
     (omega (arith, p, q, count-at (M .allowed .store) (ok .0), count-at (M .allowed .store) (ok .1)))
+    (record { words = e; links = omega arith; cuts = omega arith }) A
+
+pub raised-performed : {w w′ : List ℕ} {n h d c : ℕ} {t : Tally} {r : Reply} → MayMove w n (Raise h d) t
+    → c ≡ look n w Count h → w′ ≡ encode (afterCall (queuesOf w) (Raise h d)) → Answers 0 h c t r
+    → Performed w (Raise h d) t r w′
+unfolding perform
+raised-performed M p e A =
+    done-performed M refl (p ∙ count-at (M .allowed .store) (raise-heap (M .allowed)))
     (record { words = e; links = omega arith; cuts = omega arith }) A

@@ -5,12 +5,12 @@ use mathlib.Core.Logic.{_≢_}
 use mathlib.Core.List.{List}
 use mathlib.Core.Bool.{Bool, true, false, cond, _&&_}
 use native.Mathlib.Omega.{arith}
-use lib.ListN.{set}
+use lib.ListN.{getD, set}
 use lib.Dec.{eqb}
 use borrow.Author.Tests.{eqb-true, eqb-false}
 use Rattle.rules.specs.declared.Call.the-variants.{DecreaseKey}
 use Rattle.rules.specs.declared.Line.the-variants.{Yields}
-use Rattle.rules.specs.declared.Field.the-variants.{Key, Minimum}
+use Rattle.rules.specs.declared.Field.the-variants.{Minimum}
 use Rattle.rules.specs.declared.Tally.{Tally}
 use Rattle.rules.specs.Answers.{answer, unlessRefused}
 use Rattle.rules.specs.Calls.{decreaseKey, hasParent, perform}
@@ -18,12 +18,13 @@ use Rattle.rules.specs.Cut.{cutIf}
 use Rattle.rules.specs.Forests.{Forests, count, heapNumber, heapOf, keyOf, none, parentOf, setKey}
 use Rattle.rules.specs.Lists.{sumBy}
 use Rattle.rules.specs.Order.{lesser, minimum, precedes}
+use Rattle.rules.specs.Queues.{amountOf, amountsAfterCall}
 use Rattle.rules.specs.SetWord.{setWord}
 use Rattle.rules.specs.Theorems.{InRange, IsMinimum}
-use Rattle.rules.specs.WellFormed.{WellFormed}
-use Rattle.rules.specs.Words.{encode, forestsOf, look}
+use Rattle.rules.specs.WellFormed.{KeysFit, WellFormed}
+use Rattle.rules.specs.Words.{encode, forestsOf, look, queuesOf, wordsWith}
 use Rattle.rules.proofs.Excused.{Formed, FormedBut, exact, to-formed}
-use Rattle.rules.proofs.KeepsWellFormed.{keepsWellFormed}
+use Rattle.rules.proofs.KeepsWellFormed.{fits-set, keepsWellFormed}
 use Rattle.rules.proofs.KeyKeeps.{key-formed}
 use Rattle.rules.proofs.LeastOfTwo.{lesser-keys, lesser-two}
 use Rattle.rules.proofs.Lists.{decrease-heap, decrease-key}
@@ -33,7 +34,7 @@ use Rattle.rules.proofs.MinimumAfter.{count-one, lowered-minimum, lowered-other
 use Rattle.rules.proofs.Refusals.{decrease-ok}
 use Rattle.rules.proofs.ReplyBounds.{Small, answer-small}
 use Rattle.store.specs.Families.{Holds, wordBut}
-use Rattle.store.specs.ItemOrder.{TwoItems, itemKey}
+use Rattle.store.specs.ItemOrder.{TwoItems, itemKey, keyStored}
 use Rattle.store.specs.Says.{Changes, Sized}
 use Rattle.store.proofs.Encoded.{holds-encode}
 use Rattle.store.proofs.Holds.{holds-says}
@@ -75,13 +76,19 @@ module _ {w : List ℕ} {n i k : ℕ} {tally : Tally} (P : MayMove w n (Decrease
   member : Member (setKey i k (forestsOf w)) h i
   member = record { disjoint = lowered .disjoint; heap = omega (arith, ok .0) }
 
-  module _ {w₁ : List ℕ} (a : Changes n w (setWord Key i k) w₁) where
-    lowered-holds : Holds n w₁ (count t) (minimum t) (setKey i k t) none
-    lowered-holds = key-holds (sound-holds S) i k (item-inside in-heap) a
+  -- the new key is of 32 bits, as the old one
+  keys-fit : KeysFit (setKey i k (forestsOf w))
+  unfolding KeysFit
+  keys-fit = fits-set (t .key) i k (W .keys) (omega (arith, ok .1, W .keys i))
+
+  module _ {w₁ : List ℕ} (a : Changes n w (keyStored h i k) w₁) where
+    lowered-holds : Holds n w₁ (amountOf (queuesOf w)) (count t) (minimum t) (setKey i k t) none
+    lowered-holds = key-holds (sound-holds S) h i k (item-inside in-heap) (member .heap) a
 
     pub cut-ready : CascadeReady n w₁ h i
     cut-ready =
         record {
+          amounts = amountOf (queuesOf w);
           counts = count t;
           minima = minimum t;
           forests = setKey i k t;
@@ -94,11 +101,11 @@ module _ {w : List ℕ} {n i k : ℕ} {tally : Tally} (P : MayMove w n (Decrease
       abbrev after : Forests
       after = (decreaseKey i k t) .next
 
-      cutted : Cascaded n w₂ (count t) (minimum t)
+      cutted : Cascaded n w₂ (amountOf (queuesOf w)) (count t) (minimum t)
           (cutIf (hasParent (setKey i k t) i && precedes (set (t .key) i k) i (parentOf t i)) h i (setKey i k t)) r
-      cutted = b .gives (count t) (minimum t) (setKey i k t) lowered-holds member
+      cutted = b .gives (amountOf (queuesOf w)) (count t) (minimum t) (setKey i k t) lowered-holds keys-fit member
 
-      holds : Holds n w₂ (count t) (minimum t) after none
+      holds : Holds n w₂ (amountOf (queuesOf w)) (count t) (minimum t) after none
       unfolding decreaseKey
       holds = cutted .holds
 
@@ -130,13 +137,21 @@ module _ {w : List ℕ} {n i k : ℕ} {tally : Tally} (P : MayMove w n (Decrease
             two = λ _. item-inside in-heap;
           }
 
-      module _ {w₃ : List ℕ} {m l : ℕ} (em : m ≡ look n w₂ Minimum h) (el : l ≡ lesser (itemKey (look n w₂)) m i)
+      -- the keys after the call, by the words
+      key-after : (x : ℕ) → heapOf t x ≡ suc h → itemKey h (look n w₂) x ≡ keyOf after x
+      unfolding KeysFit
+      key-after x e =
+          let z = ap (λ l. getD l x 0) (decrease-heap i k t) ∙ e in
+          let q = heap-in t x (λ y. omega (arith, y, e)) in
+          key-held holds h x (heap-inside in-heap) (omega (arith, items-size S)) z (next-formed .keys x)
+
+      module _ {w₃ : List ℕ} {m l : ℕ} (em : m ≡ look n w₂ Minimum h) (el : l ≡ lesser (itemKey h (look n w₂)) m i)
           (d : Changes n w₂ (setWord Minimum h l) w₃) where
         least : l ≡ cond (precedes (after .key) i (minimum t h)) i (minimum t h)
         least =
-            el ∙ ap (λ x. lesser (itemKey (look n w₂)) x i) (least-word em)
-            ∙ lesser-keys (itemKey (look n w₂)) (keyOf after) (minimum t h) i
-            (λ _. key-held holds (minimum t h) old-inside) (λ _. key-held holds i (item-inside in-heap))
+            el ∙ ap (λ x. lesser (itemKey h (look n w₂)) x i) (least-word em)
+            ∙ lesser-keys (itemKey h (look n w₂)) (keyOf after) (minimum t h) i
+            (λ _. key-after (minimum t h) (old .inside)) (λ _. key-after i (member .heap))
             ∙ lesser-two (keyOf after) (minimum t h) i
             (item-not-none (holds .shape) (minimum t h) old-inside)
             (item-not-none (holds .shape) i (item-inside in-heap))
@@ -155,15 +170,15 @@ module _ {w : List ℕ} {n i k : ℕ} {tally : Tally} (P : MayMove w n (Decrease
                 (lowered-other t after W next-formed i k (ok .0) (ok .1) (decrease-heap i k t) (decrease-key i k t) g
                 (λ z. eqb-false h g q (sym z)))
 
-        words : w₃ ≡ encode after
+        words : w₃ ≡ wordsWith (amountOf (queuesOf w)) after
         unfolding count
         words =
             holds-encode (minimum-holds holds h l d)
             (λ g _. ap (λ v. sumBy (λ x. cond (eqb x (suc g)) 1 0) v) (sym (decrease-heap i k t))) minima
 
         pub decrease-moves : {u : Tally} → u .links ≡ tally .links → u .cuts ≡ tally .cuts + r
-            → Moves (decreaseKey i k t) tally u w₃
-        unfolding decreaseKey
+            → Moves (queuesOf w) (DecreaseKey i k) tally u w₃
+        unfolding perform decreaseKey amountsAfterCall encode
         decrease-moves el ec =
             record { words = words; links = omega (arith, el); cuts = omega (arith, ec, cutted .cuts) }
 

@@ -1,6 +1,6 @@
 -- X on the words of a sound store: the minimum of a heap goes as by T, any other item with no linking.
-use Prim.Native.Nat.{ℕ, _≤_}
-use mathlib.Core.Path.{_≡_, sym, _∙_}
+use Prim.Native.Nat.{ℕ, _+_, _≤_}
+use mathlib.Core.Path.{_≡_, sym, ap, _∙_}
 use mathlib.Core.Logic.{_≢_}
 use mathlib.Core.List.{List, [], _∷_}
 use mathlib.Core.Bool.{cond}
@@ -11,11 +11,12 @@ use Rattle.rules.specs.declared.Call.the-variants.{Delete, ExtractMin}
 use Rattle.rules.specs.declared.Field.the-variants.{Minimum}
 use Rattle.rules.specs.declared.Tally.{Tally}
 use Rattle.rules.specs.Answers.{isEmpty, refusal}
-use Rattle.rules.specs.Calls.{delete, deleteAs, extract}
+use Rattle.rules.specs.Calls.{Outcome, delete, deleteAs, extract, perform}
 use Rattle.rules.specs.Forests.{Forests, heapNumber, rowOf}
 use Rattle.rules.specs.Lists.{occurs, sumBy}
 use Rattle.rules.specs.Order.{minimum}
-use Rattle.rules.specs.Words.{forestsOf, look}
+use Rattle.rules.specs.Queues.{amountsAfterCall, amountsLeft}
+use Rattle.rules.specs.Words.{encode, forestsOf, look, queuesOf}
 use Rattle.rules.proofs.Excused.{to-formed}
 use Rattle.rules.proofs.Minimum.{minimum-root}
 use Rattle.rules.proofs.Refusals.{delete-ok}
@@ -56,11 +57,20 @@ module _ {w : List ℕ} {n i : ℕ} {tally : Tally} (P : MayMove w n (Delete i) 
 
   -- the minimum goes as by T
   pub as-minimum : {h m : ℕ} {w′ : List ℕ} {u : Tally} → h ≡ own → m ≡ look n w Minimum own → m ≡ i
-      → Moves (extract h (minimum t h) t) tally u w′ → Moves (delete i t) tally u w′
-  unfolding delete deleteAs
+      → Moves (queuesOf w) (ExtractMin h) tally u w′ → Moves (queuesOf w) (Delete i) tally u w′
+  unfolding perform delete deleteAs amountsAfterCall
   as-minimum {h} {m} e em q k =
       let z : minimum t own ≡ i = sym (minimum-word em) ∙ q in
-      rw (eq-eqb (minimum t own) i z) (rw (e, z) at k)
+      let same : perform t (ExtractMin h) ≡ perform t (Delete i) =
+      ap (λ g. extract g (minimum t g) t) e
+      ∙ ap (λ x. extract own x t) z
+      ∙ ap (λ b. deleteAs b i t) (sym (eq-eqb (minimum t own) i z)) in
+      record {
+        words = k .words
+            ∙ ap encode (λ j. record { forests = same j .next; amounts = amountsLeft t (e j) (queuesOf w .amounts) });
+        links = k .links ∙ ap (λ (o : Outcome). tally .links + o .reply .links) same;
+        cuts = k .cuts ∙ ap (λ (o : Outcome). tally .cuts + o .reply .cuts) same;
+      }
 
   -- any other item goes with no linking
   pub as-other : {h m : ℕ} → h ≡ own → m ≡ look n w Minimum own → m ≢ i → DeleteOther w n h i tally

@@ -17,11 +17,14 @@ use Rattle.rules.specs.Cut.{Cuts, cutIf}
 use Rattle.rules.specs.Forests.{Forests, count, heapNumber, heapOf, keyOf, none, parentOf}
 use Rattle.rules.specs.Lists.{sumBy}
 use Rattle.rules.specs.Order.{minimum}
+use Rattle.rules.specs.Queues.{amountOf, amountsAfterCall, amountsLeft}
 use Rattle.rules.specs.Theorems.{InRange}
 use Rattle.rules.specs.WellFormed.{WellFormed}
-use Rattle.rules.specs.Words.{encode, forestsOf}
+use Rattle.rules.specs.Words.{encode, forestsOf, queuesOf, wordsWith}
 use Rattle.rules.proofs.CallsKeep.{cut-child-formed, has-none}
+use Rattle.rules.proofs.CountAfter.{not-minimum-two}
 use Rattle.rules.proofs.Cutting.{cutIf-heap, cutIf-key, cutOut-root}
+use Rattle.rules.proofs.Excused.{to-formed}
 use Rattle.rules.proofs.KeepsWellFormed.{keepsWellFormed}
 use Rattle.rules.proofs.MinimumAfter.{minimum-kept, removed-minimum}
 use Rattle.rules.proofs.ReplyBounds.{Small, answer-small}
@@ -58,6 +61,7 @@ module _ {w : List ℕ} {n h i : ℕ} {tally : Tally} (P : DeleteOther w n h i t
   pub other-ready : CascadeReady n w h i
   other-ready =
       record {
+        amounts = amountOf (queuesOf w);
         counts = count t;
         minima = minimum t;
         forests = t;
@@ -69,8 +73,8 @@ module _ {w : List ℕ} {n h i : ℕ} {tally : Tally} (P : DeleteOther w n h i t
     abbrev c : Cuts
     c = cutIf (hasParent t i) h i t
 
-    cutted : Cascaded n w₁ (count t) (minimum t) c r
-    cutted = b .gives (count t) (minimum t) t (sound-holds S) owned
+    cutted : Cascaded n w₁ (amountOf (queuesOf w)) (count t) (minimum t) c r
+    cutted = b .gives (amountOf (queuesOf w)) (count t) (minimum t) t (sound-holds S) (W .keys) owned
 
     U : WellFormed (c .forests)
     U = rw (P .heap) (cut-child-formed t W i live)
@@ -89,10 +93,10 @@ module _ {w : List ℕ} {n h i : ℕ} {tally : Tally} (P : DeleteOther w n h i t
         (λ x q _. ap (λ l. getD l x 0) heaps ∙ q))
 
     -- after the cut i is a root of h
-    rowed : Rowed n h (minimum t h) w₁ (c .forests)
+    rowed : Rowed n h (minimum t h) w₁ (amountOf (queuesOf w)) (c .forests)
     unfolding count
     rowed =
-        holds-rowed (c .forests) (U .disjoint) h (cutted .holds)
+        holds-rowed (amountOf (queuesOf w)) (c .forests) (U .disjoint) h (cutted .holds)
         (λ g _. ap (λ v. sumBy (λ x. cond (eqb x (suc g)) 1 0) v) (sym heaps)) (λ g _ _. kept g)
 
     rooted : RootOf (c .forests) h i
@@ -109,7 +113,14 @@ module _ {w : List ℕ} {n h i : ℕ} {tally : Tally} (P : DeleteOther w n h i t
         go false z = has-none t i z
 
     pub root-ready : RootReady n w₁ h i
-    root-ready = record { least = minimum t h; forests = c .forests; rowed = rowed; rooted = rooted }
+    root-ready =
+        record {
+          least = minimum t h;
+          amounts = amountOf (queuesOf w);
+          forests = c .forests;
+          rowed = rowed;
+          rooted = rooted;
+        }
 
     abbrev last : Forests
     last = removeRoot h i (c .forests)
@@ -130,20 +141,27 @@ module _ {w : List ℕ} {n h i : ℕ} {tally : Tally} (P : DeleteOther w n h i t
         (ap (λ l. set l i 0) keys) h)
 
     module _ {w₂ : List ℕ} (d : RemovesRoot n w₁ h i w₂) where
-      last-rowed : Rowed n h (minimum last h) w₂ last
+      last-rowed : Rowed n h (minimum last h) w₂ (amountOf (queuesOf w)) last
       unfolding RemovesRoot
-      last-rowed = rw (← least) (d (minimum t h) (c .forests) rowed rooted)
+      last-rowed = rw (← least) (d (minimum t h) (amountOf (queuesOf w)) (c .forests) rowed rooted)
 
       pub other-moves : {u : Tally} → u .links ≡ tally .links → u .cuts ≡ tally .cuts + r
-          → Moves (delete i t) tally u w₂
-      unfolding delete deleteAs
+          → Moves (queuesOf w) (Delete i) tally u w₂
+      unfolding perform delete deleteAs encode amountsAfterCall amountsLeft
       other-moves el ec =
           record {
-            words = rowed-words last (last-formed .disjoint) last-rowed ∙ sym (ap encode done-as);
+            words = rw amounts-stay (rowed-words (amountOf (queuesOf w)) last (last-formed .disjoint) last-rowed
+                ∙ sym (ap (wordsWith (amountOf (queuesOf w))) done-as));
             links = omega (arith, el, ap (λ (o : Outcome). o .reply .links) as-other);
             cuts = omega (arith, ec, cutted .cuts, ap (λ (o : Outcome). o .reply .cuts) as-other);
           }
         where
+          -- the minimum is still there, so the heap is not empty
+          amounts-stay : eqb (count t (heapNumber t i)) 1 ≡ false
+          amounts-stay =
+              ne-eqb (count t (heapNumber t i)) 1 (λ z.
+              omega (arith, z, not-minimum-two t (to-formed t W) i live no))
+
           as-other : delete i t ≡ done i (keyOf t i) 0 (c .cuts) last
           as-other = rw (ne-eqb (minimum t (heapNumber t i)) i no, ← (P .heap))
 

@@ -22,7 +22,9 @@ use Rattle.rules.specs.Forests.{
   Forests,
   childrenOf,
   count,
+  heapNumber,
   heapOf,
+  keyOf,
   markOf,
   none,
   parentOf,
@@ -33,6 +35,7 @@ use Rattle.rules.specs.Forests.{
 }
 use Rattle.rules.specs.Lists.{occurs}
 use Rattle.rules.specs.Order.{minimum}
+use Rattle.rules.specs.Queues.{keyWord}
 use Rattle.rules.specs.WellFormed.{Disjoint}
 use Rattle.rules.specs.Words.{headOr, lastOr, nextIn, prevIn, fieldSize, siblings, stateOf, unlessFree, word}
 use Rattle.rules.proofs.ByKind.{apart-from, by-kinds}
@@ -40,6 +43,7 @@ use Rattle.rules.proofs.Members.{free-children, row-root}
 use Rattle.rules.proofs.Parts.{children, marks, parents, rows}
 use Rattle.rules.proofs.SiblingLists.{once-row}
 use Rattle.store.specs.Families.{Family, listOf, withLinks, ownerOf, wordBut}
+use Rattle.store.specs.ItemOrder.{keyStored}
 use Rattle.store.specs.Says.{Values}
 use Rattle.store.proofs.SetAt.{getD-set}
 use Rattle.store.proofs.KeptWords.{kept-but}
@@ -52,7 +56,7 @@ pub record MayEnter (t : Forests) (h i : ℕ) : Type 0 where
   pub inside : i < tableSize t
   pub free : heapOf t i ≡ 0
 
-module _ {t : Forests} {h i : ℕ} (E : MayEnter t h i) (k : ℕ) where
+module _ (amounts : ℕ → ℕ) {t : Forests} {h i : ℕ} (E : MayEnter t h i) (k : ℕ) where
   D : Disjoint t
   D = E .disjoint
 
@@ -61,7 +65,7 @@ module _ {t : Forests} {h i : ℕ} (E : MayEnter t h i) (k : ℕ) where
   between = setHeap i (suc h) (setKey i k t)
 
   abbrev old : Values
-  old = wordBut (count t) (minimum t) t
+  old = wordBut amounts (count t) (minimum t) t
 
   heap-at : (j : ℕ) → heapOf between j ≡ cond (eqb i j) (suc h) (heapOf t j)
   heap-at j = getD-set (t .heap) i j (suc h) 0 (E .inside)
@@ -105,19 +109,37 @@ module _ {t : Forests} {h i : ℕ} (E : MayEnter t h i) (k : ℕ) where
       go true e = omega (arith, ap (markOf t) (eqb-true i j e), D .free i (E .free) .2)
       go false e = refl
 
+  -- the word of the new key is by the amount of heap h
+  key : (j : ℕ)
+      → cond (eqb i j) (keyWord (amounts h) k) (unlessFree t j (keyWord (amounts (heapNumber t j)) (keyOf t j)))
+      ≡ unlessFree between j (keyWord (amounts (heapNumber between j)) (keyOf between j))
+  unfolding unlessFree
+  key j = rw (heap-at j, getD-set (t .key) i j k 0 (omega (arith, D .keyN, E .inside))) (go (eqb i j) refl)
+    where
+      go : (b : Bool) → eqb i j ≡ b
+          → cond b (keyWord (amounts h) k)
+          (cond (eqb (heapOf t j) 0) 0 (keyWord (amounts (heapOf t j - 1)) (keyOf t j)))
+          ≡ cond (eqb (cond b (suc h) (heapOf t j)) 0) 0
+          (keyWord (amounts (cond b (suc h) (heapOf t j) - 1)) (cond b k (keyOf t j)))
+      go true e =
+          let z : suc h - 1 ≡ h = omega arith in
+          rw (ne-eqb (suc h) 0 (λ q. omega arith), z)
+      go false e = refl
+
   abbrev pub Enters : ℕ → Field → Type 0
   Enters n f =
-      (j : ℕ) → j < fieldSize n f → entered h i k old f j ≡ withLinks i 0 0 (wordBut (count t) (minimum t) between) f j
+      (j : ℕ) → j < fieldSize n f
+      → entered h i k old f j ≡ withLinks i 0 0 (wordBut amounts (count t) (minimum t) between) f j
 
   -- the kinds of which i has other words than a free item
   abbrev own : List Field
   own = Key ∷ FirstChild ∷ LastChild ∷ Next ∷ Prev ∷ State ∷ []
 
   pub entered-word : (n : ℕ) (f : Field) → Enters n f
-  unfolding entered withLinks wordBut word headOr lastOr
+  unfolding entered keyStored withLinks wordBut word headOr lastOr
   entered-word n =
       by-kinds own (Enters n)
-      (λ j l. sym (getD-set (t .key) i j k 0 (omega (arith, D .keyN, E .inside))))
+      (λ j l. key j)
       (λ j l. enters none _ j (λ q. ap (headOr none) (childless j q)))
       (λ j l. enters none _ j (λ q. ap (lastOr none) (childless j q)))
       (λ j l. links j (nextIn j))
@@ -126,7 +148,7 @@ module _ {t : Forests} {h i : ℕ} (E : MayEnter t h i) (k : ℕ) where
       (λ f o j l.
       let e = apart-from own f o in
       rw (e Key refl, e FirstChild refl, e LastChild refl, e Next refl, e Prev refl, e State refl)
-      (kept-but (rows ∷ children ∷ parents ∷ marks ∷ []) own (count t) (minimum t) t between refl
+      (kept-but (rows ∷ children ∷ parents ∷ marks ∷ []) own amounts (count t) (minimum t) t between refl
       refl refl refl refl f o j))
 
   -- no row has a free item

@@ -14,7 +14,7 @@ use Rattle.store.proofs.ItemOrder.{key-says}
 use Rattle.heap.specs.Entered.{CountItemReady, itemCounted}
 
 pub count-item-changes : {n : ℕ} {w w₁ w₂ : List ℕ} {h i m c l : ℕ} → CountItemReady n w h i → m ≡ look n w Minimum h
-    → c ≡ look n w Count h → l ≡ lesser (itemKey (look n w)) m i → Changes n w (setWord Count h (c + 1)) w₁
+    → c ≡ look n w Count h → l ≡ lesser (itemKey h (look n w)) m i → Changes n w (setWord Count h (c + 1)) w₁
     → Changes n w₁ (setWord Minimum h l) w₂ → Changes n w (itemCounted h i) w₂
 unfolding itemCounted
 count-item-changes {n} {w} {w₁} {w₂} {h} {i} {m} {c} {l} r p q e a b =
@@ -26,9 +26,10 @@ count-item-changes {n} {w} {w₁} {w₂} {h} {i} {m} {c} {l} r p q e a b =
           (q ∙ s .says Count h (r .enter .heap)) (b .says _ (a .says v s)));
     }
   where
-    least : (v : Values) → Says n w v → l ≡ lesser (itemKey v) (v Minimum h) i
+    least : (v : Values) → Says n w v → l ≡ lesser (itemKey h v) (v Minimum h) i
     least v s =
         e
-        ∙ lesser-keys (itemKey (look n w)) (itemKey v) m i
-        (λ d. key-says s m (subst (Link n) (sym p) (r .minimum) d)) (λ _. key-says s i (r .enter .item))
-        ∙ ap (λ z. lesser (itemKey v) z i) (p ∙ s .says Minimum h (r .enter .heap))
+        ∙ lesser-keys (itemKey h (look n w)) (itemKey h v) m i
+        (λ d. key-says s h m (r .enter .heap) (subst (Link n) (sym p) (r .minimum) d))
+        (λ _. key-says s h i (r .enter .heap) (r .enter .item))
+        ∙ ap (λ z. lesser (itemKey h v) z i) (p ∙ s .says Minimum h (r .enter .heap))

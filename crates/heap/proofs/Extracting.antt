@@ -6,29 +6,27 @@ use native.Mathlib.Omega.{arith}
 use Rattle.rules.specs.declared.Call.the-variants.{ExtractMin}
 use Rattle.rules.specs.declared.Tally.{Tally}
 use Rattle.rules.specs.Calls.{extract, perform}
-use Rattle.rules.specs.Order.{minimum}
-use Rattle.rules.specs.Words.{decode, forestsOf}
+use Rattle.rules.specs.Words.{decode, queuesOf}
 use Rattle.consolidate.specs.Extract.{ExtractReady, Performs}
 use Rattle.heap.specs.Allowed.{MayMove, Moves}
 use Rattle.heap.proofs.SoundStore.{sound-says}
 
 module _ {w : List ℕ} {n h : ℕ} {tally : Tally} (P : MayMove w n (ExtractMin h) tally) where
-  same-forests : decode n w ≡ forestsOf w
-  unfolding forestsOf
-  same-forests = ap (λ k. decode k w) (P .allowed .store .items)
+  same-queues : decode n w ≡ queuesOf w
+  same-queues = ap (λ k. decode k w) (P .allowed .store .items)
 
   pub extract-ready : ExtractReady n w h (tally .links)
   extract-ready =
       record {
         sound = P .allowed .store .sound;
         size = sound-says (P .allowed .store) .sized .size;
-        done = rw same-forests (P .allowed .done);
+        done = rw (P .allowed .store .items) (P .allowed .done);
         fits = omega (arith, P .room .links);
       }
 
   pub extract-moves : {w′ : List ℕ} {item key : ℕ} {u : Tally}
-      → Performs w′ (tally .links) item key (u .links) (perform (decode n w) (ExtractMin h)) → u .cuts ≡ tally .cuts
-      → Moves (extract h (minimum (forestsOf w) h) (forestsOf w)) tally u w′
+      → Performs w′ (tally .links) item key (u .links) (decode n w) h → u .cuts ≡ tally .cuts
+      → Moves (queuesOf w) (ExtractMin h) tally u w′
   unfolding perform extract
   extract-moves p e =
-      rw (← same-forests) (record { words = p .words; links = p .tallied; cuts = omega (arith, e) })
+      rw (← same-queues) (record { words = p .words; links = p .tallied; cuts = omega (arith, e) })

@@ -8,11 +8,16 @@ use lib.Seq.{getD-set-same}
 use Rattle.rules.specs.declared.Call.the-variants.{Insert}
 use Rattle.rules.specs.declared.Field.the-variants.{Count, Minimum}
 use Rattle.store.specs.declared.Owner.the-variants.{Row}
-use Rattle.rules.specs.Calls.{insert}
+use Rattle.rules.specs.declared.Line.the-variants.{Yields}
+use Rattle.rules.specs.Answers.{answer, unlessRefused}
+use Rattle.rules.specs.Calls.{insert, perform}
 use Rattle.rules.specs.Forests.{Forests, count, heapOf, setHeap, setKey, tableSize}
 use Rattle.rules.specs.Order.{minimum}
-use Rattle.rules.specs.WellFormed.{Disjoint}
-use Rattle.rules.specs.Words.{encode, forestsOf}
+use Rattle.rules.specs.Queues.{afterCall, amountOf, amountsAfterCall}
+use Rattle.rules.specs.Theorems.{InRange}
+use Rattle.rules.specs.WellFormed.{Disjoint, WellFormed}
+use Rattle.rules.specs.Words.{encode, forestsOf, queuesOf}
+use Rattle.rules.proofs.KeepsWellFormed.{keepsWellFormed}
 use Rattle.rules.proofs.RankSixteen.{count-table}
 use Rattle.rules.proofs.Refusals.{insert-ok}
 use Rattle.store.specs.Families.{Family, Holds, appendTo, listOf, wordBut}
@@ -26,7 +31,7 @@ use Rattle.heap.specs.Entered.{CountItemReady, EnterReady, itemCounted, 
 use Rattle.heap.proofs.CountedKinds.{itemCounted-word}
 use Rattle.heap.proofs.EnteredKinds.{MayEnter, entered-word, family, out}
 use Rattle.heap.proofs.RowLinks.{minimum-link}
-use Rattle.heap.proofs.SoundStore.{formed, items-size, says-encode, sound-holds, sound-says}
+use Rattle.heap.proofs.SoundStore.{formed, items-size, says-words, sound-holds, sound-says}
 
 module _ {w : List ℕ} {n h i k : ℕ} (A : Allowed w n (Insert h i k)) where
   abbrev t : Forests
@@ -48,30 +53,30 @@ module _ {w : List ℕ} {n h i k : ℕ} (A : Allowed w n (Insert h i k)) where
   enter-ready = record { sized = sound-says (A .store) .sized; heap = ok .0; item = omega (arith, ok .1, e) }
 
   module _ {w₁ : List ℕ} (c₁ : Changes n w (entered h i k) w₁) where
-    held : Holds n w₁ (count t) (minimum t) (setHeap i (suc h) (setKey i k t)) i
+    held : Holds n w₁ (amountOf (queuesOf w)) (count t) (minimum t) (setHeap i (suc h) (setKey i k t)) i
     held =
         let H = sound-holds (A .store) in
         record {
           next = 0;
           prev = 0;
           says = says-as n w₁ _ _ (c₁ .says _ (holds-says H))
-              (entered-word enters k n);
+              (entered-word (amountOf (queuesOf w)) enters k n);
           shape = reshape (setHeap i (suc h) (setKey i k t)) (H .shape) refl refl refl (length-set (t .key) i k) refl
               (length-set (t .heap) i (suc h));
         }
 
     joins : Family n (setHeap i (suc h) (setKey i k t)) (Row h)
-    joins = family enters k n
+    joins = family (amountOf (queuesOf w)) enters k n
 
     pub row-ready : AppendReady n w₁ (Row h) i
     row-ready = append-ready held (Row h) joins (enter-ready .item)
 
     module _ {w₂ : List ℕ} (c₂ : Changes n w₁ (appended (Row h) i) w₂) where
-      inserted : Says n w₂ (wordBut (count t) (minimum t) (insert h i k t))
+      inserted : Says n w₂ (wordBut (amountOf (queuesOf w)) (count t) (minimum t) (insert h i k t))
       unfolding appendTo insert listOf
       inserted =
           holds-says
-          (append-holds (Row h) i held joins (enter-ready .item) (out enters k h)
+          (append-holds (Row h) i held joins (enter-ready .item) (out (amountOf (queuesOf w)) enters k h)
           (getD-set-same (t .heap) i (suc h) 0 (ok .1)) c₂)
 
       pub count-item-ready : CountItemReady n w₂ h i
@@ -84,8 +89,15 @@ module _ {w : List ℕ} {n h i k : ℕ} (A : Allowed w n (Insert h i k)) where
             count = omega (arith, inserted .says Count h (ok .0), count-table t h, D .small);
           }
 
-      pub insert-words : {w₃ : List ℕ} → Changes n w₂ (itemCounted h i) w₃ → w₃ ≡ encode (insert h i k t)
-      unfolding insert
-      insert-words {w₃} c₃ =
-          says-encode (insert h i k t) (length-set (t .heap) i (suc h) ∙ e)
-          (says-as n w₃ _ _ (c₃ .says _ inserted) (itemCounted-word enters k n))
+      -- the keys are of 32 bits, the new one too
+      next-formed : k < 4294967296 → WellFormed (insert h i k t)
+      unfolding answer unlessRefused perform InRange
+      next-formed l = rw (A .done) at (keepsWellFormed t (formed (A .store)) (Yields (Insert h i k)) l)
+
+      pub insert-words : {w₃ : List ℕ} → k < 4294967296 → Changes n w₂ (itemCounted h i) w₃
+          → w₃ ≡ encode (afterCall (queuesOf w) (Insert h i k))
+      unfolding insert perform amountsAfterCall encode
+      insert-words {w₃} l c₃ =
+          says-words (amountOf (queuesOf w)) (insert h i k t) (length-set (t .heap) i (suc h) ∙ e)
+          (says-as n w₃ _ _ (c₃ .says _ inserted)
+          (itemCounted-word (amountOf (queuesOf w)) enters k (next-formed l .keys) n))

@@ -36,3 +36,7 @@ module _ {w : List ℕ} {n i : ℕ} (P : InHeap w n i) where
 
   pub heap-inside : heapNumber (forestsOf w) i < 8
   heap-inside = omega (arith, formed (P .store) .disjoint .heaps i, P .live)
+
+  -- h is the number of its heap
+  pub item-heap : {h : ℕ} → h ≡ heapNumber (forestsOf w) i → heapOf (forestsOf w) i ≡ suc h
+  item-heap e = omega (arith, e, P .live)

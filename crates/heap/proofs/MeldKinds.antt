@@ -9,9 +9,11 @@ use lib.Dec.{eqb}
 use borrow.Author.Tests.{eqb-true, eqb-false}
 use Rattle.rules.specs.declared.Field.{Field}
 use Rattle.rules.specs.declared.Field.the-variants.{
+  Amount,
   Count,
   FirstChild,
   FirstTree,
+  Key,
   LastChild,
   LastTree,
   Minimum,
@@ -24,22 +26,27 @@ use Rattle.rules.specs.Forests.{Forests, childrenOf, count, heapOf, keyOf, mark
 use Rattle.rules.specs.Kinds.{Apart}
 use Rattle.rules.specs.Lists.{occurs}
 use Rattle.rules.specs.Order.{leastIn, lesser, minimum}
-use Rattle.rules.specs.WellFormed.{Disjoint}
+use Rattle.rules.specs.WellFormed.{Disjoint, KeysFit}
 use Rattle.rules.specs.Words.{headOr, lastOr, nextIn, prevIn, fieldSize, siblings, stateOf, unlessFree, word}
+use Rattle.rules.proofs.AmountWords.{word-but-amounts}
 use Rattle.rules.proofs.ByKind.{apart-from, apart-some, by-kinds}
 use Rattle.rules.proofs.ConcatLinks.{next-behind, prev-before}
 use Rattle.rules.proofs.Counts.{count-meld}
 use Rattle.rules.proofs.LeastOfTwo.{least-append, lesser-keys}
-use Rattle.rules.proofs.Parts.{children, keys, kept-words, parents}
+use Rattle.rules.proofs.Members.{row-root}
+use Rattle.rules.proofs.Parts.{children, kept-words, parents}
 use Rattle.store.specs.declared.Owner.the-variants.{Row}
 use Rattle.store.specs.Empty.{emptyHeap}
 use Rattle.store.specs.ItemOrder.{itemKey}
+use Rattle.store.specs.Says.{Values}
 use Rattle.store.proofs.ConcatWords.{linkKinds}
 use Rattle.store.proofs.Emptying.{empty-else, nones}
 use Rattle.store.proofs.ItemOrder.{key-is}
 use Rattle.store.proofs.ListMembers.{none-row, other-row}
-use Rattle.heap.specs.HeapsJoined.{heapsJoined, movedState, rowsJoined, itemsMoved}
+use Rattle.consolidate.proofs.WritingRow.{least-in}
+use Rattle.heap.specs.HeapsJoined.{heapsJoined, itemsMoved, movedKey, rowsJoined}
 use Rattle.heap.proofs.FollowedRow.{
+  RowEnds,
   rowFollowed,
   first-after,
   last-after,
@@ -49,6 +56,7 @@ use Rattle.heap.proofs.FollowedRow.{
   prev-kept,
   prev-two,
 }
+use Rattle.heap.proofs.HeapStates.{state-in}
 use Rattle.heap.proofs.MeldLists.{
   TwoHeaps,
   Where,
@@ -63,13 +71,27 @@ use Rattle.heap.proofs.MeldLists.{
   where-is,
 }
 use Rattle.heap.proofs.MovedHeaps.{counts-move, heap-moves, heap-stays, state-moves}
+use Rattle.heap.proofs.MovedKeys.{amount-stays, key-moves}
 
-module _ {t : Forests} {a b : ℕ} (H : TwoHeaps t a b) where
+-- the amounts are those before and those after
+module _ {t : Forests} {a b : ℕ} (H : TwoHeaps t a b) (K : KeysFit t) (amounts later : ℕ → ℕ)
+    (emptied : (g : ℕ) → later g ≡ cond (eqb b g) 0 (amounts g)) where
   D : Disjoint t
   D = H .disjoint
 
   abbrev new : Forests
   new = meld a b t
+
+  -- what the words say once the items are moved, and once the rows are joined too
+  abbrev moved : Values
+  moved = itemsMoved a b (word amounts t)
+
+  abbrev followed : Values
+  followed = rowFollowed moved a (rowOf t b)
+
+  ends : RowEnds t moved
+  unfolding itemsMoved word
+  ends = record { first = λ g. refl; last = λ g. refl }
 
   -- a word of the rows
   row-word : (F : List ℕ → ℕ) (g : ℕ)
@@ -97,35 +119,35 @@ module _ {t : Forests} {a b : ℕ} (H : TwoHeaps t a b) where
   stay-a = heap-stays a b (suc a) (λ e. H .two (omega arith))
 
   -- the links
-  next-word : (j : ℕ) → j ≢ none → rowFollowed t a (rowOf t b) Next j ≡ word new Next j
-  unfolding word
+  next-word : (j : ℕ) → j ≢ none → followed Next j ≡ word later new Next j
+  unfolding itemsMoved word
   next-word j m = go (where-is H j)
     where
-      go : Where H j → rowFollowed t a (rowOf t b) Next j ≡ unlessFree new j (nextIn j (siblings new j))
+      go : Where H j → followed Next j ≡ unlessFree new j (nextIn j (siblings new j))
       go (inOne h p) =
-          next-one t D a (rowOf t b) n₂ j m (out-two j h) (old-list H j a h p (nextIn j))
+          next-one t D moved ends a (rowOf t b) n₂ j m (out-two j h) (old-list H j a h p (nextIn j))
           ∙ sym (joined-list H j a h stay-a p (nextIn j))
       go (inTwo h p) =
-          next-kept t D a (rowOf t b) n₂ j m (out-one j h)
+          next-kept t D moved ends a (rowOf t b) n₂ j m (out-one j h)
           ∙ old-list H j b h p (nextIn j)
           ∙ sym (next-behind j (rowOf t a) (rowOf t b) (out-one j h))
           ∙ sym (joined-list H j b h (heap-moves a b) p (nextIn j))
-      go (stays x y e) = next-kept t D a (rowOf t b) n₂ j m x ∙ sym (e (nextIn j))
+      go (stays x y e) = next-kept t D moved ends a (rowOf t b) n₂ j m x ∙ sym (e (nextIn j))
 
-  prev-word : (j : ℕ) → j ≢ none → rowFollowed t a (rowOf t b) Prev j ≡ word new Prev j
-  unfolding word
+  prev-word : (j : ℕ) → j ≢ none → followed Prev j ≡ word later new Prev j
+  unfolding itemsMoved word
   prev-word j m = go (where-is H j)
     where
-      go : Where H j → rowFollowed t a (rowOf t b) Prev j ≡ unlessFree new j (prevIn none j (siblings new j))
+      go : Where H j → followed Prev j ≡ unlessFree new j (prevIn none j (siblings new j))
       go (inOne h p) =
-          prev-kept t D a (rowOf t b) n₂ j (out-two j h)
+          prev-kept t D moved ends a (rowOf t b) n₂ j (out-two j h)
           ∙ old-list H j a h p (prevIn none j)
           ∙ sym (prev-before none j (rowOf t a) (rowOf t b) (out-two j h))
           ∙ sym (joined-list H j a h stay-a p (prevIn none j))
       go (inTwo h p) =
-          prev-two t D a (rowOf t b) n₂ j m (out-one j h) (old-list H j b h p (prevIn none j))
+          prev-two t D moved ends a (rowOf t b) n₂ j m (out-one j h) (old-list H j b h p (prevIn none j))
           ∙ sym (joined-list H j b h (heap-moves a b) p (prevIn none j))
-      go (stays x y e) = prev-kept t D a (rowOf t b) n₂ j y ∙ sym (e (prevIn none j))
+      go (stays x y e) = prev-kept t D moved ends a (rowOf t b) n₂ j y ∙ sym (e (prevIn none j))
 
   -- the minima: a has the lesser of the two
   least-word : (g : ℕ)
@@ -152,48 +174,68 @@ module _ {t : Forests} {a b : ℕ} (H : TwoHeaps t a b) where
       go true e = rw (← (eqb-true a g e)) (sym (count-meld t a b (H .two)))
       go false e = sym (counts-move a b g (λ q. eqb-false a g e (sym q)) (t .heap))
 
-  state-word : (j : ℕ) → movedState a b (word t State j) ≡ word new State j
-  unfolding word meld
+  state-word : (j : ℕ) → moved State j ≡ word later new State j
+  unfolding itemsMoved word meld
   state-word j =
       state-moves a b (heapOf t j) (markOf t j) (D .bit j)
       ∙ ap (λ g. stateOf g (markOf t j)) (sym (heap-at H j))
 
+  key-word : (j : ℕ) → moved Key j ≡ word later new Key j
+  unfolding itemsMoved movedKey word unlessFree meld KeysFit
+  key-word j =
+      rw (state-in b (heapOf t j) (markOf t j) (D .bit j), heap-at H j)
+      (key-moves a b (H .two) amounts later emptied (heapOf t j) (keyOf t j) (K j))
+
+  -- the key of a minimum, by the amount of a: that of a heap whose items are a's then
+  least-key : (h : ℕ) → moveHeap a b (suc h) ≡ suc a → minimum t h ≢ none
+      → itemKey a moved (minimum t h) ≡ keyOf t (minimum t h)
+  unfolding itemsMoved word minimum meld KeysFit
+  least-key h e m =
+      let x : ℕ = minimum t h in
+      key-is moved later new a x (sym (amount-stays a b (H .two) amounts later emptied a (H .two))) (key-word x)
+      (heap-at H x ∙ ap (moveHeap a b) (row-root t D h x (least-in (t .key) (rowOf t h) m) .0) ∙ e) (K x)
+
   abbrev pub Melds : ℕ → Field → Type 0
-  Melds n f = (j : ℕ) → j < fieldSize n f → itemsMoved a b (heapsJoined a b (word t)) f j ≡ word new f j
+  Melds n f = (j : ℕ) → j < fieldSize n f → heapsJoined a b moved f j ≡ word later new f j
 
   -- the kinds of which words change, or stay though heap fields do not
-  abbrev moved : List Field
-  moved = FirstTree ∷ LastTree ∷ Minimum ∷ Count ∷ FirstChild ∷ LastChild ∷ Next ∷ Prev ∷ State ∷ []
+  abbrev kinds : List Field
+  kinds =
+      FirstTree ∷ LastTree ∷ Minimum ∷ Count ∷ Amount ∷ Key ∷ FirstChild ∷ LastChild ∷ Next ∷ Prev ∷ State ∷ []
 
-  other-word : (f : Field) → Apart moved f → (j : ℕ) → itemsMoved a b (heapsJoined a b (word t)) f j ≡ word new f j
+  other-word : (f : Field) → Apart kinds f → (j : ℕ) → heapsJoined a b moved f j ≡ word later new f j
   unfolding itemsMoved heapsJoined rowsJoined word meld
   other-word f p j =
-      let q = apart-from moved f p in
-      let plain = apart-some moved (linkKinds (Row a)) f refl p in
-      let same = plain-after t D a (rowOf t b) f b plain in
-      rw (q Minimum refl, q Count refl, q State refl)
-      (empty-else t b (rowFollowed t a (rowOf t b)) f (apart-some moved (Count ∷ nones) f refl p) same j
-      ∙ plain-after t D a (rowOf t b) f j plain
-      ∙ kept-words (children ∷ parents ∷ keys ∷ []) moved t new refl refl refl refl f p j)
+      let q = apart-from kinds f p in
+      rw (q Minimum refl, q Count refl)
+      (empty-else b followed f (apart-some kinds (Amount ∷ Count ∷ nones) f refl p) j
+      ∙ plain-after moved a (rowOf t b) f j (apart-some kinds (linkKinds (Row a)) f refl p)
+      ∙ rw (q State refl, q Key refl)
+      (kept-words (children ∷ parents ∷ []) kinds amounts t new refl refl refl f p j
+      ∙ word-but-amounts amounts later new f (apart-some kinds (Amount ∷ Key ∷ []) f refl p) j))
 
   pub melded-word : (n : ℕ) → tableSize t ≡ n → (f : Field) → Melds n f
   unfolding itemsMoved heapsJoined rowsJoined emptyHeap word meld headOr lastOr
   melded-word n e =
-      by-kinds moved (Melds n)
-      (λ j l. ap (cond (eqb b j) none) (first-after t D a (rowOf t b) n₂ j) ∙ row-word (headOr none) j)
-      (λ j l. ap (cond (eqb b j) none) (last-after t D a (rowOf t b) n₂ j) ∙ row-word (lastOr none) j)
-      (λ j l. ap (λ x. cond (eqb a j) (lesser (itemKey (word t)) (minimum t a) (minimum t b)) (cond (eqb b j) none x))
-      (plain-after t D a (rowOf t b) Minimum j refl)
+      by-kinds kinds (Melds n)
+      (λ j l. ap (cond (eqb b j) none) (first-after t D moved ends a (rowOf t b) n₂ j) ∙ row-word (headOr none) j)
+      (λ j l. ap (cond (eqb b j) none) (last-after t D moved ends a (rowOf t b) n₂ j) ∙ row-word (lastOr none) j)
+      (λ j l. ap (λ x. cond (eqb a j) (lesser (itemKey a moved) (minimum t a) (minimum t b)) (cond (eqb b j) none x))
+      (plain Minimum j refl)
       ∙ ap (λ x. cond (eqb a j) x (cond (eqb b j) none (minimum t j)))
-      (lesser-keys (itemKey (word t)) (keyOf t) (minimum t a) (minimum t b)
-      (λ _. key-is _ t (minimum t a) refl) (λ _. key-is _ t (minimum t b) refl))
+      (lesser-keys (itemKey a moved) (keyOf t) (minimum t a) (minimum t b) (least-key a stay-a)
+      (least-key b (heap-moves a b)))
       ∙ least-word j)
-      (λ j l. ap (λ x. cond (eqb a j) (count t a + count t b) (cond (eqb b j) 0 x))
-      (plain-after t D a (rowOf t b) Count j refl)
+      (λ j l. ap (λ x. cond (eqb a j) (count t a + count t b) (cond (eqb b j) 0 x)) (plain Count j refl)
       ∙ count-word j)
-      (λ j l. plain-after t D a (rowOf t b) FirstChild j refl ∙ sym (free-at H j (headOr none (childrenOf t j))))
-      (λ j l. plain-after t D a (rowOf t b) LastChild j refl ∙ sym (free-at H j (lastOr none (childrenOf t j))))
+      (λ j l. ap (cond (eqb b j) 0) (plain Amount j refl) ∙ sym (emptied j))
+      (λ j l. plain Key j refl ∙ key-word j)
+      (λ j l. plain FirstChild j refl ∙ sym (free-at H j (headOr none (childrenOf t j))))
+      (λ j l. plain LastChild j refl ∙ sym (free-at H j (lastOr none (childrenOf t j))))
       (λ j l. next-word j (λ q. omega (arith, q, D .small)))
       (λ j l. prev-word j (λ q. omega (arith, q, D .small)))
-      (λ j l. ap (movedState a b) (plain-after t D a (rowOf t b) State j refl) ∙ state-word j)
+      (λ j l. plain State j refl ∙ state-word j)
       (λ f p j l. other-word f p j)
+    where
+      plain : (f : Field) (j : ℕ) → Apart (linkKinds (Row a)) f → followed f j ≡ moved f j
+      plain = plain-after moved a (rowOf t b)

@@ -16,7 +16,7 @@ use Rattle.rules.proofs.Refusals.{delete-ok}
 use Rattle.store.proofs.ListMembers.{none-row}
 use Rattle.consolidate.proofs.LinkedLists.{head-none}
 use Rattle.heap.specs.Allowed.{Allowed, Store}
-use Rattle.heap.proofs.ItemHeap.{item-inside}
+use Rattle.heap.specs.Moving.{InHeap}
 use Rattle.heap.proofs.SoundStore.{first-at, formed, items-size, state-at}
 
 -- only a free item has the state 0
@@ -69,10 +69,10 @@ decrease-refusal t i k = go (leb (tableSize t) i) (eqb (heapOf t i) 0) (cond (lt
     go false true c = refl
     go false false c = refl
 
--- the item of a call that X would not be refused on is in the table
-pub item-allowed : {w : List ℕ} {n i code : ℕ} → Store w n → code ≡ refusal (forestsOf w) (Delete i) → code ≡ 0 → i < n
-item-allowed {w} {n} {i} S e z =
-    item-inside (record { store = S; live = delete-ok (forestsOf w) i (sym e ∙ z) })
+-- the item of a call that X would not be refused on is in a heap
+pub item-allowed : {w : List ℕ} {n i code : ℕ} → Store w n → code ≡ refusal (forestsOf w) (Delete i) → code ≡ 0
+    → InHeap w n i
+item-allowed {w} {n} {i} S e z = record { store = S; live = delete-ok (forestsOf w) i (sym e ∙ z) }
 
 -- the heap of a call that asks for the minimum is one of the eight
 pub find-heap : {w : List ℕ} {n h : ℕ} → Allowed w n (FindMin h) → h < 8

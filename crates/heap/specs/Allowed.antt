@@ -4,9 +4,8 @@ use mathlib.Core.Path.{_≡_}
 use mathlib.Core.List.{List}
 use Rattle.rules.specs.declared.Call.{Call}
 use Rattle.rules.specs.Answers.{refusal}
-use Rattle.rules.specs.Forests.{Forests}
-use Rattle.rules.specs.Calls.{Outcome, extract}
-use Rattle.rules.specs.Order.{minimum}
+use Rattle.rules.specs.Calls.{perform}
+use Rattle.rules.specs.Queues.{Queues, afterCall}
 use Rattle.rules.specs.Words.{Sound, encode, forestsOf, itemsIn}
 use Rattle.rules.specs.declared.Tally.{Tally}
 
@@ -29,12 +28,8 @@ pub record MayMove (w : List ℕ) (n : ℕ) (c : Call) (t : Tally) : Type 0 wher
   pub allowed : Allowed w n c
   pub room : TallyRoom t
 
--- T takes the minimum
-abbrev pub extracting : ℕ → Forests → Outcome
-extracting h t = extract h (minimum t h) t
-
--- The words are those of the rules' next forests, and the moves of the rules are added to the tally.
-pub record Moves (o : Outcome) (t r : Tally) (w′ : List ℕ) : Type 0 where
-  pub words : w′ ≡ encode (o .next)
-  pub links : r .links ≡ t .links + o .reply .links
-  pub cuts : r .cuts ≡ t .cuts + o .reply .cuts
+-- The words are those of the queues after the call, and the moves of the rules are added to the tally.
+pub record Moves (q : Queues) (c : Call) (t r : Tally) (w′ : List ℕ) : Type 0 where
+  pub words : w′ ≡ encode (afterCall q c)
+  pub links : r .links ≡ t .links + (perform (q .forests) c) .reply .links
+  pub cuts : r .cuts ≡ t .cuts + (perform (q .forests) c) .reply .cuts

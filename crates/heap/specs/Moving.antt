@@ -9,6 +9,7 @@ use Rattle.rules.specs.declared.Tally.{Tally}
 use Rattle.rules.specs.Forests.{Forests, none, heapOf, heapNumber}
 use Rattle.rules.specs.Order.{minimum}
 use Rattle.rules.specs.Cut.{cutIf}
+use Rattle.rules.specs.WellFormed.{KeysFit}
 use Rattle.rules.specs.Words.{forestsOf}
 use Rattle.store.specs.Families.{Holds}
 use Rattle.cut.specs.Ready.{Member, Cascaded}
@@ -25,8 +26,8 @@ pub record DeleteOther (w : List ℕ) (n h i : ℕ) (tally : Tally) : Type 0 whe
   pub heap : h ≡ heapNumber (forestsOf w) i
   pub other : minimum (forestsOf w) h ≢ i
 
--- Whatever forests the words w hold, in which i is an item of heap h: the words w′ hold those in which i is cut if the
--- test says so, and r is the number of cuts.
+-- Whatever forests the words w hold, with keys of 32 bits, in which i is an item of heap h: the words w′ hold those in
+-- which i is cut if the test says so, and r is the number of cuts.
 pub record CutsIf (test : Forests → Bool) (n : ℕ) (w : List ℕ) (h i : ℕ) (w′ : List ℕ) (r : ℕ) : Type 0 where
-  pub gives : (c m : ℕ → ℕ) (t : Forests) → Holds n w c m t none → Member t h i
-      → Cascaded n w′ c m (cutIf (test t) h i t) r
+  pub gives : (a c m : ℕ → ℕ) (t : Forests) → Holds n w a c m t none → KeysFit t → Member t h i
+      → Cascaded n w′ a c m (cutIf (test t) h i t) r

@@ -5,7 +5,8 @@ use mathlib.Core.List.{List}
 use Rattle.rules.specs.declared.Call.{Call}
 use Rattle.rules.specs.declared.Line.the-variants.{Yields}
 use Rattle.rules.specs.Answers.{answer}
-use Rattle.rules.specs.Words.{Sound, encode, forestsOf}
+use Rattle.rules.specs.Queues.{afterLine}
+use Rattle.rules.specs.Words.{Sound, encode, queuesOf, forestsOf}
 use Rattle.rules.specs.declared.Tally.{Tally}
 use Rattle.heap.specs.declared.Reply.{Reply}
 use Rattle.heap.specs.Allowed.{TallyRoom}
@@ -15,14 +16,14 @@ pub record Ready (w : List ℕ) (t : Tally) : Type 0 where
   pub sound : Sound w
   pub room : TallyRoom t
 
--- The answer is the rules' answer, counts added to the tally, and the words are those of the rules' next forests.
+-- The answer is the rules' answer, counts added to the tally, and the words are those of the queues after the call.
 pub record Performed (w : List ℕ) (c : Call) (t : Tally) (r : Reply) (w′ : List ℕ) : Type 0 where
   pub code : r .code ≡ (answer (forestsOf w) (Yields c)) .reply .code
   pub item : r .item ≡ (answer (forestsOf w) (Yields c)) .reply .item
   pub key : r .key ≡ (answer (forestsOf w) (Yields c)) .reply .key
   pub links : r .tally .links ≡ t .links + (answer (forestsOf w) (Yields c)) .reply .links
   pub cuts : r .tally .cuts ≡ t .cuts + (answer (forestsOf w) (Yields c)) .reply .cuts
-  pub words : w′ ≡ encode ((answer (forestsOf w) (Yields c)) .next)
+  pub words : w′ ≡ encode (afterLine (queuesOf w) (Yields c))
 
 -- an answer with its numbers
 pub record Answers (code item key : ℕ) (t : Tally) (r : Reply) : Type 0 where

@@ -5,7 +5,7 @@ ghost use Rattle.rules.specs.declared.Call.the-variants.{DecreaseKey};
 ghost use Rattle.rules.specs.Calls as calls;
 ghost use Rattle.rules.specs.Forests.{heapNumber, parentOf};
 ghost use Rattle.rules.specs.Order as order;
-ghost use Rattle.rules.specs.Words.{forestsOf};
+ghost use Rattle.rules.specs.Words.{queuesOf, forestsOf};
 ghost use Rattle.cut.specs.Ready.{CascadeReady};
 ghost use Rattle.heap.specs.Allowed.{MayMove, Moves};
 ghost use Rattle.heap.specs.Moving.{InHeap, CutsIf};
@@ -14,6 +14,7 @@ use rules::Field;
 use rules::Tally;
 use store::NONE;
 use store::get;
+use store::keys::put_key;
 use store::order::lesser_of;
 use store::order::precedes;
 use store::put;
@@ -36,7 +37,7 @@ fn cut_if_before(s: &mut [u32], n: usize, h: u32, i: u32) -> u32
     if p == NONE {
         return 0;
     }
-    if !precedes(s, n, i, p) {
+    if !precedes(s, n, h, i, p) {
         return 0;
     }
     cut_out(s, n, h, i)
@@ -45,13 +46,13 @@ fn cut_if_before(s: &mut [u32], n: usize, h: u32, i: u32) -> u32
 // D: the key is lowered, and i is cut if by the new key it comes before a parent.
 pub fn decrease_key(s: &mut [u32], n: usize, i: u32, k: u32, tally: Tally) -> Tally
     requires { ⌜ MayMove (now s) n (DecreaseKey i k) tally ⌝ }
-    ensures { λ r. ⌜ Moves (calls.decreaseKey i k (forestsOf (now (s .entry)))) tally r (now (s .exit)) ⌝ }
+    ensures { λ r. ⌜ Moves (queuesOf (now (s .entry))) (DecreaseKey i k) tally r (now (s .exit)) ⌝ }
 {
     let h = heap_of(s, n, i);
-    put(s, n, Field::Key, i, k);
+    put_key(s, n, h, i, k);
     let cuts = cut_if_before(s, n, h, i);
     let m = get(s, n, Field::Minimum, h);
-    let least = lesser_of(s, n, m, i);
+    let least = lesser_of(s, n, h, m, i);
     put(s, n, Field::Minimum, h, least);
     tally.cut(cuts)
 }

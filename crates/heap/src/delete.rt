@@ -1,9 +1,9 @@
 // Taking a heap's minimum, and deleting any item.
 ghost use Rattle.rules.specs.declared.Call.the-variants.{ExtractMin, Delete};
 ghost use Rattle.rules.specs.Calls as calls;
-ghost use Rattle.rules.specs.Words.{forestsOf};
+ghost use Rattle.rules.specs.Words.{queuesOf};
 ghost use Rattle.cut.specs.Ready.{CascadeReady};
-ghost use Rattle.heap.specs.Allowed.{MayMove, Moves, extracting};
+ghost use Rattle.heap.specs.Allowed.{MayMove, Moves};
 ghost use Rattle.heap.specs.Moving.{CutsIf, DeleteOther};
 use super::decrease::heap_of;
 use consolidate::remove_root;
@@ -16,7 +16,7 @@ use store::get;
 // T: the minimum leaves, then linking follows.
 pub fn extract_min(s: &mut [u32], n: usize, h: u32, tally: Tally) -> Tally
     requires { ⌜ MayMove (now s) n (ExtractMin h) tally ⌝ }
-    ensures { λ r. ⌜ Moves (extracting h (forestsOf (now (s .entry)))) tally r (now (s .exit)) ⌝ }
+    ensures { λ r. ⌜ Moves (queuesOf (now (s .entry))) (ExtractMin h) tally r (now (s .exit)) ⌝ }
 {
     let taken = consolidate::extract_min(s, n, h, tally);
     taken.tally
@@ -37,7 +37,7 @@ fn cut_if_child(s: &mut [u32], n: usize, h: u32, i: u32) -> u32
 // An item of heap h that is not its minimum is cut if it has a parent, and leaves the row with no linking.
 fn delete_other(s: &mut [u32], n: usize, h: u32, i: u32, tally: Tally) -> Tally
     requires { ⌜ DeleteOther (now s) n h i tally ⌝ }
-    ensures { λ r. ⌜ Moves (calls.delete i (forestsOf (now (s .entry)))) tally r (now (s .exit)) ⌝ }
+    ensures { λ r. ⌜ Moves (queuesOf (now (s .entry))) (Delete i) tally r (now (s .exit)) ⌝ }
 {
     let cuts = cut_if_child(s, n, h, i);
     remove_root(s, n, h, i);
@@ -47,7 +47,7 @@ fn delete_other(s: &mut [u32], n: usize, h: u32, i: u32, tally: Tally) -> Tally
 // X: a heap's minimum leaves as by T, any other item with no linking.
 pub fn delete(s: &mut [u32], n: usize, i: u32, tally: Tally) -> Tally
     requires { ⌜ MayMove (now s) n (Delete i) tally ⌝ }
-    ensures { λ r. ⌜ Moves (calls.delete i (forestsOf (now (s .entry)))) tally r (now (s .exit)) ⌝ }
+    ensures { λ r. ⌜ Moves (queuesOf (now (s .entry))) (Delete i) tally r (now (s .exit)) ⌝ }
 {
     let h = heap_of(s, n, i);
     let m = get(s, n, Field::Minimum, h);

@@ -4,6 +4,7 @@ pub mod delete;
 pub mod insert;
 pub mod meld;
 pub mod perform;
+pub mod raise;
 pub mod refusal;
 
 use rules::Tally;

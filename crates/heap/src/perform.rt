@@ -1,20 +1,23 @@
-// Any call on a sound store: refused under 7 to 13, or done.
-ghost use Rattle.rules.specs.declared.Call.the-variants.{Insert, FindMin, ExtractMin, DecreaseKey, Delete, Meld};
+// Any call on a sound store: refused under 7 to 13 or 25, or done.
+ghost use Rattle.rules.specs.declared.Call.the-variants.{Insert, FindMin, ExtractMin, DecreaseKey, Delete, Meld, Raise};
 ghost use Rattle.heap.specs.Allowed.{MayMove};
 ghost use Rattle.heap.specs.Performed.{Ready, Performed, Answers};
 use super::Reply;
 use super::decrease::decrease_key;
+use super::decrease::heap_of;
 use super::delete::delete;
 use super::delete::extract_min;
 use super::insert::find_min;
 use super::insert::insert;
 use super::meld::meld;
+use super::raise::raise;
 use super::refusal::refusal;
 use rules::Call;
 use rules::Field;
 use rules::Tally;
 use store::get;
 use store::items_of;
+use store::keys::key_of;
 
 // The answer to a call, refused or done.
 fn answer(code: u32, item: u32, key: u32, tally: Tally) -> Reply
@@ -41,7 +44,7 @@ fn found_min(s: &mut [u32], n: usize, h: u32, tally: Tally) -> Reply
     ensures { λ r. ⌜ Performed (now (s .entry)) (FindMin h) tally r (now (s .exit)) ⌝ }
 {
     let i = find_min(s, n, h);
-    let k = get(s, n, Field::Key, i);
+    let k = key_of(s, n, h, i);
     answer(0, i, k, tally)
 }
 
@@ -50,7 +53,7 @@ fn extracted(s: &mut [u32], n: usize, h: u32, tally: Tally) -> Reply
     ensures { λ r. ⌜ Performed (now (s .entry)) (ExtractMin h) tally r (now (s .exit)) ⌝ }
 {
     let i = get(s, n, Field::Minimum, h);
-    let k = get(s, n, Field::Key, i);
+    let k = key_of(s, n, h, i);
     let after = extract_min(s, n, h, tally);
     answer(0, i, k, after)
 }
@@ -67,7 +70,7 @@ fn deleted(s: &mut [u32], n: usize, i: u32, tally: Tally) -> Reply
     requires { ⌜ MayMove (now s) n (Delete i) tally ⌝ }
     ensures { λ r. ⌜ Performed (now (s .entry)) (Delete i) tally r (now (s .exit)) ⌝ }
 {
-    let k = get(s, n, Field::Key, i);
+    let k = key_of(s, n, heap_of(s, n, i), i);
     let after = delete(s, n, i, tally);
     answer(0, i, k, after)
 }
@@ -82,6 +85,15 @@ fn melded(s: &mut [u32], n: usize, a: u32, b: u32, tally: Tally) -> Reply
     answer(0, a, c + d, tally)
 }
 
+fn raised(s: &mut [u32], n: usize, h: u32, d: u32, tally: Tally) -> Reply
+    requires { ⌜ MayMove (now s) n (Raise h d) tally ⌝ }
+    ensures { λ r. ⌜ Performed (now (s .entry)) (Raise h d) tally r (now (s .exit)) ⌝ }
+{
+    let c = get(s, n, Field::Count, h);
+    raise(s, n, h, d);
+    answer(0, h, c, tally)
+}
+
 // A call that is not refused.
 fn perform_allowed(s: &mut [u32], n: usize, call: Call, tally: Tally) -> Reply
     requires { ⌜ MayMove (now s) n call tally ⌝ }
@@ -94,10 +106,11 @@ fn perform_allowed(s: &mut [u32], n: usize, call: Call, tally: Tally) -> Reply
         Call::DecreaseKey { item, key } => decreased(s, n, item, key, tally),
         Call::Delete { item } => deleted(s, n, item, tally),
         Call::Meld { into, from } => melded(s, n, into, from, tally),
+        Call::Raise { heap, by } => raised(s, n, heap, by, tally),
     }
 }
 
-// Any call, refused under 7 to 13 or done.
+// Any call, refused under 7 to 13 or 25, or done.
 pub fn perform(s: &mut [u32], call: Call, tally: Tally) -> Reply
     requires { ⌜ Ready (now s) tally ⌝ }
     ensures { λ r. ⌜ Performed (now (s .entry)) call tally r (now (s .exit)) ⌝ }

@@ -1,15 +1,18 @@
 // Under which code a call is refused, by the order of the table; 0 if it is not.
 ghost use mathlib.Core.Path.{_≡_};
 ghost use Prim.Native.Nat.{ℕ};
-ghost use Rattle.rules.specs.declared.Call.the-variants.{Insert, ExtractMin, DecreaseKey, Delete, Meld};
+ghost use Rattle.rules.specs.declared.Call.the-variants.{Insert, ExtractMin, DecreaseKey, Delete, Meld, Raise};
 ghost use Rattle.rules.specs.Answers as answers;
 ghost use Rattle.rules.specs.Forests.{Forests};
 ghost use Rattle.rules.specs.Words.{forestsOf};
 ghost use Rattle.heap.specs.Allowed.{Store};
+use super::decrease::heap_of;
+use super::raise::carries_over;
 use rules::Call;
 use rules::Field;
 use store::NONE;
 use store::get;
+use store::keys::key_of;
 
 fn refuse_insert(s: &[u32], n: usize, h: u32, i: u32) -> u32
     requires { ⌜ Store (now s) n ⌝ }
@@ -64,7 +67,7 @@ fn refuse_decrease(s: &[u32], n: usize, i: u32, k: u32) -> u32
     if code != 0 {
         return code;
     }
-    if k > get(s, n, Field::Key, i) {
+    if k > key_of(s, n, heap_of(s, n, i), i) {
         return 11;
     }
     0
@@ -85,6 +88,19 @@ fn refuse_meld(a: u32, b: u32) -> u32
     0
 }
 
+fn refuse_raise(s: &[u32], n: usize, h: u32, d: u32) -> u32
+    requires { ⌜ Store (now s) n ⌝ }
+    ensures { λ r. ⌜ r ≡ answers.refusal (forestsOf (now (s .entry))) (Raise h d) ⌝ }
+{
+    if h > 7 {
+        return 7;
+    }
+    if carries_over(s, n, h, d) {
+        return 25;
+    }
+    0
+}
+
 pub fn refusal(s: &[u32], n: usize, call: Call) -> u32
     requires { ⌜ Store (now s) n ⌝ }
     ensures { λ r. ⌜ r ≡ answers.refusal (forestsOf (now (s .entry))) call ⌝ }
@@ -96,5 +112,6 @@ pub fn refusal(s: &[u32], n: usize, call: Call) -> u32
         Call::DecreaseKey { item, key } => refuse_decrease(s, n, item, key),
         Call::Delete { item } => refuse_delete(s, n, item),
         Call::Meld { into, from } => refuse_meld(into, from),
+        Call::Raise { heap, by } => refuse_raise(s, n, heap, by),
     }
 }

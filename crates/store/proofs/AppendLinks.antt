@@ -87,10 +87,11 @@ module _ (n : ℕ) (t : Forests) (o : Owner) (x : ℕ) (S : Shape n t) (F : Fami
       at-end (lastOr none (listOf t o)) j (listOf t o) (last-in none (listOf t o)) (item-not-none S j h) a
 
   -- the next word of any item j; l is the last of the list before, and the links of x were open
-  pub next-law : (l a j : ℕ) → l ≡ lastOr none (listOf t o) → j < n
-      → cond (eqb l j) x (cond (eqb x j) none (cond (eqb x j) a (word t Next j))) ≡ word (appendTo o x t) Next j
+  pub next-law : (amounts : ℕ → ℕ) (l a j : ℕ) → l ≡ lastOr none (listOf t o) → j < n
+      → cond (eqb l j) x (cond (eqb x j) none (cond (eqb x j) a (word amounts t Next j)))
+      ≡ word amounts (appendTo o x t) Next j
   unfolding word
-  next-law l a j q h = rw q (go (eqb x j) refl (stand t o j))
+  next-law amounts l a j q h = rw q (go (eqb x j) refl (stand t o j))
     where
       go : (b : Bool) → eqb x j ≡ b → Stand t o j
           → cond (eqb (lastOr none (listOf t o)) j) x
@@ -110,10 +111,10 @@ module _ (n : ℕ) (t : Forests) (o : Owner) (x : ℕ) (S : Shape n t) (F : Fami
           (sym (outside-relisted R j (nextIn j) (λ z. eqb-false x j e (sym z)) m))
 
   -- and the previous word
-  pub prev-law : (l b j : ℕ) → l ≡ lastOr none (listOf t o) → j < n
-      → cond (eqb x j) l (cond (eqb x j) b (word t Prev j)) ≡ word (appendTo o x t) Prev j
+  pub prev-law : (amounts : ℕ → ℕ) (l b j : ℕ) → l ≡ lastOr none (listOf t o) → j < n
+      → cond (eqb x j) l (cond (eqb x j) b (word amounts t Prev j)) ≡ word amounts (appendTo o x t) Prev j
   unfolding word
-  prev-law l b j q h = rw q (go (eqb x j) refl (stand t o j))
+  prev-law amounts l b j q h = rw q (go (eqb x j) refl (stand t o j))
     where
       go : (c : Bool) → eqb x j ≡ c → Stand t o j
           → cond c (lastOr none (listOf t o)) (cond c b (unlessFree t j (prevIn none j (siblings t j))))

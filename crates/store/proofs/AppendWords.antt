@@ -31,12 +31,13 @@ use Rattle.store.proofs.KeptWords.{kept-but}
 use Rattle.store.proofs.Listed.{none-out}
 use Rattle.store.proofs.SetAt.{getD-set, set-at}
 
-module _ (n : ℕ) (counts minima : ℕ → ℕ) (t : Forests) (x a b : ℕ) (S : Shape n t) (k : x < n) where
+module _ (n : ℕ) (amounts counts minima : ℕ → ℕ) (t : Forests) (x a b : ℕ) (S : Shape n t) (k : x < n) where
   -- the words of kind f after the append are those of the forests after it
   abbrev pub Appends : Owner → Field → Type 0
   Appends o f =
       (j : ℕ) → j < fieldSize n f
-      → appended o x (withLinks x a b (wordBut counts minima t)) f j ≡ wordBut counts minima (appendTo o x t) f j
+      → appended o x (withLinks x a b (wordBut amounts counts minima t)) f j
+      ≡ wordBut amounts counts minima (appendTo o x t) f j
 
   -- the kinds of which words change where x joins a row, or the children of an item
   abbrev rowKinds : List Field
@@ -56,12 +57,12 @@ module _ (n : ℕ) (counts minima : ℕ → ℕ) (t : Forests) (x a b : ℕ) (S 
       (λ j i. set-at (t .rows) h j _ (rowOf t h ++ (x ∷ [])) (λ _. lastOr none) (omega (arith, F .present, S .rows8))
       (sym (last-appended x (rowOf t h))))
       (λ j i. sym (getD-set (t .parent) x j none 0 (omega (arith, S .parentN))))
-      (λ j i. next-law n t (Row h) x S F k out J _ a j refl i)
-      (λ j i. prev-law n t (Row h) x S F k out J _ b j refl i)
+      (λ j i. next-law n t (Row h) x S F k out J amounts _ a j refl i)
+      (λ j i. prev-law n t (Row h) x S F k out J amounts _ b j refl i)
       (λ f o j i.
       let e = apart-from rowKinds f o in
       rw (e FirstTree refl, e LastTree refl, e Parent refl, e Next refl, e Prev refl)
-      (kept-but (children ∷ keys ∷ marks ∷ heaps ∷ []) rowKinds counts minima t (appendTo (Row h) x t) refl
+      (kept-but (children ∷ keys ∷ marks ∷ heaps ∷ []) rowKinds amounts counts minima t (appendTo (Row h) x t) refl
       refl refl refl refl f o j))
 
   children-word : (p : ℕ) → Family n t (Children p) → occurs x (listOf t (Children p)) ≡ 0 → MayJoin t (Children p) x
@@ -78,14 +79,14 @@ module _ (n : ℕ) (counts minima : ℕ → ℕ) (t : Forests) (x a b : ℕ) (S 
       (omega (arith, F .present .0, S .childrenN))
       (rw live (sym (last-appended x (childrenOf t p)))))
       (λ j i. sym (getD-set (t .parent) x j p 0 (omega (arith, S .parentN))))
-      (λ j i. next-law n t (Children p) x S F k out J _ a j (rw live) i)
-      (λ j i. prev-law n t (Children p) x S F k out J _ b j (rw live) i)
+      (λ j i. next-law n t (Children p) x S F k out J amounts _ a j (rw live) i)
+      (λ j i. prev-law n t (Children p) x S F k out J amounts _ b j (rw live) i)
       (λ j i. set-at (t .children) p j _ (childrenOf t p ++ (x ∷ [])) (λ _. length)
       (omega (arith, F .present .0, S .childrenN)) (sym (length-append (childrenOf t p) (x ∷ []))))
       (λ f o j i.
       let e = apart-from childKinds f o in
       rw (e FirstChild refl, e LastChild refl, e Parent refl, e Next refl, e Prev refl, e Rank refl)
-      (kept-but (rows ∷ keys ∷ marks ∷ heaps ∷ []) childKinds counts minima t (appendTo (Children p) x t) refl
+      (kept-but (rows ∷ keys ∷ marks ∷ heaps ∷ []) childKinds amounts counts minima t (appendTo (Children p) x t) refl
       refl refl refl refl f o j))
 
   pub append-word : (o : Owner) → Family n t o → occurs x (listOf t o) ≡ 0 → MayJoin t o x → (f : Field) → Appends o f

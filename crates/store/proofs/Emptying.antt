@@ -13,6 +13,7 @@ use Rattle.rules.specs.declared.Field.the-variants.{
   LastTree,
   Minimum,
   Count,
+  Amount,
   Key,
   Parent,
   FirstChild,
@@ -24,9 +25,10 @@ use Rattle.rules.specs.declared.Field.the-variants.{
 }
 use Rattle.rules.specs.Kinds.{isOneOf, Apart}
 use Rattle.rules.specs.Lists.{sumBy}
-use Rattle.rules.specs.Forests.{Forests, none, empty, count}
+use Rattle.rules.specs.Forests.{none, empty, count}
 use Rattle.rules.specs.Order.{leastIn, minimum}
-use Rattle.rules.specs.Words.{fieldSize, at, headOr, lastOr, stateOf, unlessFree, word, wordsOf, encode}
+use Rattle.rules.specs.Queues.{amountOf, emptyQueues}
+use Rattle.rules.specs.Words.{fieldSize, at, headOr, lastOr, stateOf, unlessFree, word, wordsOf, wordsWith, encode}
 use Rattle.rules.proofs.ByKind.{apart-from, by-kinds}
 use Rattle.rules.proofs.EmptyForests.{getD-all}
 use Rattle.rules.proofs.Words.{words-equal}
@@ -47,13 +49,13 @@ emptied k f i = cond (isOneOf nones f) (cond (ltb i k) none 0) 0
 emptied-none : (f : Field) (i : ℕ) → 0 ≡ emptied 0 f i
 emptied-none f i = rw (le-ltb i 0 (omega arith)) (sym (cond-same (isOneOf nones f) 0))
 
--- emptying a heap leaves its words of every other kind, if they are those of a heap
-pub empty-else : (s : Forests) (h : ℕ) (v : Values) (f : Field) → Apart (Count ∷ nones) f → v f h ≡ word s f h
-    → (i : ℕ) → emptyHeap h v f i ≡ v f i
+-- emptying a heap leaves the words of every other kind
+pub empty-else : (h : ℕ) (v : Values) (f : Field) → Apart (Amount ∷ Count ∷ nones) f → (i : ℕ)
+    → emptyHeap h v f i ≡ v f i
 unfolding emptyHeap
-empty-else s h v f o q i =
-    let e = apart-from (Count ∷ nones) f o in
-    rw (e Count refl, e FirstTree refl, e LastTree refl, e Minimum refl)
+empty-else h v f o i =
+    let e = apart-from (Amount ∷ Count ∷ nones) f o in
+    rw (e Amount refl, e Count refl, e FirstTree refl, e LastTree refl, e Minimum refl)
 
 -- one heap more
 one-more : (k i : ℕ) → cond (eqb k i) none (cond (ltb i k) none 0) ≡ cond (ltb i (k + 1)) none 0
@@ -70,25 +72,27 @@ one-more k i = go (eqb k i) (ltb i k) refl refl
 emptied-more : (k : ℕ) (f : Field) (i : ℕ) → emptyHeap k (emptied k) f i ≡ emptied (k + 1) f i
 unfolding emptyHeap
 emptied-more k =
-    by-kinds (Count ∷ nones) (λ f. (i : ℕ) → emptyHeap k (emptied k) f i ≡ emptied (k + 1) f i)
-    (λ i. cond-same (eqb k i) 0) (one-more k) (one-more k) (one-more k)
+    by-kinds (Amount ∷ Count ∷ nones) (λ f. (i : ℕ) → emptyHeap k (emptied k) f i ≡ emptied (k + 1) f i)
+    (λ i. cond-same (eqb k i) 0) (λ i. cond-same (eqb k i) 0) (one-more k) (one-more k) (one-more k)
     (λ f o i.
-    let e = apart-from (Count ∷ nones) f o in
-    rw (e Count refl, e FirstTree refl, e LastTree refl, e Minimum refl))
+    let e = apart-from (Amount ∷ Count ∷ nones) f o in
+    rw (e Amount refl, e Count refl, e FirstTree refl, e LastTree refl, e Minimum refl))
 
 count-empty : (n h : ℕ) → count (empty n) h ≡ 0
 unfolding count sumBy
 count-empty zero h = refl
 count-empty (suc n) h = rw (eqb·zero-suc h) (omega (arith, count-empty n h))
 
--- eight empty heaps over free items: the words of the empty forests
-emptied-all : (n : ℕ) (f : Field) (i : ℕ) → i < fieldSize n f → emptied 8 f i ≡ word (empty n) f i
+-- eight empty heaps over free items: the words of the empty queues
+emptied-all : (n : ℕ) (f : Field) (i : ℕ) → i < fieldSize n f → emptied 8 f i
+    ≡ word (amountOf (emptyQueues n)) (empty n) f i
 unfolding word headOr lastOr minimum leastIn unlessFree stateOf
 emptied-all n FirstTree i k = rw (lt-ltb i 8 k, getD-all 8 i)
 emptied-all n LastTree i k = rw (lt-ltb i 8 k, getD-all 8 i)
 emptied-all n Minimum i k = rw (lt-ltb i 8 k, getD-all 8 i)
 emptied-all n Count i k = sym (count-empty n i)
-emptied-all n Key i k = sym (getD-all n i 0)
+emptied-all n Amount i k = sym (getD-all 8 i 0)
+emptied-all n Key i k = rw (getD-all {A = ℕ} n i 0)
 emptied-all n Parent i k = sym (getD-all n i 0)
 emptied-all n FirstChild i k = rw (getD-all {A = ℕ} n i 0)
 emptied-all n LastChild i k = rw (getD-all {A = ℕ} n i 0)
@@ -111,11 +115,12 @@ pub more-emptied : {n : ℕ} {w w′ : List ℕ} (h : ℕ) → Says n w (emptied
 more-emptied {n} {w} {w′} h s c =
     says-as n w′ (emptyHeap h (emptied h)) (emptied (h + 1)) (c .says (emptied h) s) (λ f i _. emptied-more h f i)
 
-eight-emptied : (n : ℕ) (w : List ℕ) → Says n w (emptied 8) → w ≡ encode (empty n)
-unfolding encode
+eight-emptied : (n : ℕ) (w : List ℕ) → Says n w (emptied 8) → w ≡ encode (emptyQueues n)
+unfolding encode wordsWith
 eight-emptied n w s =
-    words-equal n (word (empty n)) w (s .sized .size) (λ f i k. s .says f i k ∙ emptied-all n f i k)
-    ∙ ap (λ k. wordsOf k (word (empty n))) (sym (length-replicate n 0))
+    words-equal n (word (amountOf (emptyQueues n)) (empty n)) w (s .sized .size)
+    (λ f i k. s .says f i k ∙ emptied-all n f i k)
+    ∙ ap (λ k. wordsOf k (word (amountOf (emptyQueues n)) (empty n))) (sym (length-replicate n 0))
 
-pub all-emptied : (n : ℕ) (w : List ℕ) (h : ℕ) → h ≡ 8 → Says n w (emptied h) → w ≡ encode (empty n)
+pub all-emptied : (n : ℕ) (w : List ℕ) (h : ℕ) → h ≡ 8 → Says n w (emptied h) → w ≡ encode (emptyQueues n)
 all-emptied n w h e s = eight-emptied n w (subst (λ k. Says n w (emptied k)) e s)

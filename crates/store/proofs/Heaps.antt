@@ -8,6 +8,7 @@ use Rattle.rules.specs.declared.Field.the-variants.{
   LastTree,
   Minimum,
   Count,
+  Amount,
   Key,
   Parent,
   FirstChild,
@@ -22,17 +23,18 @@ use Rattle.rules.specs.Order.{minimum}
 use Rattle.rules.specs.Words.{look, headOr, lastOr, word}
 use Rattle.store.specs.Says.{Agree}
 
-module _ (n : ℕ) (w : List ℕ) (s : Forests) where
-  -- the words of heap h name the ends of its row, its minimum and how many items it has
+module _ (n : ℕ) (w : List ℕ) (amounts : ℕ → ℕ) (s : Forests) where
+  -- the words of heap h name the ends of its row, its minimum, how many items it has and its amount
   pub record HeapWords (h : ℕ) : Type 0 where
     pub first : look n w FirstTree h ≡ headOr none (rowOf s h)
     pub last : look n w LastTree h ≡ lastOr none (rowOf s h)
     pub least : look n w Minimum h ≡ minimum s h
     pub items : look n w Count h ≡ count s h
+    pub amount : look n w Amount h ≡ amounts h
 
-  -- of a kind, the words are those of the forests
+  -- of a kind, the words are those of the forests with these amounts
   abbrev Same : Field → Type 0
-  Same f = Agree n (look n w) s f
+  Same f = Agree n (look n w) amounts s f
 
   -- Nothing else is said of a heap: these settle its words, and with the kinds of an item all words.
   pub by-heaps : ((h : ℕ) → h < 8 → HeapWords h) → Same Key → Same Parent → Same FirstChild → Same LastChild
@@ -42,6 +44,7 @@ module _ (n : ℕ) (w : List ℕ) (s : Forests) where
   by-heaps heap key parent first last next prev rank state LastTree = λ h k. heap h k .last
   by-heaps heap key parent first last next prev rank state Minimum = λ h k. heap h k .least
   by-heaps heap key parent first last next prev rank state Count = λ h k. heap h k .items
+  by-heaps heap key parent first last next prev rank state Amount = λ h k. heap h k .amount
   by-heaps heap key parent first last next prev rank state Key = key
   by-heaps heap key parent first last next prev rank state Parent = parent
   by-heaps heap key parent first last next prev rank state FirstChild = first

@@ -64,38 +64,40 @@ withLinks-none n v a b h f i k =
     let m : none ≡ i → ⊥ = λ e. omega (arith, e, fieldSize-small n f h) in
     setWord-other (setWord Prev none b v) Next none a f i (λ _. m) ∙ setWord-other v Prev none b f i (λ _. m)
 
-module _ {n : ℕ} {w : List ℕ} {counts minima : ℕ → ℕ} {t : Forests} where
+module _ {n : ℕ} {w : List ℕ} {amounts counts minima : ℕ → ℕ} {t : Forests} where
   -- where no item is between two lists the words say all
-  pub says-holds : Shape n t → Says n w (wordBut counts minima t) → Holds n w counts minima t none
+  pub says-holds : Shape n t → Says n w (wordBut amounts counts minima t) → Holds n w amounts counts minima t none
   says-holds S s =
       record {
         next = 0;
         prev = 0;
-        says = says-as n w _ _ s (λ f i k. sym (withLinks-none n (wordBut counts minima t) 0 0 (S .small) f i k));
+        says = says-as n w _ _ s
+            (λ f i k. sym (withLinks-none n (wordBut amounts counts minima t) 0 0 (S .small) f i k));
         shape = S;
       }
 
-  pub holds-says : Holds n w counts minima t none → Says n w (wordBut counts minima t)
+  pub holds-says : Holds n w amounts counts minima t none → Says n w (wordBut amounts counts minima t)
   holds-says H =
       says-as n w _ _ (H .says) (λ f i k.
-      withLinks-none n (wordBut counts minima t) (H .next) (H .prev) (H .shape .small) f i k)
+      withLinks-none n (wordBut amounts counts minima t) (H .next) (H .prev) (H .shape .small) f i k)
 
-module _ {n : ℕ} {w w′ : List ℕ} {counts minima : ℕ → ℕ} {t : Forests} where
+module _ {n : ℕ} {w w′ : List ℕ} {amounts counts minima : ℕ → ℕ} {t : Forests} where
   -- the moves
-  pub append-holds : (o : Owner) (x : ℕ) → Holds n w counts minima t x → Family n t o → x < n
+  pub append-holds : (o : Owner) (x : ℕ) → Holds n w amounts counts minima t x → Family n t o → x < n
       → occurs x (listOf t o) ≡ 0 → MayJoin t o x → Changes n w (appended o x) w′
-      → Holds n w′ counts minima (appendTo o x t) none
+      → Holds n w′ amounts counts minima (appendTo o x t) none
   append-holds o x H F k out J c =
       says-holds (append-shape n t o x (H .shape))
       (says-as n w′ _ _ (c .says _ (H .says))
-      (append-word n counts minima t x (H .next) (H .prev) (H .shape) k o F out J))
+      (append-word n amounts counts minima t x (H .next) (H .prev) (H .shape) k o F out J))
 
-  pub remove-holds : (o : Owner) (x : ℕ) → Holds n w counts minima t none → Family n t o → 1 ≤ occurs x (listOf t o)
-      → Changes n w (removed o x) w′ → Holds n w′ counts minima (removeFrom o x t) x
+  pub remove-holds : (o : Owner) (x : ℕ) → Holds n w amounts counts minima t none → Family n t o
+      → 1 ≤ occurs x (listOf t o)
+      → Changes n w (removed o x) w′ → Holds n w′ amounts counts minima (removeFrom o x t) x
   remove-holds o x H F k c =
       record {
-        next = word t Next x;
-        prev = word t Prev x;
-        says = says-as n w′ _ _ (c .says _ (holds-says H)) (remove-word n counts minima t x (H .shape) o F k);
+        next = word amounts t Next x;
+        prev = word amounts t Prev x;
+        says = says-as n w′ _ _ (c .says _ (holds-says H)) (remove-word n amounts counts minima t x (H .shape) o F k);
         shape = remove-shape n t o x (H .shape);
       }

@@ -1,6 +1,8 @@
 pub mod Sizes
 pub mod Says
 pub mod ItemOrder
+pub mod KeyChanges
+pub mod AmountStored
 pub mod Owners
 pub mod Moves
 pub mod SetAt

@@ -62,13 +62,14 @@ module _ (n : ℕ) (t : Forests) (o : Owner) (S : Shape n t) (F : Family n t o) 
       (λ m z. next-out x (nextIn x (listOf t o)) (listOf t o) z m refl)
 
 -- the last word of a list whose words are those of the forests
-last-word : (n : ℕ) (counts minima : ℕ → ℕ) (t : Forests) (o : Owner) → Present n t o → (x a b : ℕ)
-    → lastOf o (withLinks x a b (wordBut counts minima t)) ≡ lastOr none (listOf t o)
+last-word : (n : ℕ) (amounts counts minima : ℕ → ℕ) (t : Forests) (o : Owner) → Present n t o → (x a b : ℕ)
+    → lastOf o (withLinks x a b (wordBut amounts counts minima t)) ≡ lastOr none (listOf t o)
 unfolding lastOf withLinks wordBut word listOf unlessFree
-last-word n counts minima t (Row h) p x a b = refl
-last-word n counts minima t (Children q) p x a b = rw (ne-eqb (heapOf t q) 0 (p .1))
+last-word n amounts counts minima t (Row h) p x a b = refl
+last-word n amounts counts minima t (Children q) p x a b = rw (ne-eqb (heapOf t q) 0 (p .1))
 
-module _ {n : ℕ} {w : List ℕ} {counts minima : ℕ → ℕ} {t : Forests} {x : ℕ} (H : Holds n w counts minima t x) where
+module _ {n : ℕ} {w : List ℕ} {amounts counts minima : ℕ → ℕ} {t : Forests} {x : ℕ}
+    (H : Holds n w amounts counts minima t x) where
   -- the rank of an owner can rise, since its list is short, and fall, where it has a member
   rank-word : (p : ℕ) → p < n → look n w Rank p ≡ rankOf t p
   unfolding withLinks wordBut word
@@ -93,7 +94,7 @@ module _ {n : ℕ} {w : List ℕ} {counts minima : ℕ → ℕ} {t : Forests} {x
   last-ready o F =
       subst (Link n)
       (sym (last-says o (present-inside n t o (F .present)) (H .says)
-      ∙ last-word n counts minima t o (F .present) x (H .next) (H .prev)))
+      ∙ last-word n amounts counts minima t o (F .present) x (H .next) (H .prev)))
       (last-link n t o (H .shape) F)
 
   pub append-ready : (o : Owner) → Family n t o → x < n → AppendReady n w o x
@@ -101,11 +102,11 @@ module _ {n : ℕ} {w : List ℕ} {counts minima : ℕ → ℕ} {t : Forests} {x
       record { owner = owner-ready o F; last = last-ready o F; item = k; rank = rank-rises o F }
 
   -- the links of an item other than x
-  next-word : (y : ℕ) → y < n → y ≢ x → look n w Next y ≡ word t Next y
+  next-word : (y : ℕ) → y < n → y ≢ x → look n w Next y ≡ word amounts t Next y
   unfolding withLinks wordBut
   next-word y k m = H .says .says Next y k ∙ rw (ne-eqb x y (λ e. m (sym e)))
 
-  prev-word : (y : ℕ) → y < n → y ≢ x → look n w Prev y ≡ word t Prev y
+  prev-word : (y : ℕ) → y < n → y ≢ x → look n w Prev y ≡ word amounts t Prev y
   unfolding withLinks wordBut
   prev-word y k m = H .says .says Prev y k ∙ rw (ne-eqb x y (λ e. m (sym e)))
 
@@ -115,8 +116,9 @@ module _ {n : ℕ} {w : List ℕ} {counts minima : ℕ → ℕ} {t : Forests} {x
       record {
         owner = owner-ready o F;
         item = i;
-        next = subst (Link n) (sym (next-word y i m ∙ next-of n t o y (H .shape) F k)) (next-link n t o (H .shape) F y);
-        prev = subst (Link n) (sym (prev-word y i m ∙ prev-of n t o y (H .shape) F k))
+        next = subst (Link n) (sym (next-word y i m ∙ next-of amounts n t o y (H .shape) F k))
+            (next-link n t o (H .shape) F y);
+        prev = subst (Link n) (sym (prev-word y i m ∙ prev-of amounts n t o y (H .shape) F k))
             (prev-link n t o (H .shape) F y k);
         rank = rank-falls o F y k;
       }

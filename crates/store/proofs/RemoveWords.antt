@@ -46,24 +46,24 @@ relisted n t x (Row h) S p = row-relisted t x h (without x (rowOf t h)) (omega (
 relisted n t x (Children p) S i =
     children-relisted t x p (without x (childrenOf t p)) (omega (arith, i .0, S .childrenN))
 
-module _ (n : ℕ) (t : Forests) (o : Owner) (x : ℕ) (S : Shape n t) (F : Family n t o)
+module _ (amounts : ℕ → ℕ) (n : ℕ) (t : Forests) (o : Owner) (x : ℕ) (S : Shape n t) (F : Family n t o)
     (k : 1 ≤ occurs x (listOf t o)) where
   R : Relisted t (removeFrom o x t) o x (without x (listOf t o))
   R = relisted n t x o S (F .present)
 
   -- the links of x itself
-  pub next-of : word t Next x ≡ nextIn x (listOf t o)
+  pub next-of : word amounts t Next x ≡ nextIn x (listOf t o)
   unfolding word
   next-of = let b = F .owned x k in inside-word t o x (nextIn x) (b .0) (b .1)
 
-  pub prev-of : word t Prev x ≡ prevIn none x (listOf t o)
+  pub prev-of : word amounts t Prev x ≡ prevIn none x (listOf t o)
   unfolding word
   prev-of = let b = F .owned x k in inside-word t o x (prevIn none x) (b .0) (b .1)
 
   -- another item is linked past x
   next-past : (j : ℕ) → j < n → j ≢ x → Stand t o j
-      → cond (eqb (prevIn none x (listOf t o)) j) (nextIn x (listOf t o)) (word t Next j)
-      ≡ word (removeFrom o x t) Next j
+      → cond (eqb (prevIn none x (listOf t o)) j) (nextIn x (listOf t o)) (word amounts t Next j)
+      ≡ word amounts (removeFrom o x t) Next j
   unfolding word
   next-past j h ne (inside m d) =
       rw (inside-word t o j (nextIn j) m d, inside-relisted R j (nextIn j) ne m d)
@@ -74,8 +74,8 @@ module _ (n : ℕ) (t : Forests) (o : Owner) (x : ℕ) (S : Shape n t) (F : Fami
       (sym (outside-relisted R j (nextIn j) ne m))
 
   prev-past : (j : ℕ) → j < n → j ≢ x → Stand t o j
-      → cond (eqb (nextIn x (listOf t o)) j) (prevIn none x (listOf t o)) (word t Prev j)
-      ≡ word (removeFrom o x t) Prev j
+      → cond (eqb (nextIn x (listOf t o)) j) (prevIn none x (listOf t o)) (word amounts t Prev j)
+      ≡ word amounts (removeFrom o x t) Prev j
   unfolding word
   prev-past j h ne (inside m d) =
       rw (inside-word t o j (prevIn none j) m d, inside-relisted R j (prevIn none j) ne m d)
@@ -86,42 +86,46 @@ module _ (n : ℕ) (t : Forests) (o : Owner) (x : ℕ) (S : Shape n t) (F : Fami
 
   -- the link of x is left as it is: f one of its two links, g the other
   past : (f g : Field) (j : ℕ)
-      → (j ≢ x → cond (eqb (word t g x) j) (word t f x) (word t f j) ≡ word (removeFrom o x t) f j)
-      → cond (eqb (word t g x) j) (word t f x) (word t f j) ≡ cond (eqb x j) (word t f x) (word (removeFrom o x t) f j)
+      → (j ≢ x → cond (eqb (word amounts t g x) j) (word amounts t f x) (word amounts t f j)
+      ≡ word amounts (removeFrom o x t) f j)
+      → cond (eqb (word amounts t g x) j) (word amounts t f x) (word amounts t f j)
+      ≡ cond (eqb x j) (word amounts t f x) (word amounts (removeFrom o x t) f j)
   past f g j e = go (eqb x j) refl
     where
       go : (c : Bool) → eqb x j ≡ c
-          → cond (eqb (word t g x) j) (word t f x) (word t f j) ≡ cond c (word t f x) (word (removeFrom o x t) f j)
-      go true d = rw (← (eqb-true x j d)) (cond-same (eqb (word t g x) x) (word t f x))
+          → cond (eqb (word amounts t g x) j) (word amounts t f x) (word amounts t f j)
+          ≡ cond c (word amounts t f x) (word amounts (removeFrom o x t) f j)
+      go true d = rw (← (eqb-true x j d)) (cond-same (eqb (word amounts t g x) x) (word amounts t f x))
       go false d = e (λ z. eqb-false x j d (sym z))
 
   -- the next word of any item, and the previous one
   next-law : (j : ℕ) → j < n
-      → cond (eqb (word t Prev x) j) (word t Next x) (word t Next j)
-      ≡ cond (eqb x j) (word t Next x) (word (removeFrom o x t) Next j)
+      → cond (eqb (word amounts t Prev x) j) (word amounts t Next x) (word amounts t Next j)
+      ≡ cond (eqb x j) (word amounts t Next x) (word amounts (removeFrom o x t) Next j)
   next-law j h = past Next Prev j (λ ne. rw (prev-of, next-of) (next-past j h ne (stand t o j)))
 
   prev-law : (j : ℕ) → j < n
-      → cond (eqb (word t Next x) j) (word t Prev x) (word t Prev j)
-      ≡ cond (eqb x j) (word t Prev x) (word (removeFrom o x t) Prev j)
+      → cond (eqb (word amounts t Next x) j) (word amounts t Prev x) (word amounts t Prev j)
+      ≡ cond (eqb x j) (word amounts t Prev x) (word amounts (removeFrom o x t) Prev j)
   prev-law j h = past Prev Next j (λ ne. rw (prev-of, next-of) (prev-past j h ne (stand t o j)))
 
   -- the ends
-  first-law : cond (eqb (word t Prev x) none) (word t Next x) (headOr none (listOf t o))
+  first-law : cond (eqb (word amounts t Prev x) none) (word amounts t Next x) (headOr none (listOf t o))
       ≡ headOr none (without x (listOf t o))
   first-law = rw (prev-of, next-of) (sym (head-removed x (listOf t o) (F .once) (none-out n t o S F) k))
 
-  last-law : cond (eqb (word t Next x) none) (word t Prev x) (lastOr none (listOf t o))
+  last-law : cond (eqb (word amounts t Next x) none) (word amounts t Prev x) (lastOr none (listOf t o))
       ≡ lastOr none (without x (listOf t o))
   last-law = rw (prev-of, next-of) (sym (last-without none x (listOf t o) (none-out n t o S F) k))
 
-module _ (n : ℕ) (counts minima : ℕ → ℕ) (t : Forests) (x : ℕ) (S : Shape n t) where
+module _ (n : ℕ) (amounts counts minima : ℕ → ℕ) (t : Forests) (x : ℕ) (S : Shape n t) where
   -- the words of kind f after the removal are those of the forests after it, but for the links of x
   abbrev pub Removes : Owner → Field → Type 0
   Removes o f =
       (j : ℕ) → j < fieldSize n f
-      → removed o x (wordBut counts minima t) f j
-      ≡ withLinks x (word t Next x) (word t Prev x) (wordBut counts minima (removeFrom o x t)) f j
+      → removed o x (wordBut amounts counts minima t) f j
+      ≡ withLinks x (word amounts t Next x) (word amounts t Prev x)
+      (wordBut amounts counts minima (removeFrom o x t)) f j
 
   -- the kinds of which words change where x leaves a row, or the children of an item
   abbrev rowKinds : List Field
@@ -136,16 +140,16 @@ module _ (n : ℕ) (counts minima : ℕ → ℕ) (t : Forests) (x : ℕ) (S : Sh
   row-word h F k =
       by-kinds rowKinds (Removes (Row h))
       (λ j i. set-at (t .rows) h j _ (without x (rowOf t h)) (λ _. headOr none)
-      (omega (arith, F .present, S .rows8)) (first-law n t (Row h) x S F k))
+      (omega (arith, F .present, S .rows8)) (first-law amounts n t (Row h) x S F k))
       (λ j i. set-at (t .rows) h j _ (without x (rowOf t h)) (λ _. lastOr none)
-      (omega (arith, F .present, S .rows8)) (last-law n t (Row h) x S F k))
-      (λ j i. next-law n t (Row h) x S F k j i)
-      (λ j i. prev-law n t (Row h) x S F k j i)
+      (omega (arith, F .present, S .rows8)) (last-law amounts n t (Row h) x S F k))
+      (λ j i. next-law amounts n t (Row h) x S F k j i)
+      (λ j i. prev-law amounts n t (Row h) x S F k j i)
       (λ f o j i.
       let e = apart-from rowKinds f o in
       rw (e FirstTree refl, e LastTree refl, e Next refl, e Prev refl)
-      (kept-but (children ∷ parents ∷ keys ∷ marks ∷ heaps ∷ []) rowKinds counts minima t (removeFrom (Row h) x t) refl
-      refl refl refl refl refl f o j))
+      (kept-but (children ∷ parents ∷ keys ∷ marks ∷ heaps ∷ []) rowKinds amounts counts minima t
+      (removeFrom (Row h) x t) refl refl refl refl refl refl f o j))
 
   children-word : (p : ℕ) → Family n t (Children p) → 1 ≤ occurs x (listOf t (Children p)) → (f : Field)
       → Removes (Children p) f
@@ -155,18 +159,18 @@ module _ (n : ℕ) (counts minima : ℕ → ℕ) (t : Forests) (x : ℕ) (S : Sh
       let live = ne-eqb (heapOf t p) 0 (F .present .1) in
       by-kinds childKinds (Removes (Children p))
       (λ j i. set-at (t .children) p j _ (without x (childrenOf t p)) (λ q l. unlessFree t q (headOr none l))
-      (omega (arith, F .present .0, S .childrenN)) (rw live (first-law n t (Children p) x S F k)))
+      (omega (arith, F .present .0, S .childrenN)) (rw live (first-law amounts n t (Children p) x S F k)))
       (λ j i. set-at (t .children) p j _ (without x (childrenOf t p)) (λ q l. unlessFree t q (lastOr none l))
-      (omega (arith, F .present .0, S .childrenN)) (rw live (last-law n t (Children p) x S F k)))
-      (λ j i. next-law n t (Children p) x S F k j i)
-      (λ j i. prev-law n t (Children p) x S F k j i)
+      (omega (arith, F .present .0, S .childrenN)) (rw live (last-law amounts n t (Children p) x S F k)))
+      (λ j i. next-law amounts n t (Children p) x S F k j i)
+      (λ j i. prev-law amounts n t (Children p) x S F k j i)
       (λ j i. set-at (t .children) p j _ (without x (childrenOf t p)) (λ _. length)
       (omega (arith, F .present .0, S .childrenN)) (omega (arith, length-without x (childrenOf t p) k)))
       (λ f o j i.
       let e = apart-from childKinds f o in
       rw (e FirstChild refl, e LastChild refl, e Next refl, e Prev refl, e Rank refl)
-      (kept-but (rows ∷ parents ∷ keys ∷ marks ∷ heaps ∷ []) childKinds counts minima t (removeFrom (Children p) x t)
-      refl refl refl refl refl refl f o j))
+      (kept-but (rows ∷ parents ∷ keys ∷ marks ∷ heaps ∷ []) childKinds amounts counts minima t
+      (removeFrom (Children p) x t) refl refl refl refl refl refl f o j))
 
   pub remove-word : (o : Owner) → Family n t o → 1 ≤ occurs x (listOf t o) → (f : Field) → Removes o f
   remove-word (Row h) F k = row-word h F k

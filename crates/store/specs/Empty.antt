@@ -1,10 +1,13 @@
 -- The words of an empty heap and of a free item (scope paper, Store).
 use Prim.Native.Nat.{ℕ}
+use mathlib.Core.Bool.{cond}
+use lib.Dec.{eqb}
 use Rattle.rules.specs.declared.Field.the-variants.{
   FirstTree,
   LastTree,
   Minimum,
   Count,
+  Amount,
   Key,
   Parent,
   FirstChild,
@@ -20,7 +23,12 @@ use Rattle.store.specs.Says.{Values}
 
 unfoldable pub emptyHeap : ℕ → Values → Values
 emptyHeap h v =
-    setWord Count h 0 (setWord Minimum h none (setWord LastTree h none (setWord FirstTree h none v)))
+    setWord Amount h 0
+    (setWord Count h 0 (setWord Minimum h none (setWord LastTree h none (setWord FirstTree h none v))))
+
+-- the amount of heap h, 0 if the heap is empty
+unfoldable pub amountSettled : ℕ → Values → Values
+amountSettled h v = setWord Amount h (cond (eqb (v Count h) 0) 0 (v Amount h)) v
 
 unfoldable pub freeItem : ℕ → Values → Values
 freeItem i v =

@@ -44,11 +44,11 @@ removeFrom (Row h) x t = setRow h (without x (rowOf t h)) t
 removeFrom (Children p) x t = setChildren p (without x (childrenOf t p)) t
 
 -- The words within a call: the counts and the minima of the heaps need not be those of the forests yet, and are given
--- beside them.
-unfoldable pub wordBut : (ℕ → ℕ) → (ℕ → ℕ) → Forests → Values
-wordBut counts minima t f i =
+-- beside them, as the amounts are.
+unfoldable pub wordBut : (ℕ → ℕ) → (ℕ → ℕ) → (ℕ → ℕ) → Forests → Values
+wordBut amounts counts minima t f i =
     cond (eqb (fieldNumber Count) (fieldNumber f)) (counts i)
-    (cond (eqb (fieldNumber Minimum) (fieldNumber f)) (minima i) (word t f i))
+    (cond (eqb (fieldNumber Minimum) (fieldNumber f)) (minima i) (word amounts t f i))
 
 -- The links of x are a and b, whatever the forests say.
 unfoldable pub withLinks : ℕ → ℕ → ℕ → Values → Values
@@ -82,10 +82,10 @@ abbrev pub MayJoin : Forests → Owner → ℕ → Type 0
 MayJoin t (Row h) x = heapOf t x ≡ suc h
 MayJoin t (Children p) x = heapOf t x ≢ 0
 
--- The words w say the forests t, with these counts and minima, but for the links of x, which is between two lists;
--- where x is none, they say all.
-pub record Holds (n : ℕ) (w : List ℕ) (counts minima : ℕ → ℕ) (t : Forests) (x : ℕ) : Type 0 where
+-- The words w say the forests t, with these amounts, counts and minima, but for the links of x, which is between two
+-- lists; where x is none, they say all.
+pub record Holds (n : ℕ) (w : List ℕ) (amounts counts minima : ℕ → ℕ) (t : Forests) (x : ℕ) : Type 0 where
   pub next : ℕ
   pub prev : ℕ
-  pub says : Says n w (withLinks x next prev (wordBut counts minima t))
+  pub says : Says n w (withLinks x next prev (wordBut amounts counts minima t))
   pub shape : Shape n t

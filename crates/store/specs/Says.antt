@@ -21,9 +21,9 @@ pub record Within (n : ℕ) (w : List ℕ) (f : Field) (i : ℕ) : Type 0 where
 abbrev pub Values : Type 0
 Values = Field → ℕ → ℕ
 
--- of kind f, v has the words of the forests t
-abbrev pub Agree : ℕ → Values → Forests → Field → Type 0
-Agree n v t f = (i : ℕ) → i < fieldSize n f → v f i ≡ word t f i
+-- of kind f, v has the words of the forests t with these amounts
+abbrev pub Agree : ℕ → Values → (ℕ → ℕ) → Forests → Field → Type 0
+Agree n v amounts t f = (i : ℕ) → i < fieldSize n f → v f i ≡ word amounts t f i
 
 pub record Says (n : ℕ) (w : List ℕ) (v : Values) : Type 0 where
   pub sized : Sized n w

@@ -3,7 +3,7 @@
 ghost use mathlib.Core.Path.{_≡_};
 ghost use Prim.Native.Nat.{_<_, _≤_};
 ghost use lib.ListN.{length, replicate};
-ghost use Rattle.rules.specs.Forests.{empty};
+ghost use Rattle.rules.specs.Queues.{emptyQueues};
 ghost use Rattle.rules.specs.SetWord.{setWord};
 ghost use Rattle.rules.specs.Words.{storeSize, itemsIn, isStore, at, look, encode};
 ghost use Rattle.store.specs.Says.{Sized, Within, Changes};
@@ -33,6 +33,7 @@ ghost use Rattle.store.specs.Siblings.{
   RemoveReady,
 };
 
+pub mod keys;
 pub mod order;
 
 use rules::Field;
@@ -49,7 +50,7 @@ pub enum Owner {
 // ---- how many words there are and where each lies
 
 // The words of the eight heaps, which come first, and the words of an item.
-pub const HEAP_WORDS: usize = 32;
+pub const HEAP_WORDS: usize = 40;
 
 pub const ITEM_WORDS: usize = 8;
 
@@ -90,10 +91,11 @@ fn place(n: usize, f: Field, i: usize) -> usize
     ensures { λ r. ⌜ r ≡ at n f i ⌝ }
 {
     match f {
-        Field::FirstTree => 4 * i,
-        Field::LastTree => 4 * i + 1,
-        Field::Minimum => 4 * i + 2,
-        Field::Count => 4 * i + 3,
+        Field::FirstTree => 5 * i,
+        Field::LastTree => 5 * i + 1,
+        Field::Minimum => 5 * i + 2,
+        Field::Count => 5 * i + 3,
+        Field::Amount => 5 * i + 4,
         Field::Key => HEAP_WORDS + i,
         Field::Parent => HEAP_WORDS + n + i,
         Field::FirstChild => HEAP_WORDS + 2 * n + i,
@@ -146,6 +148,7 @@ pub fn empty_heap(s: &mut [u32], n: usize, h: u32)
     put(s, n, Field::LastTree, h, NONE);
     put(s, n, Field::Minimum, h, NONE);
     put(s, n, Field::Count, h, 0);
+    put(s, n, Field::Amount, h, 0);
 }
 
 // The words of a free item.
@@ -167,7 +170,7 @@ pub fn free_item(s: &mut [u32], n: usize, i: u32)
 // The words of eight empty heaps over free items.
 pub fn make_empty(s: &mut [u32], n: usize)
     requires { ⌜ Sized n (now s) ⌝ }
-    ensures { λ r. ⌜ now (s .exit) ≡ encode (empty n) ⌝ }
+    ensures { λ r. ⌜ now (s .exit) ≡ encode (emptyQueues n) ⌝ }
 {
     fill(s);
     for h in 0..8 {

@@ -1,22 +1,13 @@
-// The order of items, on the words of a store.
+// The order of items of one heap, on the words of a store.
 ghost use mathlib.Core.Path.{_≡_};
-ghost use Prim.Native.Nat.{_+_, _*_};
+ghost use Prim.Native.Nat.{_+_, _*_, _<_};
 ghost use Rattle.rules.specs.declared.Field.the-variants.{Key};
 ghost use Rattle.rules.specs.Order.{comesBefore, lesser};
 ghost use Rattle.rules.specs.Words.{look};
 ghost use Rattle.store.specs.ItemOrder.{itemKey, TwoItems};
 ghost use Rattle.store.specs.Says.{Within};
 use super::NONE;
-use super::get;
-use rules::Field;
-
-// The key by which an item stands in the order: items are compared by nothing else.
-fn key_of(s: &[u32], n: usize, i: u32) -> u32
-    requires { ⌜ Within n (now s) Key i ⌝ }
-    ensures { λ r. ⌜ r ≡ itemKey (look n (now (s .entry))) i ⌝ }
-{
-    get(s, n, Field::Key, i)
-}
+use super::keys::key_of;
 
 // The place of an item in the order as one number, so that no branch depends on the keys.
 fn order_number(key: u32, i: u32) -> u64
@@ -25,21 +16,23 @@ fn order_number(key: u32, i: u32) -> u64
     (key as u64) * 4294967296 + (i as u64)
 }
 
-// Item a comes before item b.
-pub fn precedes(s: &[u32], n: usize, a: u32, b: u32) -> bool
+// Item a comes before item b, both of heap h.
+pub fn precedes(s: &[u32], n: usize, h: u32, a: u32, b: u32) -> bool
+    requires { ⌜ h < 8 ⌝ }
     requires { ⌜ Within n (now s) Key a ⌝ }
     requires { ⌜ Within n (now s) Key b ⌝ }
-    ensures { λ r. ⌜ r ≡ comesBefore (itemKey (look n (now (s .entry)))) a b ⌝ }
+    ensures { λ r. ⌜ r ≡ comesBefore (itemKey h (look n (now (s .entry)))) a b ⌝ }
 {
-    let x = key_of(s, n, a);
-    let y = key_of(s, n, b);
+    let x = key_of(s, n, h, a);
+    let y = key_of(s, n, h, b);
     order_number(x, a) < order_number(y, b)
 }
 
-// The one of two items that comes first; NONE stands for no item.
-pub fn lesser_of(s: &[u32], n: usize, a: u32, b: u32) -> u32
+// The one of two items of heap h that comes first; NONE stands for no item.
+pub fn lesser_of(s: &[u32], n: usize, h: u32, a: u32, b: u32) -> u32
+    requires { ⌜ h < 8 ⌝ }
     requires { ⌜ TwoItems n (now s) a b ⌝ }
-    ensures { λ r. ⌜ r ≡ lesser (itemKey (look n (now (s .entry)))) a b ⌝ }
+    ensures { λ r. ⌜ r ≡ lesser (itemKey h (look n (now (s .entry)))) a b ⌝ }
 {
     if a == NONE {
         return b;
@@ -48,8 +41,8 @@ pub fn lesser_of(s: &[u32], n: usize, a: u32, b: u32) -> u32
         return a;
     }
     // The item is read off the lesser number: a choice of the items would become a branch in a loop.
-    let x = order_number(key_of(s, n, a), a);
-    let y = order_number(key_of(s, n, b), b);
+    let x = order_number(key_of(s, n, h, a), a);
+    let y = order_number(key_of(s, n, h, b), b);
     let least = if y < x { y } else { x };
     (least % 4294967296) as u32
 }

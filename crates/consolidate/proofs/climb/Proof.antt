@@ -17,24 +17,26 @@ use Rattle.consolidate.proofs.climb.Statement.{statement}
 use Rattle.consolidate.proofs.climb.Tie as tie
 
 abbrev Inv-loop : tie.InvT-loop
-Inv-loop s₀ n tree places₀ x₀ t₀ r₀ s places x t r =
+Inv-loop s₀ n h tree places₀ x₀ t₀ r₀ s places x t r =
     (length s ≡ length s₀) × (t .cuts ≡ t₀ .cuts) ×
-    ((h base k : ℕ) (u : Forests) (rest : List ℕ) → Consolidating n h s₀ (treesOf places₀) (x₀ ∷ rest) rest u
-    → t₀ .links ≡ base + k → t₀ .links + length (occupied (treesOf places₀)) ≤ 4294967295
-    → Climbing n h base rest (climbTree (treesOf places₀) k u x₀) s (treesOf places) x r (t .links))
+    ((base k : ℕ) (amounts : ℕ → ℕ) (u : Forests) (rest : List ℕ)
+    → Consolidating n h s₀ (treesOf places₀) (x₀ ∷ rest) rest amounts u → t₀ .links ≡ base + k
+    → t₀ .links + length (occupied (treesOf places₀)) ≤ 4294967295
+    → Climbing n h base rest amounts (climbTree (treesOf places₀) k u x₀) s (treesOf places) x r (t .links))
 
 abbrev μ-loop : tie.MeasureT-loop
-μ-loop s₀ n tree places₀ x₀ t₀ r₀ s places x t r = 17 - r
+μ-loop s₀ n h tree places₀ x₀ t₀ r₀ s places x t r = 17 - r
 
 -- the state at the loop's head, for the forests that the caller has
 here : (c : tie.At-loop Inv-loop μ-loop) →
     let a = c .before .before .before .before .args in
     let p = c .before .before .before .before .pre in
-    Climbing (a .n) (p .inHeap) 0 (p .rest) (climbTree (treesOf (a .held)) (a .tally .links) (p .forests) (a .tree))
+    Climbing (a .n) (a .h) 0 (p .rest) (p .amounts)
+    (climbTree (treesOf (a .held)) (a .tally .links) (p .forests) (a .tree))
     (c .loop .s) (treesOf (c .loop .places)) (c .loop .x) (c .loop .r) (c .loop .t .links)
 here c =
     let p = c .before .before .before .before .pre in
-    c .loop .inv .2 (p .inHeap) 0 _ (p .forests) (p .rest) (p .state) (omega arith) (p .fits)
+    c .loop .inv .2 0 _ (p .amounts) (p .forests) (p .rest) (p .state) (omega arith) (p .fits)
 
 get-requires : tie.Need-get-requires Inv-loop μ-loop
 get-requires c κs =
@@ -43,16 +45,17 @@ get-requires c κs =
     record {
       sized = p .state .says .sized;
       inside = tree-inside
-          (climb-starts (c0 .args .n) (p .inHeap) 0 (c0 .args .tally .links) (p .rest) (c0 .args .s .now)
+          (climb-starts (c0 .args .n) (c0 .args .h) 0 (c0 .args .tally .links) (p .rest) (c0 .args .s .now)
           (treesOf (c0 .args .held))
-          (p .forests) (c0 .args .tree) (c0 .args .tally .links) _ (p .state) (omega arith) (p .fits) refl);
+          (p .amounts) (p .forests) (c0 .args .tree) (c0 .args .tally .links) _ (p .state) (omega arith)
+          (p .fits) refl);
     }
 
 loop-holds : tie.Need-loop-holds Inv-loop μ-loop
 loop-holds c = (
   refl,
   refl,
-  λ h base k u rest C e f. climb-starts _ h base k rest _ _ u _ _ _ C e f (c .get .ensures),
+  λ base k a u rest C e f. climb-starts _ _ base k rest _ _ a u _ _ _ C e f (c .get .ensures),
 )
 
 holder-requires : tie.Need-holder-requires Inv-loop μ-loop
@@ -64,8 +67,11 @@ in-order-requires c κs =
     let c2 = c1 .before in
     let c4 = c2 .before .before in
     let g = here c4 in (
-      record { sized = g .state .says .sized; inside = holder-inside g (c2 .holder .ensures) (c1 .if1 .left) },
-      record { sized = g .state .says .sized; inside = tree-inside g },
+      g .state .heap,
+      (
+        record { sized = g .state .says .sized; inside = holder-inside g (c2 .holder .ensures) (c1 .if1 .left) },
+        record { sized = g .state .says .sized; inside = tree-inside g },
+      ),
     )
 
 append-requires : tie.Need-append-requires Inv-loop μ-loop
@@ -109,8 +115,8 @@ loop-again c =
     let inv = c12 .loop .inv in (
       omega (arith, c5 .append .kept .0, inv .0),
       c .link .ensures .1 ∙ inv .1,
-      λ h base k u rest C e f.
-          climb-step (inv .2 h base k u rest C e f) (c10 .holder .ensures) (c9 .if1 .left) (c7 .in-order .ensures .0)
+      λ base k a u rest C e f.
+          climb-step (inv .2 base k a u rest C e f) (c10 .holder .ensures) (c9 .if1 .left) (c7 .in-order .ensures .0)
           (c7 .in-order .ensures .1) (c5 .append .ensures) (c1 .hold .ensures) (c .link .ensures .0),
     )
 
@@ -130,9 +136,9 @@ returns c =
     let c3 = c2 .before in
     let c5 = c3 .before .before in
     let c9 = c5 .before .before .before .before in (
-      λ h base k u rest C e.
+      λ base k a u rest C e.
           rw (c .hold2 .ensures)
-          (climb-ends (c5 .loop .inv .2 h base k u rest C e (c9 .pre .fits)) (c3 .holder .ensures) (c2 .if1 .taken)),
+          (climb-ends (c5 .loop .inv .2 base k a u rest C e (c9 .pre .fits)) (c3 .holder .ensures) (c2 .if1 .taken)),
       c5 .loop .inv .1,
     )
 

@@ -3,7 +3,7 @@ use mathlib.Core.Path.{ap, _∙_}
 use borrow.Author.Needs.{needs}
 use Rattle.rules.specs.Consolidate.{consolidate, consolidateWithin, occupied}
 use Rattle.rules.specs.Forests.{setRow}
-use Rattle.rules.specs.Words.{encode}
+use Rattle.rules.specs.Words.{wordsWith}
 use Rattle.consolidate.specs.Consolidating.{Consolidates, LinksRow, WritesRow, linkRow}
 use Rattle.consolidate.proofs.consolidate.Statement.{statement}
 use Rattle.consolidate.proofs.consolidate.Tie as tie
@@ -14,8 +14,8 @@ write-row-requires c κs =
     let c4 = c .before .before .before .before in
     let c7 = c4 .before .before .before in
     let p = c7 .pre in
-    let S = c4 .link-row .ensures .0 (p .least) (p .forests) (p .rowed) (p .formed) in
-    record { forests = linkRow (c7 .args .h) (p .forests) .forests; state = S .state }
+    let S = c4 .link-row .ensures .0 (p .least) (p .amounts) (p .forests) (p .rowed) (p .formed) in
+    record { amounts = p .amounts; forests = linkRow (c7 .args .h) (p .forests) .forests; state = S .state }
 
 returns : tie.Need-returns
 unfolding LinksRow WritesRow Consolidates consolidate consolidateWithin linkRow
@@ -23,12 +23,12 @@ returns c =
     let c3 = c .before .before .before in
     let c8 = c3 .before .before .before .before .before in
     let c11 = c8 .before .before .before in (
-      λ m t R W.
-          let S = c8 .link-row .ensures .0 m t R W in
+      λ m a t R W.
+          let S = c8 .link-row .ensures .0 m a t R W in
           let l = linkRow (c11 .args .h) t in
           record {
-            words = c3 .write-row .ensures (l .forests) (S .state)
-                ∙ ap (λ q. encode (setRow (c11 .args .h) (occupied q) (l .forests))) (S .places);
+            words = c3 .write-row .ensures a (l .forests) (S .state)
+                ∙ ap (λ q. wordsWith a (setRow (c11 .args .h) (occupied q) (l .forests))) (S .places);
             tallied = S .tallied;
           },
       c8 .link-row .ensures .1,

@@ -5,6 +5,7 @@ use Rattle.consolidate.proofs.Extracting.{
   extract-performs,
   heap-inside,
   least-inside,
+  linked-says,
   remove-ready,
   sound-rowed,
 }
@@ -16,12 +17,11 @@ get-requires c κs =
     let p = c .before .before .pre in
     record { sized = sound-rowed p .says .sized; inside = heap-inside p }
 
-get-requires-2 : tie.Need-get-requires-2
-get-requires-2 c κs =
+key-of-requires : tie.Need-key-of-requires
+key-of-requires c κs =
     let c1 = c .before in
-    let c4 = c1 .before .before .before in
-    let p = c4 .pre in
-    record { sized = sound-rowed p .says .sized; inside = least-inside p (c1 .get .ensures) }
+    let p = c1 .before .before .before .pre in
+    (record { sized = sound-rowed p .says .sized; inside = least-inside p (c1 .get .ensures) }, heap-inside p)
 
 remove-root-requires : tie.Need-remove-root-requires
 remove-root-requires c κs =
@@ -36,19 +36,36 @@ consolidate-requires c κs =
     let c10 = c7 .before .before .before in
     consolidate-ready (c10 .pre) (c7 .get .ensures) _ (c3 .remove-root .ensures)
 
+settle-amount-requires : tie.Need-settle-amount-requires
+settle-amount-requires c κs =
+    let c3 = c .before .before .before in
+    let c7 = c3 .before .before .before .before in
+    let c11 = c7 .before .before .before .before in
+    let p = c11 .before .before .before .pre in
+    let s = linked-says p (c11 .get .ensures) _ (c7 .remove-root .ensures) _ _ (c3 .consolidate .ensures .0) in
+    (s .sized, heap-inside p)
+
 returns : tie.Need-returns
 returns c =
     let c2 = c .before .before in
     let c6 = c2 .before .before .before .before in
-    let c8 = c6 .before .before in
-    let c10 = c8 .before .before in
-    let c13 = c10 .before .before .before in (
-      extract-performs (c13 .pre) (c10 .get .ensures) _ (c6 .remove-root .ensures) _ (c8 .get2 .ensures)
-          (c2 .consolidate .ensures .0),
-      c2 .consolidate .ensures .1,
+    let c10 = c6 .before .before .before .before in
+    let c12 = c10 .before .before in
+    let c14 = c12 .before .before in
+    let p = c14 .before .before .before .pre in (
+      extract-performs p (c14 .get .ensures) _ (c10 .remove-root .ensures) _ _ (c6 .consolidate .ensures .0) _
+          (c12 .key-of .ensures) (c2 .settle-amount .ensures),
+      c6 .consolidate .ensures .1,
     )
 
 pub extract-min-spec : {M : Type 1} → statement M
 extract-min-spec =
     tie.close
-    (tie.spec get-requires get-requires-2 remove-root-requires consolidate-requires (λ c. search needs) returns)
+    (tie.spec
+    get-requires
+    key-of-requires
+    remove-root-requires
+    consolidate-requires
+    settle-amount-requires
+    (λ c. search needs)
+    returns)

@@ -26,8 +26,8 @@ use Rattle.consolidate.proofs.link_row.Tie as tie
 abbrev Inv-loop : tie.InvT-loop
 Inv-loop s₀ n h places₀ t₀ x₀ s places t x =
     (length s ≡ length s₀) × (t .cuts ≡ t₀ .cuts) ×
-    ((m : ℕ) (u : Forests) → Rowed n h m s₀ u → WellFormed u
-    → LinkingRow n h (t₀ .links) (linkRow h u) s (treesOf places) x (t .links))
+    ((m : ℕ) (amounts : ℕ → ℕ) (u : Forests) → Rowed n h m s₀ amounts u → WellFormed u
+    → LinkingRow n h (t₀ .links) amounts (linkRow h u) s (treesOf places) x (t .links))
 
 -- the trees to come, read off the words
 abbrev μ-loop : tie.MeasureT-loop
@@ -37,7 +37,7 @@ returns : tie.Need-returns Inv-loop μ-loop
 unfolding LinksRow
 returns c =
     let l = c .before .loop in
-    (λ m u R W. walk-ends (l .inv .2 m u R W) (c .loop-test .left), l .inv .1)
+    (λ m a u R W. walk-ends (l .inv .2 m a u R W) (c .loop-test .left), l .inv .1)
 
 get-requires : tie.Need-get-requires Inv-loop μ-loop
 get-requires c κs =
@@ -50,18 +50,18 @@ loop-holds c =
     let p = c2 .before .before .pre in (
       refl,
       refl,
-      λ m u R W. rw (c2 .free-places .ensures) (walk-starts _ _ R W (p .heap) (c .get .ensures) (p .fits)),
+      λ m a u R W. rw (c2 .free-places .ensures) (walk-starts _ _ R W (p .heap) (c .get .ensures) (p .fits)),
     )
 
 -- the state at the loop's head, for the forests that the caller has
 here : (c : tie.At-loop Inv-loop μ-loop) →
     let a = c .before .before .before .before .before .args in
     let p = c .before .before .before .before .before .pre in
-    LinkingRow (a .n) (a .h) (a .tally .links) (linkRow (a .h) (p .forests)) (c .loop .s) (treesOf (c .loop .places))
-    (c .loop .x) (c .loop .t .links)
+    LinkingRow (a .n) (a .h) (a .tally .links) (p .amounts) (linkRow (a .h) (p .forests)) (c .loop .s)
+    (treesOf (c .loop .places)) (c .loop .x) (c .loop .t .links)
 here c =
     let p = c .before .before .before .before .before .pre in
-    c .loop .inv .2 (p .least) (p .forests) (p .rowed) (p .formed)
+    c .loop .inv .2 (p .least) (p .amounts) (p .forests) (p .rowed) (p .formed)
 
 get-requires-2 : tie.Need-get-requires-2 Inv-loop μ-loop
 get-requires-2 c κs =
@@ -90,8 +90,9 @@ loop-again c =
     let c9 = c8 .before in (
       omega (arith, c4 .climb .kept .0, c9 .loop .inv .0),
       c4 .climb .ensures .1 ∙ c9 .loop .inv .1,
-      λ m u R W.
-          walk-step (c9 .loop .inv .2 m u R W) (c8 .loop-test .taken) (c6 .get2 .ensures) (c4 .climb .ensures .0) .next,
+      λ m a u R W.
+          walk-step (c9 .loop .inv .2 m a u R W) (c8 .loop-test .taken) (c6 .get2 .ensures)
+          (c4 .climb .ensures .0) .next,
     )
 
 same-length : tie.Need-same-length Inv-loop μ-loop

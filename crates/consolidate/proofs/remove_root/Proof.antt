@@ -117,7 +117,7 @@ returns c =
     let c22 = c20 .before .before in
     let c24 = c22 .before .before in
     let c26 = c24 .before .before in
-    λ m t R O.
+    λ m a t R O.
     root-removed R O (c18 .remove .ensures) (c26 .get .ensures) (c22 .get3 .ensures)
     (c14 .release .ensures)
     (c24 .get2 .ensures) (c20 .get4 .ensures) (c10 .concat .ensures) (c6 .free-item .ensures) (c2 .put .ensures)

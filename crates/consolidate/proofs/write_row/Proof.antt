@@ -1,5 +1,5 @@
 -- `consolidate::write_row` meets its contract.
-use Prim.Native.Nat.{_+_, _-_}
+use Prim.Native.Nat.{ℕ, _+_, _-_}
 use mathlib.Core.Path.{_≡_, refl}
 use mathlib.Core.List.{[]}
 use native.Mathlib.Omega.{arith}
@@ -7,7 +7,7 @@ use borrow.Author.Needs.{needs}
 use lib.ListN.{length, drop, take}
 use Rattle.rules.specs.Consolidate.{occupied}
 use Rattle.rules.specs.Forests.{Forests, none, rowOf, setRow}
-use Rattle.rules.specs.WellFormed.{Disjoint}
+use Rattle.rules.specs.WellFormed.{Disjoint, KeysFit}
 use Rattle.linking_places.specs.Places.{treesOf}
 use Rattle.consolidate.specs.Consolidating.{WritesRow}
 use Rattle.consolidate.specs.Writing.{WritingRow, WritesTree}
@@ -25,8 +25,8 @@ use Rattle.consolidate.proofs.write_row.Tie as tie
 abbrev Inv-loop : tie.InvT-loop
 Inv-loop s₀ n h places m₀ r₀ s m r =
     (length s ≡ length s₀) ×
-    ((t : Forests) → Disjoint t → rowOf t h ≡ occupied (treesOf places) → WritingRow n h s₀ [] none t
-    → WritingRow n h s (occupied (take r (treesOf places))) m t)
+    ((amounts : ℕ → ℕ) (t : Forests) → Disjoint t → KeysFit t → rowOf t h ≡ occupied (treesOf places)
+    → WritingRow n h s₀ [] none amounts t → WritingRow n h s (occupied (take r (treesOf places))) m amounts t)
 
 abbrev μ-loop : tie.MeasureT-loop
 μ-loop s₀ n h places m₀ r₀ s m r = 17 - r
@@ -44,20 +44,20 @@ put-requires-2 c κs =
 
 loop-holds : tie.Need-loop-holds Inv-loop μ-loop
 unfolding occupied
-loop-holds c = (refl, λ t D e W. W)
+loop-holds c = (refl, λ a t D K e W. W)
 
 -- the state at the loop's head, for the forests that the caller has
 here : (c : tie.At-loop Inv-loop μ-loop) →
     let c10 = c .before .before .before .before .before .before .before .before .before .before in
     let ps = treesOf (c10 .args .t4) in
     WritingRow (c10 .args .n) (c10 .args .h) (c .loop .s) (occupied (take (c .loop .r) ps)) (c .loop .m)
-    (setRow (c10 .args .h) (occupied ps) (c10 .pre .forests))
+    (c10 .pre .amounts) (setRow (c10 .args .h) (occupied ps) (c10 .pre .forests))
 here c =
     let c3 = c .before .before .before in
     let c7 = c3 .before .before .before .before in
     let c10 = c7 .before .before .before in
     let C = c10 .pre .state in
-    c .loop .inv .1 _ (places-formed C .disjoint) (places-row C)
+    c .loop .inv .1 _ _ (places-formed C .disjoint) (places-formed C .keys) (places-row C)
     (writing-starts C (c7 .put .ensures) (c3 .put2 .ensures))
 
 write-tree-requires : tie.Need-write-tree-requires Inv-loop μ-loop
@@ -71,10 +71,12 @@ write-tree-requires c κs =
     let r = c4 .loop .r in
     let t = setRow (c14 .args .h) (occupied ps) (c14 .pre .forests) in
     record {
+      amounts = c14 .pre .amounts;
       forests = t;
       written = occupied (take r ps);
       rest = occupied (drop (r + 1) ps);
-      coming = coming (c14 .args .h) ps r t (places-formed C .disjoint) (C .heap) (places-row C) (C .long)
+      coming = coming (c14 .args .h) ps r t (places-formed C .disjoint) (places-formed C .keys) (C .heap)
+          (places-row C) (C .long)
           (c3 .loop-test .taken) (c1 .holder .ensures);
       state = here c4;
     }
@@ -92,11 +94,11 @@ loop-again c =
     let ps = treesOf (c17 .args .t4) in
     let r = c7 .loop .r in (
       omega (arith, c2 .write-tree .kept .0, c7 .loop .inv .0),
-      λ t D e W.
-          place-written h ps r t D (C .heap) e (C .long) (c6 .loop-test .taken) (c4 .holder .ensures)
-          (c2 .write-tree .ensures _ _ t
-          (coming h ps r t D (C .heap) e (C .long) (c6 .loop-test .taken) (c4 .holder .ensures))
-          (c7 .loop .inv .1 t D e W)),
+      λ a t D K e W.
+          place-written h ps r t D K (C .heap) e (C .long) (c6 .loop-test .taken) (c4 .holder .ensures)
+          (c2 .write-tree .ensures _ _ a t
+          (coming h ps r t D K (C .heap) e (C .long) (c6 .loop-test .taken) (c4 .holder .ensures))
+          (c7 .loop .inv .1 a t D K e W)),
     )
 
 put-requires-3 : tie.Need-put-requires-3 Inv-loop μ-loop
@@ -122,10 +124,10 @@ returns c =
     let c8 = c5 .before .before .before in
     let c12 = c8 .before .before .before .before in
     let a = c12 .before .before .before .args in
-    λ t C.
-    row-written (a .h) (treesOf (a .t4)) (c5 .loop .r) _ (places-formed C .disjoint) (C .heap) (places-row C) (C .long)
-    (c4 .loop-test .left)
-    (c5 .loop .inv .1 _ (places-formed C .disjoint) (places-row C)
+    λ am t C.
+    row-written (a .h) (treesOf (a .t4)) (c5 .loop .r) _ (places-formed C .disjoint) (places-formed C .keys) (C .heap)
+    (places-row C) (C .long) (c4 .loop-test .left)
+    (c5 .loop .inv .1 am _ (places-formed C .disjoint) (places-formed C .keys) (places-row C)
     (writing-starts C (c12 .put .ensures) (c8 .put2 .ensures))) (c2 .put3 .ensures)
 
 pub write-row-spec : {M : Type 1} → statement M

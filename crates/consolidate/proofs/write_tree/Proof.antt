@@ -7,7 +7,7 @@ use Rattle.consolidate.proofs.write_tree.Tie as tie
 
 returns : tie.Need-returns
 unfolding WritesTree
-returns c = λ written rest t C W. none-written-tree C W (c .if1 .taken)
+returns c = λ written rest a t C W. none-written-tree C W (c .if1 .taken)
 
 append-requires : tie.Need-append-requires
 append-requires c κs =
@@ -19,19 +19,21 @@ lesser-of-requires : tie.Need-lesser-of-requires
 lesser-of-requires c κs =
     let c3 = c .before .before .before in
     let c5 = c3 .before .before in
-    let p = c5 .before .before .pre in
-    record {
-      sized = c3 .append .ensures .sized;
-      one = least-inside (p .coming) (p .state) (c5 .if1 .left);
-      two = λ _. tree-inside (p .coming) (p .state) (c5 .if1 .left);
-    }
+    let p = c5 .before .before .pre in (
+      p .coming .heap,
+      record {
+        sized = c3 .append .ensures .sized;
+        one = least-inside (p .coming) (p .state) (c5 .if1 .left);
+        two = λ _. tree-inside (p .coming) (p .state) (c5 .if1 .left);
+      },
+    )
 
 returns-2 : tie.Need-returns-2
 unfolding WritesTree
 returns-2 c =
     let c4 = c .before .before .before .before in
     let c6 = c4 .before .before in
-    λ written rest t C W. tree-written C W (c6 .if1 .left) (c4 .append .ensures) (c .lesser-of .ensures)
+    λ written rest a t C W. tree-written C W (c6 .if1 .left) (c4 .append .ensures) (c .lesser-of .ensures)
 
 pub write-tree-spec : {M : Type 1} → statement M
 write-tree-spec =

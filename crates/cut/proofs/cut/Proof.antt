@@ -50,7 +50,7 @@ append-requires c κs =
     cut-append-ready (p .holds) (p .child) (c9 .get .ensures ∙ e) (c7 .remove .ensures) (c3 .put .ensures) (λ v. refl)
 
 returns : tie.Need-returns
-returns c = λ counts minima t H C.
+returns c = λ amounts counts minima t H C.
     let c2 = c .before .before in
     let c6 = c2 .before .before .before .before in
     let c10 = c6 .before .before .before .before in

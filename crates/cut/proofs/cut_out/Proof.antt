@@ -22,10 +22,11 @@ cascading-cut-requires c κs =
     let p = c5 .before .before .before .pre in
     let e = c5 .get .ensures ∙ parent-word (p .holds) (member-item (p .holds) (p .child .member)) in
     record {
+      amounts = p .amounts;
       counts = p .counts;
       minima = p .minima;
       forests = _;
-      holds = c3 .cut .ensures (p .counts) (p .minima) (p .forests) (p .holds) (p .child);
+      holds = c3 .cut .ensures (p .amounts) (p .counts) (p .minima) (p .forests) (p .holds) (p .child);
       member = parent-member (p .holds) (p .child) e;
     }
 
@@ -36,21 +37,22 @@ add-result c =
     let c8 = c6 .before .before in
     let p = c8 .before .before .before .pre in
     let e = c8 .get .ensures ∙ parent-word (p .holds) (member-item (p .holds) (p .child .member)) in
-    let a = c6 .cut .ensures (p .counts) (p .minima) (p .forests) (p .holds) (p .child) in
-    let b = c2 .cascading-cut .ensures (p .counts) (p .minima) _ a (parent-member (p .holds) (p .child) e) in
+    let a = c6 .cut .ensures (p .amounts) (p .counts) (p .minima) (p .forests) (p .holds) (p .child) in
+    let b = c2 .cascading-cut .ensures (p .amounts) (p .counts) (p .minima) _ a
+    (parent-member (p .holds) (p .child) e) in
     omega (arith, cuts-few (p .holds) (p .child) e a b)
 
 same-length : tie.Need-same-length
 same-length c = search needs
 
 returns : tie.Need-returns
-returns c = λ counts minima t H C.
+returns c = λ amounts counts minima t H C.
     let c2 = c .before .before in
     let c6 = c2 .before .before .before .before in
     let c8 = c6 .before .before in
     let e = c8 .get .ensures ∙ parent-word H (member-item H (C .member)) in
-    let a = c6 .cut .ensures counts minima t H C in
-    cut-out-holds H C e a (c2 .cascading-cut .ensures counts minima _ a (parent-member H C e))
+    let a = c6 .cut .ensures amounts counts minima t H C in
+    cut-out-holds H C e a (c2 .cascading-cut .ensures amounts counts minima _ a (parent-member H C e))
 
 pub cut-out-spec : {M : Type 1} → statement M
 cut-out-spec =

@@ -16,17 +16,21 @@ use Rattle.heap.proofs.decrease.decrease_key.Tie as tie
 heap-of-requires : tie.Need-heap-of-requires
 heap-of-requires c κs = in-heap (c .before .before .pre)
 
-put-requires : tie.Need-put-requires
-put-requires c κs =
-    let p = c .before .before .before .before .pre in
-    record { sized = sound-says (p .allowed .store) .sized; inside = item-inside (in-heap p) }
+put-key-requires : tie.Need-put-key-requires
+put-key-requires c κs =
+    let c1 = c .before in
+    let p = c1 .before .before .before .pre in (
+      record { sized = sound-says (p .allowed .store) .sized; inside = item-inside (in-heap p) },
+      rw (c1 .heap-of .ensures) (heap-inside (in-heap p)),
+    )
 
 cut-if-before-requires : tie.Need-cut-if-before-requires
 cut-if-before-requires c κs =
     let c3 = c .before .before .before in
     let c5 = c3 .before .before in
     let p = c5 .before .before .before .pre in
-    rw (c5 .heap-of .ensures) (cut-ready p (c3 .put .ensures))
+    let e = c5 .heap-of .ensures in
+    rw e (cut-ready p (rw e at (c3 .put-key .ensures)))
 
 get-requires : tie.Need-get-requires
 get-requires c κs =
@@ -36,7 +40,7 @@ get-requires c κs =
     let p = c9 .before .before .before .pre in
     let e = c9 .heap-of .ensures in
     record {
-      sized = sized₂ p (c7 .put .ensures) (rw e at (c3 .cut-if-before .ensures));
+      sized = sized₂ p (rw e at (c7 .put-key .ensures)) (rw e at (c3 .cut-if-before .ensures));
       inside = rw e (heap-inside (in-heap p));
     }
 
@@ -47,11 +51,14 @@ lesser-of-requires c κs =
     let c9 = c5 .before .before .before .before in
     let c11 = c9 .before .before in
     let p = c11 .before .before .before .pre in
-    let e = c11 .heap-of .ensures in
-    two-ready p (c9 .put .ensures) (rw e at (c5 .cut-if-before .ensures)) (rw e at (c1 .get .ensures))
+    let e = c11 .heap-of .ensures in (
+      rw e (heap-inside (in-heap p)),
+      two-ready p (rw e at (c9 .put-key .ensures)) (rw e at (c5 .cut-if-before .ensures))
+          (rw e at (c1 .get .ensures)),
+    )
 
-put-requires-2 : tie.Need-put-requires-2
-put-requires-2 c κs =
+put-requires : tie.Need-put-requires
+put-requires c κs =
     let c3 = c .before .before .before in
     let c7 = c3 .before .before .before .before in
     let c11 = c7 .before .before .before .before in
@@ -59,7 +66,7 @@ put-requires-2 c κs =
     let p = c13 .before .before .before .pre in
     let e = c13 .heap-of .ensures in
     record {
-      sized = sized₂ p (c11 .put .ensures) (rw e at (c7 .cut-if-before .ensures));
+      sized = sized₂ p (rw e at (c11 .put-key .ensures)) (rw e at (c7 .cut-if-before .ensures));
       inside = rw e (heap-inside (in-heap p));
     }
 
@@ -71,7 +78,7 @@ cut-requires c κs =
     let c16 = c14 .before .before in
     let p = c16 .before .before .before .pre in
     let e = c16 .heap-of .ensures in
-    room-cuts p (c14 .put .ensures) (rw e at (c10 .cut-if-before .ensures))
+    room-cuts p (rw e at (c14 .put-key .ensures)) (rw e at (c10 .cut-if-before .ensures))
 
 returns : tie.Need-returns
 returns c =
@@ -83,19 +90,20 @@ returns c =
     let c17 = c15 .before .before in
     let p = c17 .before .before .before .pre in
     let e = c17 .heap-of .ensures in
-    decrease-moves p (c15 .put .ensures) (rw e at (c11 .cut-if-before .ensures)) (rw e at (c7 .get .ensures))
-    (c5 .lesser-of .ensures) (rw e at (c3 .put2 .ensures)) (c .cut .ensures .0) (c .cut .ensures .1)
+    decrease-moves p (rw e at (c15 .put-key .ensures)) (rw e at (c11 .cut-if-before .ensures))
+    (rw e at (c7 .get .ensures))
+    (rw e at (c5 .lesser-of .ensures)) (rw e at (c3 .put .ensures)) (c .cut .ensures .0) (c .cut .ensures .1)
 
 pub decrease-key-spec : {M : Type 1} → statement M
 decrease-key-spec =
     tie.close
     (tie.spec
     heap-of-requires
-    put-requires
+    put-key-requires
     cut-if-before-requires
     get-requires
     lesser-of-requires
-    put-requires-2
+    put-requires
     cut-requires
     (λ c. search needs)
     returns)

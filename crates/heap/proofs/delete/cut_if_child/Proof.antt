@@ -13,13 +13,14 @@ get-requires c κs =
 returns : tie.Need-returns
 returns c =
     let e = c .before .get .ensures in
-    record { gives = λ counts minima t H M. kept H M e (no-parent H M e (c .if1 .taken)) }
+    record { gives = λ amounts counts minima t H K M. kept H M e (no-parent H M e (c .if1 .taken)) }
 
 cut-out-requires : tie.Need-cut-out-requires
 cut-out-requires c κs =
     let c1 = c .before in
     let p = c1 .before .before .before .before .pre in
     record {
+      amounts = p .amounts;
       counts = p .counts;
       minima = p .minima;
       forests = p .forests;
@@ -32,9 +33,10 @@ returns-2 c =
     let c2 = c .before .before in
     let c4 = c2 .before .before in
     record {
-      gives = λ counts minima t H M.
+      gives = λ amounts counts minima t H K M.
           let e = c4 .before .get .ensures in
-          child-cut H M e (c4 .if1 .left) (c2 .cut-out .ensures counts minima t H (child H M e (c4 .if1 .left)));
+          child-cut H M e (c4 .if1 .left)
+          (c2 .cut-out .ensures amounts counts minima t H (child H M e (c4 .if1 .left)));
     }
 
 pub cut-if-child-spec : {M : Type 1} → statement M

@@ -10,12 +10,14 @@ use Rattle.heap.proofs.insert.count_item.Tie as tie
 lesser-of-requires : tie.Need-lesser-of-requires
 lesser-of-requires c κs =
     let c3 = c .before .before .before in
-    let c6 = c3 .before .before .before in
-    record {
-      sized = c6 .pre .enter .sized;
-      one = subst (Link (c6 .args .n)) (sym (c3 .get .ensures)) (c6 .pre .minimum);
-      two = λ _. c6 .pre .enter .item;
-    }
+    let c6 = c3 .before .before .before in (
+      c6 .pre .enter .heap,
+      record {
+        sized = c6 .pre .enter .sized;
+        one = subst (Link (c6 .args .n)) (sym (c3 .get .ensures)) (c6 .pre .minimum);
+        two = λ _. c6 .pre .enter .item;
+      },
+    )
 
 add-put : tie.Need-add-put
 add-put c =

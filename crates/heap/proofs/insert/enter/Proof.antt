@@ -12,10 +12,10 @@ returns c =
     let c10 = c6 .before .before .before .before in
     let c14 = c10 .before .before .before .before in
     record {
-      sized = c2 .put4 .ensures .sized;
+      sized = c2 .put3 .ensures .sized;
       says = λ v s.
-          c2 .put4 .ensures .says _
-          (c6 .put3 .ensures .says _ (c10 .put2 .ensures .says _ (c14 .put .ensures .says v s)));
+          c2 .put3 .ensures .says _
+          (c6 .put2 .ensures .says _ (c10 .put .ensures .says _ (c14 .put-key .ensures .says v s)));
     }
 
 pub enter-spec : {M : Type 1} → statement M

@@ -1,4 +1,5 @@
 -- `heap::insert::insert` meets its contract.
+use native.Mathlib.Omega.{arith}
 use borrow.Author.Needs.{needs}
 use Rattle.heap.proofs.InsertWords.{enter-ready, row-ready, count-item-ready, insert-words}
 use Rattle.heap.proofs.insert.insert.Statement.{statement}
@@ -23,7 +24,7 @@ returns c =
     let c6 = c2 .before .before .before .before in
     let c10 = c6 .before .before .before .before in
     let c13 = c10 .before .before .before in
-    insert-words (c13 .pre) (c10 .enter .ensures) (c6 .append .ensures) (c2 .count-item .ensures)
+    insert-words (c13 .pre) (c10 .enter .ensures) (c6 .append .ensures) (omega arith) (c2 .count-item .ensures)
 
 pub insert-spec : {M : Type 1} → statement M
 insert-spec =

@@ -10,12 +10,14 @@ use Rattle.heap.proofs.meld.join_heaps.Tie as tie
 lesser-of-requires : tie.Need-lesser-of-requires
 lesser-of-requires c κs =
     let c3 = c .before .before .before in
-    let c10 = c3 .before .before .before .before .before .before .before in
-    record {
-      sized = c10 .pre .rows .heaps .sized;
-      one = subst (Link (c10 .args .n)) (sym (c3 .get3 .ensures)) (c10 .pre .one);
-      two = subst (Link (c10 .args .n)) (sym (c .before .get4 .ensures)) (c10 .pre .two);
-    }
+    let c10 = c3 .before .before .before .before .before .before .before in (
+      c10 .pre .rows .heaps .into,
+      record {
+        sized = c10 .pre .rows .heaps .sized;
+        one = subst (Link (c10 .args .n)) (sym (c3 .get3 .ensures)) (c10 .pre .one);
+        two = subst (Link (c10 .args .n)) (sym (c .before .get4 .ensures)) (c10 .pre .two);
+      },
+    )
 
 add-put : tie.Need-add-put
 add-put c =
@@ -24,6 +26,14 @@ add-put c =
     let c17 = c15 .before .before in
     let c20 = c17 .before .before .before in
     omega (arith, c17 .get .ensures, c15 .get2 .ensures, c20 .pre .count)
+
+put-requires-2 : tie.Need-put-requires-2
+put-requires-2 c κs =
+    let c3 = c .before .before .before in
+    let c9 = c3 .before .before .before .before .before .before in
+    let c15 = c9 .before .before .before .before .before .before in
+    let c20 = c15 .before .before .before .before .before in
+    record { sized = c3 .put .ensures .sized; inside = c20 .pre .rows .heaps .into }
 
 returns : tie.Need-returns
 returns c =
@@ -51,6 +61,6 @@ join-heaps-spec =
     (λ c κs. search needs)
     (λ c κs. search needs)
     add-put
-    (λ c κs. search needs)
+    put-requires-2
     (λ c. search needs)
     returns)

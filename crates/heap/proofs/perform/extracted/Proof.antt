@@ -15,15 +15,17 @@ get-requires c κs =
       inside = find-heap (as-find (c .before .before .pre .allowed));
     }
 
-get-requires-2 : tie.Need-get-requires-2
-get-requires-2 c κs =
+key-of-requires : tie.Need-key-of-requires
+key-of-requires c κs =
     let c4 = c .before .before .before .before in
-    let A = as-find (c4 .pre .allowed) in
-    record {
-      sized = sound-says (A .store) .sized;
-      inside = subst (λ i. i < c4 .args .n) (sym (c .before .get .ensures ∙ minimum-at (A .store) (find-heap A)))
-          (minimum-item A);
-    }
+    let A = as-find (c4 .pre .allowed) in (
+      record {
+        sized = sound-says (A .store) .sized;
+        inside = subst (λ i. i < c4 .args .n) (sym (c .before .get .ensures ∙ minimum-at (A .store) (find-heap A)))
+            (minimum-item A);
+      },
+      find-heap A,
+    )
 
 extract-min-requires : tie.Need-extract-min-requires
 extract-min-requires c κs =
@@ -37,7 +39,7 @@ returns c =
     let c7 = c5 .before .before in
     let c10 = c7 .before .before .before in
     let A = as-find (c10 .pre .allowed) in
-    extracted-performed (c10 .pre) (c7 .get .ensures ∙ minimum-at (A .store) (find-heap A)) (c5 .get2 .ensures)
+    extracted-performed (c10 .pre) (c7 .get .ensures ∙ minimum-at (A .store) (find-heap A)) (c5 .key-of .ensures)
     (c3 .extract-min .ensures) (c .answer .ensures)
 
 pub extracted-spec : {M : Type 1} → statement M
@@ -45,7 +47,7 @@ extracted-spec =
     tie.close
     (tie.spec
     get-requires
-    get-requires-2
+    key-of-requires
     extract-min-requires
     (λ c κs. tt)
     (λ c. search needs)

@@ -1,19 +1,19 @@
 -- `heap::perform::melded` meets its contract.
 use borrow.Author.Needs.{needs}
 use native.Mathlib.Omega.{arith}
-use Rattle.heap.proofs.MeldWords.{join-heaps-ready}
+use Rattle.heap.proofs.MeldWords.{counts-fit, move-items-ready}
 use Rattle.heap.proofs.Answered.{melded-performed}
 use Rattle.heap.proofs.perform.melded.Statement.{statement}
 use Rattle.heap.proofs.perform.melded.Tie as tie
 
 get-requires : tie.Need-get-requires
 get-requires c κs =
-    let H = join-heaps-ready (c .before .before .pre .allowed) .rows .heaps in
+    let H = move-items-ready (c .before .before .pre .allowed) in
     record { sized = H .sized; inside = H .into }
 
 get-requires-2 : tie.Need-get-requires-2
 get-requires-2 c κs =
-    let H = join-heaps-ready (c .before .before .before .before .pre .allowed) .rows .heaps in
+    let H = move-items-ready (c .before .before .before .before .pre .allowed) in
     record { sized = H .sized; inside = H .from }
 
 meld-requires : tie.Need-meld-requires
@@ -26,7 +26,7 @@ add-answer c =
     let c4 = c .before .before .before .before in
     let c6 = c4 .before .before in
     let c9 = c6 .before .before .before in
-    omega (arith, c6 .get .ensures, c4 .get2 .ensures, join-heaps-ready (c9 .pre .allowed) .count)
+    omega (arith, c6 .get .ensures, c4 .get2 .ensures, counts-fit (c9 .pre .allowed))
 
 returns : tie.Need-returns
 returns c =

@@ -39,6 +39,12 @@ melded-requires c κs =
     let c5 = c2 .before .before .before in
     rw (c2 .call6 .given .1) at (c5 .pre)
 
+raised-requires : tie.Need-raised-requires
+raised-requires c κs =
+    let c2 = c .before .before in
+    let c5 = c2 .before .before .before in
+    rw (c2 .call7 .given .1) at (c5 .pre)
+
 returns : tie.Need-returns
 returns c =
     let c2 = c .before .before in
@@ -75,6 +81,12 @@ returns-6 c =
     let c5 = c2 .before .before .before in
     rw (c5 .call6 .given .1) (c2 .melded .ensures)
 
+returns-7 : tie.Need-returns-7
+returns-7 c =
+    let c2 = c .before .before in
+    let c5 = c2 .before .before .before in
+    rw (c5 .call7 .given .1) (c2 .raised .ensures)
+
 pub perform-allowed-spec : {M : Type 1} → statement M
 perform-allowed-spec =
     tie.close
@@ -92,6 +104,8 @@ perform-allowed-spec =
     (λ c. search needs)
     melded-requires
     (λ c. search needs)
+    raised-requires
+    (λ c. search needs)
     returns
     (λ c. search needs)
     returns-2
@@ -102,4 +116,6 @@ perform-allowed-spec =
     (λ c. search needs)
     returns-5
     (λ c. search needs)
-    returns-6)
+    returns-6
+    (λ c. search needs)
+    returns-7)

@@ -35,6 +35,11 @@ returns-6 c =
     let c2 = c .before .before in
     rw (c2 .call6 .given .1) (c .refuse-meld .ensures _)
 
+returns-7 : tie.Need-returns-7
+returns-7 c =
+    let c2 = c .before .before in
+    rw (c2 .call7 .given .1) (c .refuse-raise .ensures)
+
 pub refusal-spec : {M : Type 1} → statement M
 refusal-spec =
     tie.close
@@ -51,9 +56,12 @@ refusal-spec =
     (λ c κs. c .before .before .before .before .pre)
     (λ c. search needs)
     (λ c κs. tt)
+    (λ c. search needs)
+    (λ c κs. c .before .before .before .before .pre)
     returns
     returns-2
     returns-3
     returns-4
     returns-5
-    returns-6)
+    returns-6
+    returns-7)

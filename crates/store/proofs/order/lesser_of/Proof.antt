@@ -20,13 +20,13 @@ key-of-requires : tie.Need-key-of-requires
 key-of-requires c κs =
     let c1 = c .before in
     let p = c1 .before .before .pre in
-    record { sized = p .sized; inside = p .one (c1 .if1 .left) }
+    (record { sized = p .1 .sized; inside = p .1 .one (c1 .if1 .left) }, p .0)
 
 key-of-requires-2 : tie.Need-key-of-requires-2
 key-of-requires-2 c κs =
     let c2 = c .before .before in
     let p = c2 .before .before .before .pre in
-    record { sized = p .sized; inside = p .two (c2 .if2 .left) }
+    (record { sized = p .1 .sized; inside = p .1 .two (c2 .if2 .left) }, p .0)
 
 returns-3 : tie.Need-returns-3
 returns-3 c =
@@ -38,7 +38,7 @@ returns-3 c =
     let c6 = c5 .before in
     let c7 = c6 .before in
     let p = c7 .before .before .pre in
-    lesser-number _ _ _ (omega (arith, p .one (c7 .if1 .left))) (omega (arith, p .two (c6 .if2 .left)))
+    lesser-number _ _ _ (omega (arith, p .1 .one (c7 .if1 .left))) (omega (arith, p .1 .two (c6 .if2 .left)))
     (c5 .key-of .ensures) (c3 .key-of2 .ensures) (c4 .order-number .ensures) (c2 .order-number2 .ensures)
     (⊎-elim (λ w. inl (w .0 .taken, w .1)) (λ w. inr (w .0 .left, w .1)) (c1 .if3 .came))
 

@@ -12,7 +12,7 @@ returns c =
     let c2 = c .before .before in
     let a = c2 .before .before .before .args in
     rw (
-      before-number (itemKey (look (a .n) (a .s .now))) (a .a) (a .b) (omega arith) (omega arith),
+      before-number (itemKey (a .h) (look (a .n) (a .s .now))) (a .a) (a .b) (omega arith) (omega arith),
       ← (c2 .before .key-of .ensures),
       ← (c2 .key-of2 .ensures),
       ← (c .before .order-number .ensures),
