@@ -3,13 +3,13 @@ use Prim.Native.Nat.{ℕ, suc, _+_, _-_, _≤_, _<_}
 use mathlib.Core.Path.{_≡_, refl, sym, _∙_}
 use mathlib.Core.Logic.{_≢_}
 use mathlib.Core.List.{List}
-use mathlib.Core.Bool.{Bool, true, false, cond, _&&_}
+use mathlib.Core.Bool.{Bool, true, false, cond, _&&_, _||_}
 use native.Mathlib.Numerals.{add-one}
 use native.Mathlib.Omega.{arith}
 use lib.ListN.{length}
-use lib.Dec.{eqb, eqb·zero-suc, eqb·suc-suc}
+use lib.Dec.{eqb, ltb, eqb·zero-suc, eqb·suc-suc}
 use borrow.Author.Tests.{ne-eqb, le-leb}
-use Rattle.rules.specs.declared.Field.the-variants.{FirstTree, LastTree, Key, Rank, State}
+use Rattle.rules.specs.declared.Field.the-variants.{FirstTree, LastTree, Count, Amount, Key, Rank, State}
 use Rattle.rules.specs.Forests.{none}
 use Rattle.rules.specs.Words.{itemsIn, isStore, look}
 use Rattle.rules.proofs.Occurs.{and-true, and-false}
@@ -25,11 +25,12 @@ use Rattle.soundness.specs.Check.{
   itemOk,
   minimumRight,
   countRight,
+  amountRight,
   heapOk,
   allOk,
   soundWords,
 }
-use Rattle.audit.specs.Promises.{RowInside, ifOk, siblingsOk, lengthIfOk, heapIfOk}
+use Rattle.audit.specs.Promises.{RowInside, AtMost, ifOk, siblingsOk, lengthIfOk, heapIfOk}
 use Rattle.soundness.proofs.Passed.{byZero}
 use Rattle.soundness.proofs.Booleans.{allTo-at}
 use Rattle.soundness.proofs.ItemTests.{is-member}
@@ -94,21 +95,24 @@ module _ (n : ℕ) (w : List ℕ) (h : ℕ) where
   row-wrong r e z = rw (ok-zero (listOk n w (rowAt n w h)) (length (listAt n w (rowAt n w h))) r e z)
 
   -- what is tested besides, and the answer then
-  pub heap-tests : (r : ℕ) → r ≡ rowIfOk → r ≢ 0 → (t : Bool) → (minimumRight n w h && countRight n w h) ≡ t
+  pub heap-tests : (r : ℕ) → r ≡ rowIfOk → r ≢ 0 → {v : ℕ} → AtMost (look n w Amount h) 4294967295 v → (t : Bool)
+      → (minimumRight n w h && countRight n w h && (ltb 0 (look n w Count h) || eqb (look n w Amount h) 0)) ≡ t
       → cond t r 0 ≡ heapIfOk n w h
-  unfolding heapOk
-  heap-tests r e m t q =
+  unfolding heapOk amountRight
+  heap-tests r e m a t q =
       let l : listOk n w (rowAt n w h) ≡ true =
       ok-more (listOk n w (rowAt n w h)) (length (listAt n w (rowAt n w h))) r e m .0 in
-      rw (e, l, q)
+      rw (e, l, le-leb (look n w Amount h) 4294967295 (omega (arith, a .is, a .most)), q)
 
   pub row-inside : h < 8 → (r : ℕ) → r ≡ rowIfOk → r ≢ 0 → RowInside n w h
   row-inside k r e m =
       record {
         heap = k;
         inside = λ x i.
+            let o =
             is-listed n w (rowAt n w h)
-            (ok-more (listOk n w (rowAt n w h)) (length (listAt n w (rowAt n w h))) r e m .0) .own x i .inside;
+            (ok-more (listOk n w (rowAt n w h)) (length (listAt n w (rowAt n w h))) r e m .0) .own x i in
+            (o .inside, o .heap);
       }
 
 -- ---- the store

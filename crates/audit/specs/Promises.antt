@@ -13,6 +13,7 @@ use Rattle.store.specs.Says.{Sized}
 use Rattle.soundness.specs.declared.Siblings.{Siblings}
 use Rattle.soundness.specs.Check.{
   allTo,
+  heapAt,
   countAt,
   rowAt,
   listAt,
@@ -31,9 +32,11 @@ pub record Item (n : ℕ) (w : List ℕ) (i : ℕ) : Type 0 where
   pub sized : Sized n w
   pub inside : i < n
 
--- the state word of item i is this
+-- the state word of item i is this, and that of an item of one of eight heaps
 pub record HasState (n : ℕ) (w : List ℕ) (i state : ℕ) : Type 0 where
   pub item : Item n w i
+  pub live : 1 ≤ state
+  pub low : state ≤ 16
   pub is : state ≡ look n w State i
 
 -- the states of all items are those of eight heaps
@@ -50,10 +53,10 @@ pub record AtMost (v m r : ℕ) : Type 0 where
 pub record Counts (n : ℕ) (w : List ℕ) (counts : List ℕ) : Type 0 where
   pub each : (k : ℕ) → k < 9 → getD counts k 0 ≡ countAt n w k
 
--- all items that the row of heap h leads to are in the table
+-- all items that the row of heap h leads to are in the table and in that heap
 pub record RowInside (n : ℕ) (w : List ℕ) (h : ℕ) : Type 0 where
   pub heap : h < 8
-  pub inside : (x : ℕ) → 1 ≤ occurs x (listAt n w (rowAt n w h)) → x < n
+  pub inside : (x : ℕ) → 1 ≤ occurs x (listAt n w (rowAt n w h)) → (x < n) × (heapAt n w x ≡ suc h)
 
 -- item x may be the i-th (from 1) of the list l, after item prev
 unfoldable pub linkOk : ℕ → List ℕ → Siblings → ℕ → ℕ → ℕ → Bool

@@ -1,9 +1,9 @@
-//! The check of a kept store: are its words those of well-formed forests? It reads words alone and keeps no list.
+//! The check of a kept store: are its words those of well-formed queues? It reads words alone and keeps no list.
 //! Its time grows with the number of items: an item passes in one list only, the one that its own words name.
 ghost use mathlib.Core.Path.{_≡_};
 ghost use Prim.Native.Nat.{suc, _<_};
 ghost use Rattle.rules.specs.Order.{minimum};
-ghost use Rattle.rules.specs.Words.{look, stateHeap, stateMark, decode};
+ghost use Rattle.rules.specs.Words.{look, stateHeap, stateMark, decodeForests};
 ghost use Rattle.store.specs.Says.{Sized, Within};
 ghost use Rattle.soundness.specs.Check.{parentOk, freeZero, itemOk, countAt, allOk, soundWords};
 ghost use Rattle.audit.specs.Promises.{Item, HasState, StatesLow, RowInside, AtMost, Counts};
@@ -100,7 +100,7 @@ fn parent_ok(store: &[u32], n: usize, i: usize, state: usize) -> bool
     }
     let heap = heap_of(state);
     let above = heap_of(word_at(store, n, Field::State, parent));
-    let before = precedes(store, n, parent as u32, i as u32);
+    let before = precedes(store, n, (heap - 1) as u32, parent as u32, i as u32);
     (above == heap) & before
 }
 
@@ -192,7 +192,7 @@ fn counts(store: &[u32], n: usize) -> [usize; 9]
 fn least_root(store: &[u32], n: usize, h: usize) -> u32
     requires { ⌜ Sized n (now store) ⌝ }
     requires { ⌜ RowInside n (now store) h ⌝ }
-    ensures { λ r. ⌜ r ≡ minimum (decode n (now (store .entry))) h ⌝ }
+    ensures { λ r. ⌜ r ≡ minimum (decodeForests n (now (store .entry))) h ⌝ }
 {
     let mut least = store::NONE;
     let mut x = get(store, n, Field::FirstTree, h as u32);
@@ -201,7 +201,7 @@ fn least_root(store: &[u32], n: usize, h: usize) -> u32
         if x == store::NONE {
             break;
         }
-        least = lesser_of(store, n, least, x);
+        least = lesser_of(store, n, h as u32, least, x);
         x = get(store, n, Field::Next, x);
         j += 1;
     }
@@ -233,7 +233,8 @@ fn heap_length(store: &[u32], n: usize, h: usize, count: usize) -> usize
     let least = get(store, n, Field::Minimum, h as u32);
     let root = least_root(store, n, h);
     let items = word_at(store, n, Field::Count, h);
-    if (least == root) & (items == count) {
+    let amount = word_at(store, n, Field::Amount, h);
+    if (least == root) & (items == count) & ((items > 0) | (amount == 0)) {
         length
     } else {
         0

@@ -3,6 +3,7 @@ use mathlib.Core.Path.{refl}
 use Rattle.rules.specs.Forests.{count}
 use Rattle.rules.specs.Lists.{sumBy, sumTo, tabulateFrom}
 use Rattle.rules.specs.Order.{comesBefore, leastOf, leastIn, minimum}
+use Rattle.rules.specs.Queues.{keyFrom, keyWord}
 use Rattle.rules.specs.Words.{
   storeSize,
   itemsIn,
@@ -20,10 +21,12 @@ use Rattle.rules.specs.Words.{
   storeField,
   storeFields,
   wordsOf,
+  wordsWith,
   encode,
   follow,
   listFrom,
-  decode,
+  readKey,
+  decodeForests,
 }
 use Rattle.store.specs.ItemOrder.{itemKey}
 use Rattle.soundness.specs.Check.{
@@ -45,6 +48,7 @@ use Rattle.soundness.specs.Check.{
   memberOk,
   itemOk,
   countRight,
+  amountRight,
   heapOk,
   treesAt,
   ranksAt,
@@ -56,6 +60,7 @@ use Rattle.soundness.specs.Examples.{
   but,
   sample,
   full,
+  raised,
   small,
   ownParent,
   threeTrees,
@@ -64,10 +69,10 @@ use Rattle.soundness.specs.Examples.{
 }
 
 pub examplesHold : ExamplesHold
-unfolding ExamplesHold examples byCheck but sample full small ownParent threeTrees soundWords isStore itemsIn
-    storeSize allOk ranksAt treesAt heapOk countRight itemOk memberOk freeZero childRanksOk childRankOk minimumRight
-    parentOk inHeapOrder parentInHeap rootUnmarked listOk linksOk namesOwner listFrom follow decode countAt
-    itemKey markAt heapAt allTo encode wordsOf storeFields storeField word stateMark stateHeap
-    stateOf unlessFree siblings prevIn nextIn lastOr headOr minimum leastIn leastOf comesBefore sumTo sumBy
-    tabulateFrom count
+unfolding ExamplesHold examples byCheck but sample full raised small ownParent threeTrees soundWords isStore itemsIn
+    storeSize allOk ranksAt treesAt heapOk countRight amountRight itemOk memberOk freeZero childRanksOk childRankOk
+    minimumRight parentOk inHeapOrder parentInHeap rootUnmarked listOk linksOk namesOwner listFrom follow readKey
+    decodeForests keyFrom countAt itemKey markAt heapAt allTo encode wordsWith keyWord wordsOf storeFields storeField
+    word stateMark stateHeap stateOf unlessFree siblings prevIn nextIn lastOr headOr minimum leastIn leastOf
+    comesBefore sumTo sumBy tabulateFrom count
 examplesHold = refl

@@ -1,11 +1,14 @@
--- What the forests that are read from words have at each item and heap, in the table and outside.
-use Prim.Native.Nat.{ℕ, suc, _≤_, _<_}
-use mathlib.Core.Path.{_≡_, sym, _∙_}
+-- What the queues that are read from words have at each item and heap, in the table and outside.
+use Prim.Native.Nat.{ℕ, suc, _-_, _≤_, _<_}
+use mathlib.Core.Path.{_≡_, _∙_}
+use mathlib.Core.Logic.{_≢_}
 use mathlib.Core.List.{List, []}
 use mathlib.Core.Bool.{cond}
+use native.Mathlib.Omega.{arith}
 use lib.ListN.{length, List·getD-eq-default}
 use lib.Dec.{eqb}
-use Rattle.rules.specs.declared.Field.the-variants.{FirstTree, Key, Parent, FirstChild, State}
+use borrow.Author.Tests.{ne-eqb}
+use Rattle.rules.specs.declared.Field.the-variants.{FirstTree, Amount, Parent, FirstChild, State}
 use Rattle.rules.specs.Lists.{indicator}
 use Rattle.rules.specs.Forests.{
   rowOf,
@@ -18,95 +21,116 @@ use Rattle.rules.specs.Forests.{
   count,
 }
 use Rattle.rules.specs.Order.{comesBefore, precedes}
-use Rattle.rules.specs.Words.{look, stateHeap, stateMark, listFrom, decode}
+use Rattle.rules.specs.Queues.{amountOf}
+use Rattle.rules.specs.Words.{look, stateHeap, stateMark, listFrom, readKey, decodeForests, decode}
 use Rattle.rules.proofs.Order.{before-keys}
 use Rattle.rules.proofs.SumTo.{sumTo-cong, sumBy-places}
 use Rattle.rules.proofs.Tabulate.{length-tabulate, getD-tabulate}
 use Rattle.store.specs.ItemOrder.{itemKey}
-use Rattle.store.proofs.ItemOrder.{key-is}
 use Rattle.soundness.specs.Check.{heapAt, markAt, countAt}
+use Rattle.soundness.proofs.States.{heap-zero, zero-heap}
 
 -- the children of item i, as `decode` reads them
 abbrev childrenRead : ℕ → List ℕ → ℕ → List ℕ
 childrenRead n w i = cond (eqb (look n w State i) 0) [] (listFrom n w (look n w FirstChild i))
 
 module _ (n : ℕ) (w : List ℕ) where
-  pub key-at : (i : ℕ) → i < n → keyOf (decode n w) i ≡ look n w Key i
-  unfolding decode
-  key-at i k = getD-tabulate n (look n w Key) i 0 k
+  key-at : (i : ℕ) → i < n → keyOf (decodeForests n w) i ≡ readKey n w i
+  unfolding decodeForests
+  key-at i k = getD-tabulate n (readKey n w) i 0 k
 
-  pub parent-at : (i : ℕ) → i < n → parentOf (decode n w) i ≡ look n w Parent i
-  unfolding decode
+  pub parent-at : (i : ℕ) → i < n → parentOf (decodeForests n w) i ≡ look n w Parent i
+  unfolding decodeForests
   parent-at i k = getD-tabulate n (look n w Parent) i 0 k
 
-  pub heap-at : (i : ℕ) → i < n → heapOf (decode n w) i ≡ heapAt n w i
-  unfolding decode heapAt
+  pub heap-at : (i : ℕ) → i < n → heapOf (decodeForests n w) i ≡ heapAt n w i
+  unfolding decodeForests heapAt
   heap-at i k = getD-tabulate n (λ i. stateHeap (look n w State i)) i 0 k
 
-  pub mark-at : (i : ℕ) → i < n → markOf (decode n w) i ≡ markAt n w i
-  unfolding decode markAt
+  pub mark-at : (i : ℕ) → i < n → markOf (decodeForests n w) i ≡ markAt n w i
+  unfolding decodeForests markAt
   mark-at i k = getD-tabulate n (λ i. stateMark (look n w State i)) i 0 k
 
-  pub row-at : (h : ℕ) → h < 8 → rowOf (decode n w) h ≡ listFrom n w (look n w FirstTree h)
-  unfolding decode
+  pub row-at : (h : ℕ) → h < 8 → rowOf (decodeForests n w) h ≡ listFrom n w (look n w FirstTree h)
+  unfolding decodeForests
   row-at h k = getD-tabulate 8 (λ h. listFrom n w (look n w FirstTree h)) h [] k
 
-  pub children-at : (i : ℕ) → i < n → childrenOf (decode n w) i ≡ childrenRead n w i
-  unfolding decode
+  pub children-at : (i : ℕ) → i < n → childrenOf (decodeForests n w) i ≡ childrenRead n w i
+  unfolding decodeForests
   children-at i k = getD-tabulate n (childrenRead n w) i [] k
 
-  pub length-rows : length ((decode n w) .rows) ≡ 8
-  unfolding decode
+  pub length-rows : length ((decodeForests n w) .rows) ≡ 8
+  unfolding decodeForests
   length-rows = length-tabulate 8 (λ h. listFrom n w (look n w FirstTree h))
 
-  pub length-children : length ((decode n w) .children) ≡ n
-  unfolding decode
+  pub length-children : length ((decodeForests n w) .children) ≡ n
+  unfolding decodeForests
   length-children = length-tabulate n (childrenRead n w)
 
-  pub length-parent : length ((decode n w) .parent) ≡ n
-  unfolding decode
+  pub length-parent : length ((decodeForests n w) .parent) ≡ n
+  unfolding decodeForests
   length-parent = length-tabulate n (look n w Parent)
 
-  pub length-key : length ((decode n w) .key) ≡ n
-  unfolding decode
-  length-key = length-tabulate n (look n w Key)
+  pub length-key : length ((decodeForests n w) .key) ≡ n
+  unfolding decodeForests
+  length-key = length-tabulate n (readKey n w)
 
-  pub length-mark : length ((decode n w) .mark) ≡ n
-  unfolding decode
+  pub length-mark : length ((decodeForests n w) .mark) ≡ n
+  unfolding decodeForests
   length-mark = length-tabulate n (λ i. stateMark (look n w State i))
 
-  pub length-heap : tableSize (decode n w) ≡ n
-  unfolding decode
+  pub length-heap : tableSize (decodeForests n w) ≡ n
+  unfolding decodeForests
   length-heap = length-tabulate n (λ i. stateHeap (look n w State i))
 
-  pub out-row : (h : ℕ) → 8 ≤ h → rowOf (decode n w) h ≡ []
-  out-row h k = List·getD-eq-default ((decode n w) .rows) [] {n = h} (rw length-rows k)
+  pub out-row : (h : ℕ) → 8 ≤ h → rowOf (decodeForests n w) h ≡ []
+  out-row h k = List·getD-eq-default ((decodeForests n w) .rows) [] {n = h} (rw length-rows k)
 
-  pub out-parent : (i : ℕ) → n ≤ i → parentOf (decode n w) i ≡ 0
-  out-parent i k = List·getD-eq-default ((decode n w) .parent) 0 {n = i} (rw length-parent k)
+  pub out-parent : (i : ℕ) → n ≤ i → parentOf (decodeForests n w) i ≡ 0
+  out-parent i k = List·getD-eq-default ((decodeForests n w) .parent) 0 {n = i} (rw length-parent k)
 
-  pub out-key : (i : ℕ) → n ≤ i → keyOf (decode n w) i ≡ 0
-  out-key i k = List·getD-eq-default ((decode n w) .key) 0 {n = i} (rw length-key k)
+  pub out-key : (i : ℕ) → n ≤ i → keyOf (decodeForests n w) i ≡ 0
+  out-key i k = List·getD-eq-default ((decodeForests n w) .key) 0 {n = i} (rw length-key k)
 
-  pub out-heap : (i : ℕ) → n ≤ i → heapOf (decode n w) i ≡ 0
-  out-heap i k = List·getD-eq-default ((decode n w) .heap) 0 {n = i} (rw length-heap k)
+  pub out-heap : (i : ℕ) → n ≤ i → heapOf (decodeForests n w) i ≡ 0
+  out-heap i k = List·getD-eq-default ((decodeForests n w) .heap) 0 {n = i} (rw length-heap k)
 
-  pub out-mark : (i : ℕ) → n ≤ i → markOf (decode n w) i ≡ 0
-  out-mark i k = List·getD-eq-default ((decode n w) .mark) 0 {n = i} (rw length-mark k)
+  pub out-mark : (i : ℕ) → n ≤ i → markOf (decodeForests n w) i ≡ 0
+  out-mark i k = List·getD-eq-default ((decodeForests n w) .mark) 0 {n = i} (rw length-mark k)
 
-  -- the order of items, and the items of a heap
-  item-key-at : (i : ℕ) → i < n → keyOf (decode n w) i ≡ itemKey (look n w) i
-  item-key-at i k = sym (key-is (look n w) (decode n w) i (sym (key-at i k)))
+  -- ---- keys: 0 of a free item, else by the amount of the item's heap; and so the order of the items of a heap
 
-  pub precedes-at : (a b : ℕ) → a < n → b < n
-      → precedes ((decode n w) .key) a b ≡ comesBefore (itemKey (look n w)) a b
-  precedes-at a b i j =
-      before-keys (keyOf (decode n w)) (itemKey (look n w)) a b (item-key-at a i) (item-key-at b j)
+  pub free-key-at : (i : ℕ) → i < n → heapAt n w i ≡ 0 → keyOf (decodeForests n w) i ≡ 0
+  unfolding readKey heapAt
+  free-key-at i k e = key-at i k ∙ rw (heap-zero (look n w State i) e)
 
-  pub count-at : (h : ℕ) → count (decode n w) h ≡ countAt n w (suc h)
+  pub item-key-at : (h i : ℕ) → i < n → heapAt n w i ≡ suc h → keyOf (decodeForests n w) i ≡ itemKey h (look n w) i
+  unfolding readKey heapAt itemKey
+  item-key-at h i k e =
+      let m : look n w State i ≢ 0 = λ z. omega (arith, e, zero-heap (look n w State i) z) in
+      let g : stateHeap (look n w State i) - 1 ≡ h = omega (arith, e) in
+      key-at i k ∙ rw (ne-eqb (look n w State i) 0 m, g)
+
+  pub precedes-at : (h a b : ℕ) → a < n → b < n → heapAt n w a ≡ suc h → heapAt n w b ≡ suc h
+      → precedes ((decodeForests n w) .key) a b ≡ comesBefore (itemKey h (look n w)) a b
+  precedes-at h a b i j p q =
+      before-keys (keyOf (decodeForests n w)) (itemKey h (look n w)) a b (item-key-at h a i p) (item-key-at h b j q)
+
+  -- ---- heaps: their items and their amounts
+
+  pub count-at : (h : ℕ) → count (decodeForests n w) h ≡ countAt n w (suc h)
   unfolding count countAt
   count-at h =
-      sumBy-places (λ v. indicator (eqb v (suc h))) 0 ((decode n w) .heap)
+      sumBy-places (λ v. indicator (eqb v (suc h))) 0 ((decodeForests n w) .heap)
       ∙ rw length-heap
-      (sumTo-cong n (λ i. indicator (eqb (heapOf (decode n w) i) (suc h)))
+      (sumTo-cong n (λ i. indicator (eqb (heapOf (decodeForests n w) i) (suc h)))
       (λ i. indicator (eqb (heapAt n w i) (suc h))) (λ i k. rw (heap-at i k)))
+
+  pub length-amounts : length ((decode n w) .amounts) ≡ 8
+  length-amounts = length-tabulate 8 (look n w Amount)
+
+  pub amount-at : (h : ℕ) → h < 8 → amountOf (decode n w) h ≡ look n w Amount h
+  amount-at h k = getD-tabulate 8 (look n w Amount) h 0 k
+
+  pub out-amount : (h : ℕ) → 8 ≤ h → amountOf (decode n w) h ≡ 0
+  out-amount h k = List·getD-eq-default ((decode n w) .amounts) 0 {n = h} (rw length-amounts k)

@@ -1,4 +1,4 @@
--- What the words of well-formed forests say of items and lists, in the terms of the check.
+-- What the words of well-formed queues say of items and lists, in the terms of the check.
 use Prim.Native.Nat.{ℕ, suc, _≤_, _<_}
 use mathlib.Core.Path.{_≡_, refl, sym, ap, _∙_}
 use mathlib.Core.Logic.{_≢_}
@@ -22,9 +22,21 @@ use Rattle.rules.specs.declared.Field.the-variants.{
 use Rattle.rules.specs.Lists.{occurs}
 use Rattle.rules.specs.Forests.{Forests, none, rowOf, childrenOf, parentOf, markOf, heapOf, tableSize, count}
 use Rattle.rules.specs.Order.{comesBefore, precedes}
-use Rattle.rules.specs.WellFormed.{Disjoint, RankRule, WellFormed}
-use Rattle.rules.specs.Words.{fieldSize, look, headOr, lastOr, siblings, unlessFree, word, encode, decode}
-use Rattle.rules.proofs.DecodeEncode.{decode-encode}
+use Rattle.rules.specs.Queues.{Queues, amountOf}
+use Rattle.rules.specs.WellFormed.{Disjoint, RankRule, WellFormedQueues}
+use Rattle.rules.specs.Words.{
+  fieldSize,
+  look,
+  headOr,
+  lastOr,
+  siblings,
+  unlessFree,
+  word,
+  wordsWith,
+  encode,
+  decodeForests,
+}
+use Rattle.rules.proofs.DecodeEncode.{decode-forests}
 use Rattle.rules.proofs.Members.{heap-in, row-root, child-parent}
 use Rattle.rules.proofs.SiblingLists.{once-row, once-children, siblings-row, siblings-children}
 use Rattle.rules.proofs.Siblings.{Once}
@@ -46,22 +58,25 @@ use Rattle.soundness.proofs.Lists.{listed-passes}
 use Rattle.soundness.proofs.Ranks.{rule-ranks}
 use Rattle.soundness.proofs.States.{zero-heap}
 
-module _ (s : Forests) (W : WellFormed s) where
+module _ (q : Queues) (W : WellFormedQueues q) where
+  abbrev s : Forests
+  s = q .forests
+
   abbrev n : ℕ
   n = tableSize s
 
   abbrev w : List ℕ
-  w = encode s
+  w = encode q
 
   abbrev D : Disjoint s
-  D = W .disjoint
+  D = W .forests .disjoint
 
-  pub says : (f : Field) (i : ℕ) → i < fieldSize n f → look n w f i ≡ word s f i
-  unfolding encode
-  says f i k = look-wordsOf n (word s) f i k
+  pub says : (f : Field) (i : ℕ) → i < fieldSize n f → look n w f i ≡ word (amountOf q) s f i
+  unfolding encode wordsWith
+  says f i k = look-wordsOf n (word (amountOf q) s) f i k
 
-  back : decode n w ≡ s
-  back = decode-encode s D
+  pub back : decodeForests n w ≡ s
+  back = decode-forests q D (W .forests .keys)
 
   pub heap-is : (i : ℕ) → i < n → heapAt n w i ≡ heapOf s i
   heap-is i k = sym (heap-at n w i k) ∙ ap (λ t. heapOf t i) back
@@ -69,14 +84,15 @@ module _ (s : Forests) (W : WellFormed s) where
   pub mark-is : (i : ℕ) → i < n → markAt n w i ≡ markOf s i
   mark-is i k = sym (mark-at n w i k) ∙ ap (λ t. markOf t i) back
 
-  pub precedes-is : (a b : ℕ) → a < n → b < n → comesBefore (itemKey (look n w)) a b ≡ precedes (s .key) a b
-  precedes-is a b i j = sym (precedes-at n w a b i j) ∙ ap (λ t. precedes (t .key) a b) back
+  pub precedes-is : (h a b : ℕ) → a < n → b < n → heapAt n w a ≡ suc h → heapAt n w b ≡ suc h
+      → comesBefore (itemKey h (look n w)) a b ≡ precedes (s .key) a b
+  precedes-is h a b i j p r = sym (precedes-at n w h a b i j p r) ∙ ap (λ t. precedes (t .key) a b) back
 
   pub count-is : (h : ℕ) → countAt n w (suc h) ≡ count s h
   count-is h = sym (count-at n w h) ∙ ap (λ t. count t h) back
 
   -- the word of an item in a heap
-  member-word : (f : Field) (v i : ℕ) → i < fieldSize n f → word s f i ≡ unlessFree s i v → heapOf s i ≢ 0
+  member-word : (f : Field) (v i : ℕ) → i < fieldSize n f → word (amountOf q) s f i ≡ unlessFree s i v → heapOf s i ≢ 0
       → look n w f i ≡ v
   unfolding unlessFree
   member-word f v i k e m = says f i k ∙ e ∙ rw (ne-eqb (heapOf s i) 0 m)
@@ -141,4 +157,4 @@ module _ (s : Forests) (W : WellFormed s) where
         (λ c t.
         let d = heap-in s c (child-parent s D i c k t .0) in
         record { rank = says Rank c d; mark = mark-is c d })
-        (W .ranked i k))
+        (W .forests .ranked i k))

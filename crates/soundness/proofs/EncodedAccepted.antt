@@ -1,5 +1,5 @@
--- The words of well-formed forests pass.
-use Prim.Native.Nat.{ℕ, _+_, _≤_, _<_}
+-- The words of well-formed queues pass.
+use Prim.Native.Nat.{ℕ, suc, _+_, _-_, _≤_, _<_}
 use mathlib.Core.Path.{_≡_, sym, ap, _∙_, subst}
 use mathlib.Core.Logic.{_≢_}
 use mathlib.Core.List.{List}
@@ -7,9 +7,11 @@ use mathlib.Core.Bool.{not}
 use native.Mathlib.Omega.{arith}
 use lib.ListN.{length}
 use lib.Dec.{eqb, eqb·zero-suc}
+use borrow.Author.Tests.{ne-eqb}
 use Rattle.rules.specs.declared.Field.the-variants.{
   Minimum,
   Count,
+  Amount,
   Key,
   Parent,
   FirstChild,
@@ -20,17 +22,19 @@ use Rattle.rules.specs.declared.Field.the-variants.{
   State,
 }
 use Rattle.rules.specs.Lists.{indicator, sumTo, occurs}
-use Rattle.rules.specs.Forests.{Forests, none, rowOf, childrenOf, parentOf, heapOf, tableSize}
+use Rattle.rules.specs.Forests.{Forests, none, rowOf, childrenOf, parentOf, keyOf, heapOf, heapNumber, tableSize}
 use Rattle.rules.specs.Order.{minimum}
-use Rattle.rules.specs.WellFormed.{isRootOf, isChildOf, Disjoint, HeapOrdered, KeysFit, WellFormed}
+use Rattle.rules.specs.Queues.{Queues, amountOf}
+use Rattle.rules.specs.WellFormed.{isRootOf, isChildOf, Disjoint, HeapOrdered, WellFormedQueues}
 use Rattle.rules.specs.Words.{look, unlessFree, word, encode}
-use Rattle.rules.proofs.DecodeEncode.{decode-encode}
+use Rattle.rules.proofs.KeyWords.{keyWords}
 use Rattle.rules.proofs.Members.{out-heap, free-children}
 use Rattle.rules.proofs.SumTo.{sumTo-cong}
 use Rattle.soundness.specs.Check.{heapAt, countAt, rowAt, listAt, treesAt, ranksAt}
 use Rattle.soundness.proofs.Passed.{Passed}
 use Rattle.soundness.proofs.Encoded.{
   says,
+  back,
   heap-is,
   mark-is,
   precedes-is,
@@ -46,58 +50,65 @@ use Rattle.soundness.proofs.ItemTests.{PassedFree, PassedChild, PassedM
 use Rattle.soundness.proofs.States.{state-low}
 use Rattle.soundness.proofs.Tight.{both-sum, one-place, both-ways}
 
-module _ (s : Forests) (W : WellFormed s) where
+module _ (q : Queues) (W : WellFormedQueues q) where
+  abbrev s : Forests
+  s = q .forests
+
   abbrev n : ℕ
   n = tableSize s
 
   abbrev w : List ℕ
-  w = encode s
+  w = encode q
 
   abbrev D : Disjoint s
-  D = W .disjoint
+  D = W .forests .disjoint
 
   -- ---- items
 
   free : (i : ℕ) → i < n → heapAt n w i ≡ 0 → PassedFree n w i
   unfolding word unlessFree
   free i k e =
-      let h : heapOf s i ≡ 0 = sym (heap-is s W i k) ∙ e in
-      let f = D .free i h in
+      let h : heapOf s i ≡ 0 = sym (heap-is q W i k) ∙ e in
       record {
-        key = says s W Key i k ∙ f .0;
-        parent = says s W Parent i k ∙ f .1;
-        first = says s W FirstChild i k ∙ rw h;
-        last = says s W LastChild i k ∙ rw h;
-        next = says s W Next i k ∙ rw h;
-        prev = says s W Prev i k ∙ rw h;
-        rank = says s W Rank i k ∙ ap length (free-children s D i k h);
+        key = says q W Key i k ∙ rw h;
+        parent = says q W Parent i k ∙ D .free i h .1;
+        first = says q W FirstChild i k ∙ rw h;
+        last = says q W LastChild i k ∙ rw h;
+        next = says q W Next i k ∙ rw h;
+        prev = says q W Prev i k ∙ rw h;
+        rank = says q W Rank i k ∙ ap length (free-children s D i k h);
       }
 
   child : (i : ℕ) → i < n → heapOf s i ≢ 0 → look n w Parent i ≢ none → PassedChild n w i (look n w Parent i)
   unfolding word HeapOrdered
   child i k m e =
-      let v = says s W Parent i k in
+      let v = says q W Parent i k in
       let p : parentOf s i ≢ none = λ z. e (v ∙ z) in
       let u = D .up i m p in
+      let g : heapAt n w i ≡ suc (heapAt n w i - 1) = omega (arith, m, heap-is q W i k) in
+      let above = heap-is q W (parentOf s i) (u .0) ∙ u .1 ∙ sym (heap-is q W i k) in
       subst (PassedChild n w i) (sym v)
       (record {
         inside = u .0;
-        heap = heap-is s W (parentOf s i) (u .0) ∙ u .1 ∙ sym (heap-is s W i k);
-        order = precedes-is s W (parentOf s i) i (u .0) k ∙ W .ordered i m p;
+        heap = above;
+        order =
+            precedes-is q W (heapAt n w i - 1) (parentOf s i) i (u .0) k (above ∙ g) g ∙ W .forests .ordered i m p;
       })
 
   member : (i : ℕ) → i < n → heapAt n w i ≢ 0 → PassedMember n w i
-  unfolding word heapAt KeysFit
+  unfolding word unlessFree heapAt
   member i k m =
-      let h : heapOf s i ≢ 0 = λ e. m (heap-is s W i k ∙ e) in
+      let h : heapOf s i ≢ 0 = λ e. m (heap-is q W i k ∙ e) in
       record {
-        state = state-low (look n w State i) (omega (arith, heap-is s W i k, D .heaps i));
-        key = omega (arith, says s W Key i k, W .keys i);
-        root = λ e. mark-is s W i k ∙ D .rootsUnmarked i (sym (says s W Parent i k) ∙ e);
+        state = state-low (look n w State i) (omega (arith, heap-is q W i k, D .heaps i));
+        key =
+            rw (says q W Key i k, ne-eqb (heapOf s i) 0 h)
+            (omega (arith, keyWords .wordFits (amountOf q (heapNumber s i)) (keyOf s i)));
+        root = λ e. mark-is q W i k ∙ D .rootsUnmarked i (sym (says q W Parent i k) ∙ e);
         child = child i k h;
-        children = children-passes s W i k h;
-        rank = children-rank s W i k h;
-        ranks = children-ranks s W i k h;
+        children = children-passes q W i k h;
+        rank = children-rank q W i k h;
+        ranks = children-ranks q W i k h;
       }
 
   -- ---- heaps
@@ -106,9 +117,11 @@ module _ (s : Forests) (W : WellFormed s) where
   unfolding word
   heap h k =
       record {
-        row = row-passes s W h k;
-        least = says s W Minimum h k ∙ ap (λ t. minimum t h) (sym (decode-encode s D));
-        count = says s W Count h k ∙ sym (count-is s W h);
+        row = row-passes q W h k;
+        least = says q W Minimum h k ∙ ap (λ t. minimum t h) (sym (back q W));
+        count = says q W Count h k ∙ sym (count-is q W h);
+        amount = omega (arith, says q W Amount h k, W .amountsFit h);
+        ofEmpty = λ z. says q W Amount h k ∙ W .ofEmpty h (sym (says q W Count h k) ∙ z);
       }
 
   -- ---- the count
@@ -129,7 +142,7 @@ module _ (s : Forests) (W : WellFormed s) where
         sumTo-cong n (λ p. occurs x (childrenOf s p)) (λ p. indicator (isChildOf s p x))
             (λ p j. D .inChildren p x j),
         one-place (heapOf s x) (parentOf s x) n (D .heaps x) (λ a b. D .up x a b .0) (D .small),
-        ap (λ v. indicator (not (eqb v 0))) (heap-is s W x k),
+        ap (λ v. indicator (not (eqb v 0))) (heap-is q W x k),
       )
 
   total : treesAt n w + ranksAt n w + countAt n w 0 ≡ n
@@ -139,8 +152,8 @@ module _ (s : Forests) (W : WellFormed s) where
         arith,
         both-ways n (λ i. eqb (heapAt n w i) 0),
         sumTo-cong 8 (λ h. length (listAt n w (rowAt n w h))) (λ h. length (rowOf s h))
-            (λ h k. ap length (row-are s W h k)),
-        sumTo-cong n (λ i. look n w Rank i) (λ p. length (childrenOf s p)) (says s W Rank),
+            (λ h k. ap length (row-are q W h k)),
+        sumTo-cong n (λ i. look n w Rank i) (λ p. length (childrenOf s p)) (says q W Rank),
         both-sum 8 n (rowOf s) (childrenOf s) (λ _ _. 0) (λ _ _. 0) row-out children-out,
         sumTo-cong n (λ x. sumTo 8 (λ h. occurs x (rowOf s h)) + sumTo n (λ p. occurs x (childrenOf s p)))
             (λ x. indicator (not (eqb (heapAt n w x) 0))) stands-once,

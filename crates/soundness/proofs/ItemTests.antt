@@ -1,5 +1,5 @@
 -- The tests of an item, taken apart: what they say when they pass.
-use Prim.Native.Nat.{ℕ, _≤_, _<_}
+use Prim.Native.Nat.{ℕ, _-_, _≤_, _<_}
 use mathlib.Core.Path.{_≡_, refl}
 use mathlib.Core.Logic.{_≢_}
 use mathlib.Core.List.{List}
@@ -52,7 +52,7 @@ module _ (n : ℕ) (w : List ℕ) where
   pub record PassedChild (i p : ℕ) : Type 0 where
     pub inside : p < n
     pub heap : heapAt n w p ≡ heapAt n w i
-    pub order : comesBefore (itemKey (look n w)) p i ≡ true
+    pub order : comesBefore (itemKey (heapAt n w i - 1) (look n w)) p i ≡ true
 
   -- an item of a heap
   pub record PassedMember (i : ℕ) : Type 0 where

@@ -10,6 +10,7 @@ pub mod Lists
 pub mod Passed
 pub mod PassedForests
 pub mod PassedLists
+pub mod PassedQueues
 pub mod PassedWords
 pub mod Ranks
 pub mod SoundExact

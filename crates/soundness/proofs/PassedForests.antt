@@ -1,13 +1,15 @@
 -- The forests that are read from a store that passes are well-formed.
-use Prim.Native.Nat.{ℕ, _≤_, _<_, zero-le}
+use Prim.Native.Nat.{ℕ, suc, _-_, _≤_, _<_, zero-le}
 use mathlib.Core.Path.{_≡_, sym, _∙_}
 use mathlib.Core.Logic.{_≢_}
 use mathlib.Core.List.{List}
 use native.Mathlib.Omega.{arith}
-use Rattle.rules.specs.declared.Field.the-variants.{Parent, State}
+use Rattle.rules.specs.declared.Field.the-variants.{Amount, Key, Parent, State}
 use Rattle.rules.specs.Forests.{Forests, none, childrenOf, parentOf, keyOf, markOf, heapOf}
 use Rattle.rules.specs.WellFormed.{Disjoint, HeapOrdered, RankRule, KeysFit, WellFormed}
-use Rattle.rules.specs.Words.{look, decode}
+use Rattle.rules.specs.Words.{look, decodeForests}
+use Rattle.rules.proofs.KeyWords.{keyWords}
+use Rattle.store.specs.ItemOrder.{itemKey}
 use Rattle.soundness.specs.Check.{heapAt, markAt}
 use Rattle.soundness.proofs.Passed.{Passed, byPlace, byZero}
 use Rattle.soundness.proofs.PassedLists.{
@@ -20,7 +22,6 @@ use Rattle.soundness.proofs.PassedLists.{
   in-children,
 }
 use Rattle.soundness.proofs.Decoded.{
-  key-at,
   parent-at,
   heap-at,
   mark-at,
@@ -34,6 +35,8 @@ use Rattle.soundness.proofs.Decoded.{
   out-key,
   out-heap,
   out-mark,
+  free-key-at,
+  item-key-at,
   precedes-at,
 }
 use Rattle.soundness.proofs.ItemTests.{PassedChild}
@@ -42,7 +45,7 @@ use Rattle.soundness.proofs.States.{heap-zero, zero-mark, mark-low}
 
 module _ (n : ℕ) (w : List ℕ) (A : Passed n w) where
   abbrev s : Forests
-  s = decode n w
+  s = decodeForests n w
 
   inside : (x : ℕ) → heapOf s x ≢ 0 → x < n
   inside x m = byPlace n x (λ i. i) (λ o. absurd (m (out-heap n w x o)))
@@ -59,7 +62,7 @@ module _ (n : ℕ) (w : List ℕ) (A : Passed n w) where
       (λ i.
       let h : heapAt n w x ≡ 0 = sym (heap-at n w x i) ∙ e in
       let f = A .free x i h in (
-        key-at n w x i ∙ f .key,
+        free-key-at n w x i h,
         parent-at n w x i ∙ f .parent,
         mark-at n w x i ∙ zero-mark (look n w State x) (heap-zero (look n w State x) h),
       ))
@@ -112,7 +115,12 @@ module _ (n : ℕ) (w : List ℕ) (A : Passed n w) where
   ordered x m p =
       let u = child x m p in
       let i = inside x m in
-      rw (parent-at n w x i, precedes-at n w (look n w Parent x) x (u .inside) i) (u .order)
+      let h : heapAt n w x ≡ suc (heapAt n w x - 1) = omega (arith, m, heap-at n w x i) in
+      rw (
+        parent-at n w x i,
+        precedes-at n w (heapAt n w x - 1) (look n w Parent x) x (u .inside) i (u .heap ∙ h) h,
+      )
+      (u .order)
 
   ranked : RankRule s
   unfolding RankRule
@@ -125,13 +133,16 @@ module _ (n : ℕ) (w : List ℕ) (A : Passed n w) where
       record { rank = rank-is n w A c (o .inside); mark = sym (mark-at n w c (o .inside)) })
       (rw (children-are n w A p i m) (A .member p i m .ranks)))
 
+  -- a key that is read is 0, or wraps at 32 bits
   keys : KeysFit s
-  unfolding KeysFit
+  unfolding KeysFit itemKey
   keys x =
       byPlace n x
       (λ i.
-      byZero (heapAt n w x) (λ e. omega (arith, key-at n w x i, A .free x i e .key))
-      (λ m. omega (arith, key-at n w x i, A .member x i m .key)))
+      byZero (heapAt n w x) (λ e. omega (arith, free-key-at n w x i e))
+      (λ m.
+      rw (item-key-at n w (heapAt n w x - 1) x i (omega arith))
+      (keyWords .keyFits (look n w Amount (heapAt n w x - 1)) (look n w Key x))))
       (λ o. omega (arith, out-key n w x o))
 
   pub wellFormed : WellFormed s

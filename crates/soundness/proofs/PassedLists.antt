@@ -12,7 +12,7 @@ use Rattle.rules.specs.declared.Field.the-variants.{Parent, Prev, Rank, State}
 use Rattle.rules.specs.Lists.{indicator, sumBy, sumTo, occurs}
 use Rattle.rules.specs.Forests.{Forests, none, rowOf, childrenOf, rankOf}
 use Rattle.rules.specs.WellFormed.{isRootOf, isChildOf}
-use Rattle.rules.specs.Words.{look, decode}
+use Rattle.rules.specs.Words.{look, decodeForests}
 use Rattle.rules.proofs.Occurs.{eqb-self}
 use Rattle.rules.proofs.Siblings.{Once}
 use Rattle.rules.proofs.SumTo.{sumTo-cong}
@@ -27,7 +27,7 @@ use Rattle.soundness.proofs.Tight.{tight-rows, tight-children, one-plac
 
 module _ (n : ℕ) (w : List ℕ) (A : Passed n w) where
   abbrev s : Forests
-  s = decode n w
+  s = decodeForests n w
 
   pub row-list : (h : ℕ) → h < 8 → OwnList n w (rowAt n w h) (rowOf s h)
   row-list h k = rw (row-at n w h k) (is-listed n w (rowAt n w h) (A .heap h k .row))

@@ -1,4 +1,4 @@
--- The words of a store that passes are those of the forests that are read from it.
+-- The words of a store that passes are those of the queues that are read from it.
 use Prim.Native.Nat.{ℕ, suc, _≤_, _<_}
 use mathlib.Core.Path.{_≡_, refl, sym, _∙_}
 use mathlib.Core.Logic.{_≢_}
@@ -10,6 +10,8 @@ use lib.Dec.{eqb}
 use borrow.Author.Tests.{eqb-true, eqb-false, ne-eqb}
 use Rattle.rules.specs.declared.Field.{Field}
 use Rattle.rules.specs.declared.Field.the-variants.{
+  Amount,
+  Key,
   FirstChild,
   LastChild,
   Next,
@@ -17,7 +19,8 @@ use Rattle.rules.specs.declared.Field.the-variants.{
   State,
 }
 use Rattle.rules.specs.Lists.{occurs}
-use Rattle.rules.specs.Forests.{Forests, none, rowOf, childrenOf, parentOf, heapOf, heapNumber}
+use Rattle.rules.specs.Forests.{Forests, none, rowOf, childrenOf, parentOf, keyOf, heapOf, heapNumber}
+use Rattle.rules.specs.Queues.{amountOf, keyWord}
 use Rattle.rules.specs.Words.{
   storeSize,
   fieldSize,
@@ -29,30 +32,38 @@ use Rattle.rules.specs.Words.{
   siblings,
   unlessFree,
   word,
+  wordsWith,
   encode,
+  decodeForests,
   decode,
 }
+use Rattle.rules.proofs.KeyWords.{keyWords}
 use Rattle.rules.proofs.Members.{root-row, parent-child}
 use Rattle.rules.proofs.Words.{words-equal}
+use Rattle.store.specs.ItemOrder.{itemKey}
 use Rattle.store.proofs.Heaps.{HeapWords, by-heaps}
 use Rattle.soundness.specs.Check.{heapAt, markAt}
 use Rattle.soundness.proofs.Passed.{Passed, byZero}
 use Rattle.soundness.proofs.PassedForests.{disjoint}
-use Rattle.soundness.proofs.PassedLists.{row-list, children-list, rank-is}
+use Rattle.soundness.proofs.PassedLists.{row-list, children-list, rank-is, heap-bound}
 use Rattle.soundness.proofs.Decoded.{
-  key-at,
   parent-at,
   heap-at,
   mark-at,
   length-heap,
+  item-key-at,
   count-at,
+  amount-at,
 }
 use Rattle.soundness.proofs.Links.{prevs-in}
 use Rattle.soundness.proofs.States.{state-again}
 
 module _ (n : ℕ) (w : List ℕ) (A : Passed n w) where
   abbrev s : Forests
-  s = decode n w
+  s = decodeForests n w
+
+  abbrev amounts : ℕ → ℕ
+  amounts = amountOf (decode n w)
 
   -- a free item's word is 0, another's is what its list says
   item-word : (f : Field) (v i : ℕ) → i < n → (heapAt n w i ≡ 0 → look n w f i ≡ 0)
@@ -93,7 +104,7 @@ module _ (n : ℕ) (w : List ℕ) (A : Passed n w) where
 
   -- ---- every word
 
-  heap-words : (h : ℕ) → h < 8 → HeapWords n w s h
+  heap-words : (h : ℕ) → h < 8 → HeapWords n w amounts s h
   heap-words h k =
       let r = row-list n w A h k in
       record {
@@ -101,13 +112,26 @@ module _ (n : ℕ) (w : List ℕ) (A : Passed n w) where
         last = sym (r .last);
         least = A .heap h k .least;
         items = A .heap h k .count ∙ sym (count-at n w h);
+        amount = sym (amount-at n w h k);
       }
 
-  says : (f : Field) (i : ℕ) → i < fieldSize n f → look n w f i ≡ word s f i
+  -- the word of the key that is read is the word that it is read from
+  key-word : (i : ℕ) → i < n → heapAt n w i ≢ 0
+      → keyWord (amounts (heapNumber s i)) (keyOf s i) ≡ look n w Key i
+  unfolding itemKey
+  key-word i k m =
+      let h = heapNumber s i in
+      let e : heapAt n w i ≡ suc h = omega (arith, heap-at n w i k) in
+      rw (amount-at n w h (omega (arith, heap-bound n w A i k)), item-key-at n w h i k e)
+      (keyWords .wordBack (look n w Amount h) (look n w Key i) (omega (arith, A .member i k m .key)))
+
+  says : (f : Field) (i : ℕ) → i < fieldSize n f → look n w f i ≡ word amounts s f i
   unfolding word heapAt markAt
   says =
-      by-heaps n w s heap-words
-      (λ i k. sym (key-at n w i k))
+      by-heaps n w amounts s heap-words
+      (λ i k.
+      item-word Key (keyWord (amounts (heapNumber s i)) (keyOf s i)) i k (λ e. A .free i k e .key)
+      (key-word i k))
       (λ i k. sym (parent-at n w i k))
       (λ i k.
       item-word FirstChild (headOr none (childrenOf s i)) i k (λ e. A .free i k e .first)
@@ -120,6 +144,6 @@ module _ (n : ℕ) (w : List ℕ) (A : Passed n w) where
       (λ i k. rank-is n w A i k)
       (λ i k. rw (heap-at n w i k, mark-at n w i k) (sym (state-again (look n w State i))))
 
-  pub words : length w ≡ storeSize n → w ≡ encode s
-  unfolding encode
-  words size = rw (length-heap n w) (words-equal n (word s) w size says)
+  pub words : length w ≡ storeSize n → w ≡ encode (decode n w)
+  unfolding encode wordsWith
+  words size = rw (length-heap n w) (words-equal n (word amounts s) w size says)

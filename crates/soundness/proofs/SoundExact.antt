@@ -1,8 +1,8 @@
--- The check says yes of the words of well-formed forests, and of no others.
+-- The check says yes of the words of well-formed queues, and of no others.
 use mathlib.Core.Path.{_≡_, refl, sym, ap, _∙_}
 use mathlib.Core.Bool.{true, true≢false}
 use Rattle.rules.specs.Forests.{tableSize}
-use Rattle.rules.specs.Words.{itemsIn, isStore, Sound, encode, forestsOf}
+use Rattle.rules.specs.Words.{itemsIn, isStore, Sound, encode, queuesOf}
 use Rattle.rules.proofs.DecodeEncode.{encode-length}
 use Rattle.rules.proofs.Occurs.{and-split}
 use Rattle.store.specs.Says.{Sized}
@@ -10,24 +10,25 @@ use Rattle.store.proofs.Sizes.{store-sized, sized-store, sized-items}
 use Rattle.soundness.specs.Check.{soundWords}
 use Rattle.soundness.specs.Theorems.{SoundExact, SoundDecoded, RefusedUnsound, EncodedAccepted}
 use Rattle.soundness.proofs.Passed.{passed, passes}
-use Rattle.soundness.proofs.PassedForests.{wellFormed}
+use Rattle.soundness.proofs.PassedQueues.{wellFormedQueues}
 use Rattle.soundness.proofs.PassedWords.{words}
 use Rattle.soundness.proofs.EncodedAccepted.{accepted}
 
 pub soundDecoded : SoundDecoded
-unfolding SoundDecoded soundWords forestsOf
+unfolding SoundDecoded soundWords
 soundDecoded w e =
     let n = itemsIn w in
     let a = and-split (isStore w) _ e in
     let S : Sized n w = store-sized w (a .0) refl in
     let A = passed n w (S .small) (a .1) in
-    record { wellFormed = wellFormed n w A; words = words n w A (S .size) }
+    record { wellFormed = wellFormedQueues n w A; words = words n w A (S .size) }
 
 pub encodedAccepted : EncodedAccepted
 unfolding EncodedAccepted soundWords
-encodedAccepted s W =
-    let S : Sized (tableSize s) (encode s) = record { size = encode-length s; small = W .disjoint .small } in
-    rw (sized-store S, sized-items S) (passes (tableSize s) (encode s) (accepted s W))
+encodedAccepted q W =
+    let n = tableSize (q .forests) in
+    let S : Sized n (encode q) = record { size = encode-length q; small = W .forests .disjoint .small } in
+    rw (sized-store S, sized-items S) (passes n (encode q) (accepted q W))
 
 pub soundExact : SoundExact
 unfolding SoundExact SoundDecoded EncodedAccepted
@@ -36,11 +37,11 @@ soundExact w = (there, back)
     there : soundWords w ≡ true → Sound w
     there e =
         let d = soundDecoded w e in
-        record { forests = forestsOf w; wellFormed = d .wellFormed; words = d .words }
+        record { queues = queuesOf w; wellFormed = d .wellFormed; words = d .words }
 
     back : Sound w → soundWords w ≡ true
-    back S = ap soundWords (S .words) ∙ encodedAccepted (S .forests) (S .wellFormed)
+    back S = ap soundWords (S .words) ∙ encodedAccepted (S .queues) (S .wellFormed)
 
 pub refusedUnsound : RefusedUnsound
 unfolding RefusedUnsound EncodedAccepted
-refusedUnsound w e s W q = true≢false (sym (ap soundWords q ∙ encodedAccepted s W) ∙ e)
+refusedUnsound w e q W p = true≢false (sym (ap soundWords p ∙ encodedAccepted q W) ∙ e)

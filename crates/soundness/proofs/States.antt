@@ -18,7 +18,7 @@ pub zero-mark : (v : ℕ) → v ≡ 0 → stateMark v ≡ 0
 unfolding stateMark
 zero-mark v e = rw e
 
--- the states up to 16 are those of eight heaps
+-- the states up to 16 are those of eight heaps, where 0 is that of a free item
 pub heap-low : (v : ℕ) → v ≤ 16 → stateHeap v ≤ 8
 unfolding stateHeap
 heap-low zero e = zero-le
@@ -28,6 +28,11 @@ pub state-low : (v : ℕ) → stateHeap v ≤ 8 → v ≤ 16
 unfolding stateHeap
 state-low zero e = zero-le
 state-low (suc v) e = omega arith
+
+pub heap-range : (v : ℕ) → 1 ≤ v → v ≤ 16 → (1 ≤ stateHeap v) × (stateHeap v ≤ 8)
+unfolding stateHeap
+heap-range zero e f = absurd (omega arith)
+heap-range (suc v) e f = (omega arith, omega arith)
 
 pub mark-low : (v : ℕ) → stateMark v ≤ 1
 unfolding stateMark

@@ -3,7 +3,7 @@
 -- read by its kind and number; where it lies is not said here.
 use Prim.Native.Nat.{ℕ, zero, suc, _+_, _-_}
 use mathlib.Core.List.{List, [], _∷_}
-use mathlib.Core.Bool.{Bool, true, cond, _&&_}
+use mathlib.Core.Bool.{Bool, true, cond, _&&_, _||_}
 use lib.ListN.{length}
 use lib.Dec.{eqb, ltb, leb}
 use Rattle.rules.specs.declared.Field.the-variants.{
@@ -11,6 +11,7 @@ use Rattle.rules.specs.declared.Field.the-variants.{
   LastTree,
   Minimum,
   Count,
+  Amount,
   Key,
   Parent,
   FirstChild,
@@ -24,7 +25,7 @@ use Rattle.soundness.specs.declared.Siblings.{Siblings}
 use Rattle.rules.specs.Lists.{indicator, sumTo}
 use Rattle.rules.specs.Forests.{none}
 use Rattle.rules.specs.Order.{comesBefore, minimum}
-use Rattle.rules.specs.Words.{itemsIn, isStore, look, headOr, lastOr, stateHeap, stateMark, listFrom, decode}
+use Rattle.rules.specs.Words.{itemsIn, isStore, look, headOr, lastOr, stateHeap, stateMark, listFrom, decodeForests}
 use Rattle.store.specs.ItemOrder.{itemKey}
 use Rattle.store.specs.Says.{Values}
 
@@ -89,9 +90,9 @@ module _ (n : ℕ) (w : List ℕ) where
   unfoldable pub parentInHeap : ℕ → Bool
   parentInHeap i = ltb (v Parent i) n && eqb (heapAt (v Parent i)) (heapAt i)
 
-  -- which comes before it
+  -- which comes before it, by the keys of that heap
   unfoldable pub inHeapOrder : ℕ → Bool
-  inHeapOrder i = comesBefore (itemKey v) (v Parent i) i
+  inHeapOrder i = comesBefore (itemKey (heapAt i - 1) v) (v Parent i) i
 
   unfoldable pub parentOk : ℕ → Bool
   parentOk i = cond (eqb (v Parent i) none) (rootUnmarked i) (parentInHeap i && inHeapOrder i)
@@ -113,7 +114,7 @@ module _ (n : ℕ) (w : List ℕ) where
       eqb (v Key i) 0 && eqb (v Parent i) 0 && eqb (v FirstChild i) 0 && eqb (v LastChild i) 0 && eqb (v Next i) 0
       && eqb (v Prev i) 0 && eqb (v Rank i) 0
 
-  -- in one of eight heaps, with a key of 32 bits; its children are as many as its rank
+  -- in one of eight heaps, with a key word of 32 bits; its children are as many as its rank
   unfoldable pub memberOk : ℕ → Bool
   memberOk i =
       leb (v State i) 16 && leb (v Key i) 4294967295 && parentOk i && listOk (childrenAt i)
@@ -126,14 +127,18 @@ module _ (n : ℕ) (w : List ℕ) where
 
   -- its minimum is the least root, as in the forests that are read from the words
   unfoldable pub minimumRight : ℕ → Bool
-  minimumRight h = eqb (v Minimum h) (minimum (decode n w) h)
+  minimumRight h = eqb (v Minimum h) (minimum (decodeForests n w) h)
 
   -- its count is the number of its items
   unfoldable pub countRight : ℕ → Bool
   countRight h = eqb (v Count h) (countAt (suc h))
 
+  -- its amount is a word of 32 bits, and 0 if the heap is empty
+  unfoldable pub amountRight : ℕ → Bool
+  amountRight h = leb (v Amount h) 4294967295 && (ltb 0 (v Count h) || eqb (v Amount h) 0)
+
   unfoldable pub heapOk : ℕ → Bool
-  heapOk h = listOk (rowAt h) && minimumRight h && countRight h
+  heapOk h = listOk (rowAt h) && minimumRight h && countRight h && amountRight h
 
   -- ---- the whole store
 

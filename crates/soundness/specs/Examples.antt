@@ -1,8 +1,8 @@
 -- Stores for which the check's answer is computed: one table, and the claim that the check gives it. A store is that of
--- some forests, or such a store with words changed.
+-- some forests with all amounts 0, or such a store with words changed.
 use Prim.Native.Nat.{ℕ}
 use mathlib.Core.Path.{_≡_}
-use mathlib.Core.List.{List, [], _∷_, map}
+use mathlib.Core.List.{List, [], _∷_, _++_, map}
 use mathlib.Core.Bool.{cond}
 use lib.ListN.{set, replicate}
 use Rattle.rules.specs.declared.Field.{Field}
@@ -11,13 +11,15 @@ use Rattle.rules.specs.declared.Field.the-variants.{
   LastTree,
   Minimum,
   Count,
+  Amount,
   Key,
   Next,
   Prev,
   Rank,
   State,
 }
-use Rattle.rules.specs.Forests.{Forests, none, empty}
+use Rattle.rules.specs.Forests.{Forests, none}
+use Rattle.rules.specs.Queues.{unraised, emptyQueues}
 use Rattle.rules.specs.Words.{at, encode}
 use Rattle.soundness.specs.Check.{soundWords}
 
@@ -49,11 +51,17 @@ sample under2 parent3 key3 heap3 =
 
 -- 3 under 2
 unfoldable pub full : List ℕ
-full = encode (sample (3 ∷ []) 2 40 1)
+full = encode (unraised (sample (3 ∷ []) 2 40 1))
+
+-- the same keys in a heap of amount 35: their words are less by it, and those of keys below 35 wrap
+unfoldable pub raised : List ℕ
+raised =
+    but Amount 0 35
+    (but Key 0 4294967271 (but Key 1 4294967281 (but Key 2 4294967291 (but Key 3 5 (but Key 4 15 full)))))
 
 -- 3 free, so that the second child of 0 has no child
 unfoldable pub small : List ℕ
-small = encode (sample [] 0 0 0)
+small = encode (unraised (sample [] 0 0 0))
 
 -- an item that is its own parent and its own only child
 unfoldable pub ownParent : Forests
@@ -81,23 +89,34 @@ threeTrees =
 
 unfoldable pub examples : List Example
 examples =
-    -- lengths: none, 33 words, no items
+    -- lengths: no words, heaps of four words, no items, and one word more
     fails []
-    ∷ fails (replicate 33 0)
-    ∷ passes (encode (empty 0))
+    ∷ fails (replicate 32 0)
+    ∷ passes (encode (emptyQueues 0))
+    ∷ fails (encode (emptyQueues 0) ++ (0 ∷ []))
     -- no items, and yet a first tree
-    ∷ fails (set (encode (empty 0)) (at 0 FirstTree 0) 0)
+    ∷ fails (set (encode (emptyQueues 0)) (at 0 FirstTree 0) 0)
     -- all free; an item count of 1 then; a free item with a stray word
-    ∷ passes (encode (empty 6))
-    ∷ fails (but Count 0 1 (encode (empty 6)))
-    ∷ fails (but Rank 3 1 (encode (empty 6)))
-    ∷ fails (but Key 3 7 (encode (empty 6)))
-    -- the sample; keys that are equal or at the limit; a child that comes before its parent; a key of 33 bits
+    ∷ passes (encode (emptyQueues 6))
+    ∷ fails (but Count 0 1 (encode (emptyQueues 6)))
+    ∷ fails (but Rank 3 1 (encode (emptyQueues 6)))
+    ∷ fails (but Key 3 7 (encode (emptyQueues 6)))
+    -- the sample; keys that are equal or at the limit; a child that comes before its parent; a key word of 33 bits
     ∷ passes full
     ∷ passes (but Key 1 10 full)
     ∷ passes (but Key 4 4294967295 full)
     ∷ fails (but Key 1 9 full)
-    ∷ fails (but Key 4 4294967296 full)
+    ∷ fails (but Key 3 4294967336 full)
+    -- amounts: any of 32 bits by which the keys are in order; one of 33 bits; one of an empty heap
+    ∷ passes (but Amount 0 35 full)
+    ∷ passes (but Amount 0 4294967295 full)
+    ∷ fails (but Amount 0 4294967296 full)
+    ∷ fails (but Amount 7 1 full)
+    ∷ fails (but Amount 0 1 (encode (emptyQueues 6)))
+    -- keys in order by words that are not, and words in order of keys that are not: that of 3 wraps to 5, that of its
+    -- parent does not
+    ∷ passes raised
+    ∷ fails (but Minimum 0 4 (but Amount 0 4294967261 full))
     -- the heap's words: a count off by one, a minimum that is not the least root, none, or no root, another last tree
     ∷ fails (but Count 0 4 full)
     ∷ fails (but Count 0 6 full)
@@ -117,10 +136,10 @@ examples =
     ∷ fails small
     ∷ passes (but State 2 2 small)
     -- an item that is its own parent
-    ∷ fails (encode ownParent)
+    ∷ fails (encode (unraised ownParent))
     -- trees 1 and 2 in a circle that the row does not reach
-    ∷ passes (encode threeTrees)
-    ∷ fails (but LastTree 0 0 (but Next 0 none (but Prev 1 2 (but Next 2 1 (encode threeTrees)))))
+    ∷ passes (encode (unraised threeTrees))
+    ∷ fails (but LastTree 0 0 (but Next 0 none (but Prev 1 2 (but Next 2 1 (encode (unraised threeTrees))))))
     ∷ []
 
 unfoldable pub ExamplesHold : Type 0

@@ -5,27 +5,27 @@ use mathlib.Core.Path.{_≡_}
 use mathlib.Core.Logic.{_↔_, _≢_}
 use mathlib.Core.List.{List}
 use mathlib.Core.Bool.{true, false}
-use Rattle.rules.specs.Forests.{Forests}
-use Rattle.rules.specs.WellFormed.{WellFormed}
-use Rattle.rules.specs.Words.{Sound, encode, forestsOf}
+use Rattle.rules.specs.Queues.{Queues}
+use Rattle.rules.specs.WellFormed.{WellFormedQueues}
+use Rattle.rules.specs.Words.{Sound, encode, queuesOf}
 use Rattle.soundness.specs.Check.{soundWords}
 
--- The check says yes of the words of well-formed forests, and of no others.
+-- The check says yes of the words of well-formed queues, and of no others.
 unfoldable pub SoundExact : Type 0
 SoundExact = (w : List ℕ) → (soundWords w ≡ true) ↔ Sound w
 
--- What passes is the words of the forests that are read from it.
+-- What passes is the words of the queues that are read from it.
 pub record Decoded (w : List ℕ) : Type 0 where
-  pub wellFormed : WellFormed (forestsOf w)
-  pub words : w ≡ encode (forestsOf w)
+  pub wellFormed : WellFormedQueues (queuesOf w)
+  pub words : w ≡ encode (queuesOf w)
 
 unfoldable pub SoundDecoded : Type 0
 SoundDecoded = (w : List ℕ) → soundWords w ≡ true → Decoded w
 
--- What is refused is the words of no well-formed forests.
+-- What is refused is the words of no well-formed queues.
 unfoldable pub RefusedUnsound : Type 0
-RefusedUnsound = (w : List ℕ) → soundWords w ≡ false → (s : Forests) → WellFormed s → w ≢ encode s
+RefusedUnsound = (w : List ℕ) → soundWords w ≡ false → (q : Queues) → WellFormedQueues q → w ≢ encode q
 
--- The words of well-formed forests pass.
+-- The words of well-formed queues pass.
 unfoldable pub EncodedAccepted : Type 0
-EncodedAccepted = (s : Forests) → WellFormed s → soundWords (encode s) ≡ true
+EncodedAccepted = (q : Queues) → WellFormedQueues q → soundWords (encode q) ≡ true

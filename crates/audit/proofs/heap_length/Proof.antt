@@ -30,7 +30,7 @@ least-root-requires c κs =
 returns-2 : tie.Need-returns-2
 unfolding minimumRight countRight
 returns-2 c =
-    let least = c .before .before .before in
+    let least = c .before .before .before .before in
     let list = least .before .before in
     let s = list .before .before .before .before in
     let a = s .args in
@@ -39,11 +39,12 @@ returns-2 c =
     (list .before .word-at2 .ensures .is) (list .list-length .ensures .is) in
     record {
       is =
-          heap-tests (a .n) (a .store .now) (a .h) _ f (least .before .if1 .left) true
+          heap-tests (a .n) (a .store .now) (a .h) _ f (least .before .if1 .left) (c .before .word-at4 .ensures) true
           (rw (
             ← least .get .ensures,
-            ← c .before .before .least-root .ensures,
-            ← c .before .word-at3 .ensures .is,
+            ← c .before .before .before .least-root .ensures,
+            ← c .before .before .word-at3 .ensures .is,
+            ← c .before .word-at4 .ensures .is,
             ← s .pre .1 .1,
           ) (c .if2 .taken));
       most = list .list-length .ensures .most;
@@ -52,7 +53,7 @@ returns-2 c =
 returns-3 : tie.Need-returns-3
 unfolding minimumRight countRight
 returns-3 c =
-    let least = c .before .before .before in
+    let least = c .before .before .before .before in
     let list = least .before .before in
     let s = list .before .before .before .before in
     let a = s .args in
@@ -61,11 +62,12 @@ returns-3 c =
     (list .before .word-at2 .ensures .is) (list .list-length .ensures .is) in
     record {
       is =
-          heap-tests (a .n) (a .store .now) (a .h) _ f (least .before .if1 .left) false
+          heap-tests (a .n) (a .store .now) (a .h) _ f (least .before .if1 .left) (c .before .word-at4 .ensures) false
           (rw (
             ← least .get .ensures,
-            ← c .before .before .least-root .ensures,
-            ← c .before .word-at3 .ensures .is,
+            ← c .before .before .before .least-root .ensures,
+            ← c .before .before .word-at3 .ensures .is,
+            ← c .before .word-at4 .ensures .is,
             ← s .pre .1 .1,
           ) (c .if2 .left));
       most = omega arith;
@@ -83,6 +85,7 @@ heap-length-spec =
     (λ c. search needs)
     (λ c κs. search needs)
     least-root-requires
+    (λ c κs. search needs)
     (λ c κs. search needs)
     returns-2
     returns-3)

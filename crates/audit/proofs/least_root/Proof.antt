@@ -24,19 +24,24 @@ loop-holds c =
     let a = s .args in
     (omega arith, rw (c .get .ensures) (pass-start (a .n) (a .store .now) (a .h) (s .pre .1)))
 
+cast-lesser-of : tie.Need-cast-lesser-of Inv-loop μ-loop
+cast-lesser-of c = omega (arith, c .before .before .before .before .before .pre .1 .heap)
+
 lesser-of-requires : tie.Need-lesser-of-requires Inv-loop μ-loop
 lesser-of-requires c κs =
     let l = c .before .before .loop in
     let s = c .before .before .before .before .before in
-    let a = s .args in
-    record {
-      sized = s .pre .0;
-      one = l .inv .1 .item;
-      two =
-          λ m.
-          pass-inside (a .n) (a .store .now) (a .h) (l .j) (l .least) (l .x) (c .before .loop-test .taken) m
-          (l .inv .1);
-    }
+    let a = s .args in (
+      s .pre .1 .heap,
+      record {
+        sized = s .pre .0;
+        one = λ m. l .inv .1 .item m .0;
+        two =
+            λ m.
+            pass-inside (a .n) (a .store .now) (a .h) (l .j) (l .least) (l .x) (c .before .loop-test .taken) m
+            (l .inv .1) .0;
+      },
+    )
 
 get-requires-2 : tie.Need-get-requires-2 Inv-loop μ-loop
 get-requires-2 c κs =
@@ -47,7 +52,7 @@ get-requires-2 c κs =
       sized = s .pre .0;
       inside =
           pass-inside (a .n) (a .store .now) (a .h) (l .j) (l .least) (l .x) (c .before .before .loop-test .taken)
-          (c .before .if1 .left) (l .inv .1);
+          (c .before .if1 .left) (l .inv .1) .0;
     }
 
 add-j : tie.Need-add-j Inv-loop μ-loop
@@ -88,6 +93,7 @@ least-root-spec =
     cast-get
     get-requires
     loop-holds
+    cast-lesser-of
     lesser-of-requires
     get-requires-2
     add-j

@@ -4,6 +4,7 @@ use borrow.Author.Needs.{needs}
 use borrow.Author.Tests.{lt-ltb, le-ltb, eq-eqb, ne-eqb}
 use native.Mathlib.Omega.{arith}
 use Rattle.soundness.specs.Check.{heapAt, markAt, rootUnmarked, parentInHeap, inHeapOrder, parentOk}
+use Rattle.soundness.proofs.States.{heap-range}
 use Rattle.audit.proofs.parent_ok.Statement.{statement}
 use Rattle.audit.proofs.parent_ok.Tie as tie
 
@@ -24,6 +25,22 @@ returns-2 c =
       ← c .before .before .word-at .ensures .is,
       ne-eqb _ _ (c .before .if1 .left),
       le-ltb _ _ (c .if2 .taken),
+    )
+
+sub-precedes : tie.Need-sub-precedes
+sub-precedes c =
+    let s = c .before .before .before .before .before .before .before in
+    omega (arith, c .before .before .heap-of .ensures .is, heap-range (s .args .state) (s .pre .live) (s .pre .low) .0)
+
+precedes-requires : tie.Need-precedes-requires
+precedes-requires c κs =
+    let s = c .before .before .before .before .before .before .before in
+    let r = heap-range (s .args .state) (s .pre .live) (s .pre .low) in (
+      omega (arith, c .before .before .heap-of .ensures .is, r .0, r .1),
+      (
+        record { sized = s .pre .item .sized; inside = c .before .before .before .if2 .left },
+        record { sized = s .pre .item .sized; inside = s .pre .item .inside },
+      ),
     )
 
 returns-3 : tie.Need-returns-3
@@ -54,7 +71,9 @@ parent-ok-spec =
     (λ c κs. search needs)
     (λ c κs. search needs)
     (λ c κs. search needs)
+    sub-precedes
     (λ c. search needs)
     (λ c. search needs)
-    (λ c κs. search needs)
+    (λ c. search needs)
+    precedes-requires
     returns-3)
