@@ -9,10 +9,13 @@ use Rattle.rules.specs.declared.Tally.{Tally}
 use Rattle.rules.specs.Lists.{sumBy}
 use Rattle.rules.specs.Forests.{none, empty}
 use Rattle.rules.specs.Answers.{answers, after}
+use Rattle.rules.specs.Queues.{emptyQueues}
+use Rattle.rules.specs.Unraised.{isRaise}
 use Rattle.rules.specs.Words.{encode}
 use Rattle.rules.proofs.EmptyForests.{getD-all, emptyWellFormed}
 use Rattle.rules.proofs.SoundWords.{sound-encode}
 use Rattle.rules.proofs.Sums.{sumBy-set}
+use Rattle.rules.proofs.UnraisedWords.{unraised-formed}
 use Rattle.heap.specs.declared.Reply.{Reply}
 use Rattle.heap.specs.Performed.{Ready, Performed}
 use Rattle.paths.specs.Map.{noSpans, Map, mapOf, Accepted}
@@ -30,25 +33,28 @@ noCall = record { links = 0; cuts = 0 }
 
 module _ (places start : ℕ) (l : ResultLists) (R : BeginReady places start l) where
   -- the empty store is sound
-  pub begin-ready : (store₁ : List ℕ) → store₁ ≡ encode (empty places) → Ready store₁ noCall
+  pub begin-ready : (store₁ : List ℕ) → store₁ ≡ encode (emptyQueues places) → Ready store₁ noCall
   begin-ready store₁ e =
       record {
-        sound = rw e (sound-encode (empty places) (emptyWellFormed places (R .sized .small)));
+        sound =
+            rw e
+            (sound-encode (emptyQueues places)
+            (unraised-formed (empty places) (emptyWellFormed places (R .sized .small))));
         room = record { links = omega arith; cuts = omega arith };
       }
 
-  none-logged : (store₁ : List ℕ) → store₁ ≡ encode (empty places) → Logged places [] store₁ noCall
+  none-logged : (store₁ : List ℕ) → store₁ ≡ encode (emptyQueues places) → Logged places [] store₁ noCall
   unfolding after linksOf cutsOf answers sumBy
   none-logged store₁ e = record { words = e; links = refl; cuts = refl }
 
   -- after the insertion the code stands where the search begins
   pub begun : (best₁ last₁ joints₁ store₁ : List ℕ) → best₁ ≡ replicate (length (l .best)) none
       → last₁ ≡ replicate (length (l .last)) none → joints₁ ≡ replicate (length (l .joints)) none
-      → store₁ ≡ encode (empty places) → (reply : Reply) (store′ : List ℕ)
+      → store₁ ≡ encode (emptyQueues places) → (reply : Reply) (store′ : List ℕ)
       → Performed store₁ (Insert 0 start 0) noCall reply store′
       → Begun places start (resultLists (set best₁ start 0) last₁ (set joints₁ start 0) store′)
       (record { visited = 0; met = 1; examined = 0; tally = reply .tally })
-  unfolding begin after
+  unfolding begin after isRaise
   begun best₁ last₁ joints₁ store₁ eb el ej es reply store′ P =
       record {
         visited-is = refl;
@@ -59,7 +65,7 @@ module _ (places start : ℕ) (l : ResultLists) (R : BeginReady places start l) 
               joints-is = ap (λ b. set b start 0) (ej ∙ ap (λ n. replicate n none) (R .jointsN));
               logged =
                   call-logged places [] store₁ noCall (none-logged store₁ es)
-                  (emptyWellFormed places (R .sized .small)) (Insert 0 start 0) reply store′ P;
+                  (emptyWellFormed places (R .sized .small)) (Insert 0 start 0) refl reply store′ P;
               examined-is = refl;
               met-is =
                   omega (

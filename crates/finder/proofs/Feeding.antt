@@ -6,7 +6,8 @@ use mathlib.Core.List.{List}
 use native.Mathlib.Omega.{arith}
 use lib.ListN.{getD}
 use lib.Seq.{ext-getD}
-use Rattle.rules.specs.Forests.{none, empty}
+use Rattle.rules.specs.Forests.{none}
+use Rattle.rules.specs.Queues.{unraised, emptyQueues}
 use Rattle.rules.specs.Words.{encode}
 use Rattle.relax.specs.declared.Progress.{Progress}
 use Rattle.paths.specs.Map.{Map, Accepted}
@@ -44,7 +45,7 @@ module _ (limit : Limit) (m : Map) (lent : ResultLists) where
   pub fed-done : Accepted m → (l : ResultLists) (r : Progress) → Found (beyond limit) m l r
       → (best last joints : List ℕ) → best ≡ shownBest (find limit m) → last ≡ shownLast (find limit m)
       → joints ≡ shownJoints (find limit m)
-      → FedAs m (feedAs 0 limit m lent) (doneFed r) (resultLists best last joints (encode (empty (m .places))))
+      → FedAs m (feedAs 0 limit m lent) (doneFed r) (resultLists best last joints (encode (emptyQueues (m .places))))
   unfolding feedAs search
   fed-done A l r F best last joints b e j =
       let T = F .tracks in
@@ -101,8 +102,8 @@ module _ (m : Map) (lent : ResultLists) (code : ℕ) (is : code ≡ codeFor m le
       let s : Search = find unlimited m in
       let shown : (words : List ℕ) → words ≡ hideWaiting (s .queue .waits) words =
       λ words. sym (hide-none (s .queue .waits) words (none-waits m A)) in
-      let emptied : left .store ≡ encode (empty (m .places)) =
-      F .tracks .logged .words ∙ ap encode (endsEmpty m A) in
+      let emptied : left .store ≡ encode (emptyQueues (m .places)) =
+      F .tracks .logged .words ∙ ap (λ s. encode (unraised s)) (endsEmpty m A) in
       rw (sym is, z, emptied)
       (fed-done unlimited m lent A left r F (left .best) (left .last) (left .joints)
       (F .tracks .best-is ∙ shown (s .best)) (F .tracks .last-is ∙ shown (s .last))

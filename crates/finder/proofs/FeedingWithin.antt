@@ -4,7 +4,7 @@ use mathlib.Core.Path.{_≡_, refl, sym, ap, _∙_}
 use mathlib.Core.Logic.{_≢_}
 use mathlib.Core.List.{List}
 use lib.ListN.{length}
-use Rattle.rules.specs.Forests.{empty}
+use Rattle.rules.specs.Queues.{emptyQueues}
 use Rattle.rules.specs.Words.{encode}
 use Rattle.store.specs.Says.{Sized}
 use Rattle.relax.specs.declared.Progress.{Progress}
@@ -73,7 +73,7 @@ module _
   pub within-done : code ≡ 0 → (l : ResultLists) (listed : List ℕ) (r : Progress)
       → FoundListed budget m lentList l listed r → (left : ResultLists)
       → Hidden budget (l .best) (l .last) (l .joints) (left .best) (left .last) (left .joints)
-      → left .store ≡ encode (empty (m .places))
+      → left .store ≡ encode (emptyQueues (m .places))
       → FeedsWithin budget m lent lentList (record { fed = doneFed r; listed = r .visited }) left listed
   unfolding budgetAs
   within-done z l listed r F left H e =

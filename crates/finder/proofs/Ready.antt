@@ -5,11 +5,11 @@ use mathlib.Core.List.{List}
 use native.Mathlib.Omega.{arith}
 use lib.ListN.{length}
 use Rattle.rules.specs.declared.Tally.{Tally}
-use Rattle.rules.specs.Forests.{empty}
-use Rattle.rules.specs.Answers.{after}
+use Rattle.rules.specs.Queues.{unraised}
 use Rattle.rules.specs.Words.{storeSize}
 use Rattle.rules.proofs.DecodeEncode.{encode-length}
 use Rattle.rules.proofs.SoundWords.{sound-encode}
+use Rattle.rules.proofs.UnraisedWords.{unraised-formed}
 use Rattle.store.specs.Says.{Sized}
 use Rattle.heap.specs.Performed.{Ready}
 use Rattle.paths.specs.Map.{Map, Accepted}
@@ -24,10 +24,11 @@ use Rattle.relax.specs.Tracks.{Logged}
 pub logged-ready : (stop : Stop) (m : Map) → Accepted m → (s : Search) → Moment stop m s
     → {store : List ℕ} {t : Tally} → Logged (m .places) (s .calls) store t → Ready store t
 logged-ready stop m A s M L =
+    let forests = forestsAfter m s in
     let S = moments-keep stop m A (ServedOf m) (served stop m A) s M in
     let low = counts-low stop m A s M in
     record {
-      sound = rw (L .words) (sound-encode (after (empty (m .places)) (s .calls)) (S .formed));
+      sound = rw (L .words) (sound-encode (unraised forests) (unraised-formed forests (S .formed)));
       room = record { links = omega (arith, low, L .links); cuts = omega (arith, low, L .cuts) };
     }
 
@@ -39,7 +40,7 @@ logged-sized stop m A k L =
     let S = steps-keep stop m A (ServedOf m) (served stop m A) k in
     record {
       size =
-          ap length (L .words) ∙ encode-length forests
+          ap length (L .words) ∙ encode-length (unraised forests)
           ∙ ap (λ l. storeSize (length l)) (S .waits)
           ∙ ap storeSize (steps-between stop m A k .invariant .waitsN);
       small = A .few;

@@ -8,6 +8,7 @@ use lib.ListN.{getD}
 use Rattle.rules.specs.declared.Call.the-variants.{ExtractMin}
 use Rattle.rules.specs.declared.Line.the-variants.{Yields}
 use Rattle.rules.specs.Answers.{answer}
+use Rattle.rules.specs.Unraised.{isRaise}
 use Rattle.rules.proofs.Sums.{sumBy-set}
 use Rattle.heap.specs.declared.Reply.{Reply}
 use Rattle.heap.specs.Performed.{Ready, Performed}
@@ -71,6 +72,7 @@ module _
       → Taken stop m minute index to loss opens closes (reply .item) (reply .key)
       (resultLists (l .best) (l .last) (l .joints) store′)
       (record { visited = go .visited; met = go .met; examined = go .examined; tally = reply .tally })
+  unfolding isRaise
   taken {reply} {store′} P =
       let A = G .stands .accepted in
       let H = G .stands .tracks in
@@ -97,8 +99,8 @@ module _
               last-is = H .last-is;
               joints-is = H .joints-is;
               logged =
-                  call-logged (m .places) (s .calls) (l .store) (go .tally) (H .logged) (S .formed) (ExtractMin 0) reply
-                  store′ P;
+                  call-logged (m .places) (s .calls) (l .store) (go .tally) (H .logged) (S .formed) (ExtractMin 0) refl
+                  reply store′ P;
               examined-is = H .examined-is;
               met-is =
                   omega (

@@ -15,6 +15,7 @@ use Rattle.text.proofs.Cases.{by-cond}
 use Rattle.text.proofs.Range.{field-in-range, row-in-range}
 use Rattle.lines.specs.Parse.{
   callOf,
+  letterA,
   letterD,
   letterI,
   letterJ,
@@ -37,7 +38,9 @@ one-range letter x =
 
 two-range : (letter x y : ℕ) → InRange (ofTwo letter x y)
 unfolding InRange ofTwo
-two-range letter x y = by-cond InRange (eqb letter letterD) tt (by-cond InRange (eqb letter letterJ) tt tt)
+two-range letter x y =
+    by-cond InRange (eqb letter letterD) tt
+    (by-cond InRange (eqb letter letterJ) tt (by-cond InRange (eqb letter letterA) tt tt))
 
 three-range : (letter x y z : ℕ) → z ≤ largest → InRange (ofThree letter x y z)
 unfolding InRange ofThree

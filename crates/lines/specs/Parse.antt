@@ -4,7 +4,7 @@ use mathlib.Core.List.{List, map}
 use mathlib.Core.Bool.{cond}
 use lib.ListN.{getD}
 use lib.Dec.{eqb}
-use Rattle.rules.specs.declared.Call.the-variants.{Insert, FindMin, ExtractMin, DecreaseKey, Delete, Meld}
+use Rattle.rules.specs.declared.Call.the-variants.{Insert, FindMin, ExtractMin, DecreaseKey, Delete, Meld, Raise}
 use Rattle.rules.specs.declared.Line.{Line}
 use Rattle.rules.specs.declared.Line.the-variants.{Yields, NoCall}
 use Rattle.text.specs.declared.Numbers.{Numbers}
@@ -12,7 +12,7 @@ use Rattle.text.specs.declared.Numbers.the-variants.{One, Two, Three, Other}
 use Rattle.text.specs.Fields.{fieldAt, numbersFrom}
 use Rattle.text.specs.Lines.{lines}
 
--- the letters of the six calls, as bytes
+-- the letters of the seven calls, as bytes
 abbrev pub letterI : ℕ
 letterI = 73
 
@@ -31,16 +31,20 @@ letterX = 88
 abbrev pub letterJ : ℕ
 letterJ = 74
 
+abbrev pub letterA : ℕ
+letterA = 65
+
 -- M, T and X have one number
 unfoldable pub ofOne : ℕ → ℕ → Line
 ofOne letter x =
     cond (eqb letter letterM) (Yields (FindMin x))
     (cond (eqb letter letterT) (Yields (ExtractMin x)) (cond (eqb letter letterX) (Yields (Delete x)) NoCall))
 
--- D and J have two
+-- D, J and A have two
 unfoldable pub ofTwo : ℕ → ℕ → ℕ → Line
 ofTwo letter x y =
-    cond (eqb letter letterD) (Yields (DecreaseKey x y)) (cond (eqb letter letterJ) (Yields (Meld x y)) NoCall)
+    cond (eqb letter letterD) (Yields (DecreaseKey x y))
+    (cond (eqb letter letterJ) (Yields (Meld x y)) (cond (eqb letter letterA) (Yields (Raise x y)) NoCall))
 
 -- I has three
 unfoldable pub ofThree : ℕ → ℕ → ℕ → ℕ → Line

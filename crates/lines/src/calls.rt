@@ -34,6 +34,9 @@ fn of_two(letter: u8, x: u32, y: u32) -> Line
     if letter == b'J' {
         return Line::Yields(Call::Meld { into: x, from: y });
     }
+    if letter == b'A' {
+        return Line::Yields(Call::Raise { heap: x, by: y });
+    }
     Line::NoCall
 }
 

@@ -6,7 +6,8 @@ use mathlib.Core.List.{List, [], _∷_, _++_, map}
 use lib.ListN.{length, replicate}
 use Rattle.rules.specs.declared.Call.the-variants.{Insert, ExtractMin, DecreaseKey}
 use Rattle.rules.specs.declared.Line.the-variants.{Yields}
-use Rattle.rules.specs.Forests.{none, empty}
+use Rattle.rules.specs.Forests.{none}
+use Rattle.rules.specs.Queues.{emptyQueues}
 use Rattle.rules.specs.Words.{storeSize, encode}
 use Rattle.paths.specs.Map.{Map, spanLists, noSpans, mapOf}
 use Rattle.paths.specs.Table.{unlimited, upTo}
@@ -25,7 +26,7 @@ done links cuts examined best last joints =
       links = links;
       cuts = cuts;
       examined = examined;
-      left = resultLists best last joints (encode (empty (length best)));
+      left = resultLists best last joints (encode (emptyQueues (length best)));
     }
 
 -- a feed call that is lent lists for three places, and one that is refused

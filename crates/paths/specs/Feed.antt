@@ -6,6 +6,7 @@ use Rattle.rules.specs.declared.Line.{Line}
 use Rattle.rules.specs.Lists.{sumBy}
 use Rattle.rules.specs.Forests.{empty}
 use Rattle.rules.specs.Answers.{answers}
+use Rattle.rules.specs.Queues.{emptyQueues}
 use Rattle.rules.specs.Words.{encode}
 use Rattle.paths.specs.Map.{Map}
 use Rattle.paths.specs.Table.{Limit, unlimited, upTo}
@@ -46,7 +47,7 @@ feedAs zero limit m lent =
       links = linksOf (m .places) (s .calls);
       cuts = cutsOf (m .places) (s .calls);
       examined = s .examined;
-      left = resultLists (shownBest s) (shownLast s) (shownJoints s) (encode (empty (m .places)));
+      left = resultLists (shownBest s) (shownLast s) (shownJoints s) (encode (emptyQueues (m .places)));
     }
 feedAs (suc code) limit m lent = record { code = suc code; links = 0; cuts = 0; examined = 0; left = lent }
 

@@ -14,6 +14,7 @@ use Rattle.rules.specs.Lists.{occurs, sumBy, sumTo}
 use Rattle.rules.specs.Forests.{Forests, none, empty}
 use Rattle.rules.specs.Answers.{answer, answers, after}
 use Rattle.rules.specs.Fibonacci.{R}
+use Rattle.rules.specs.Queues.{emptyQueues}
 use Rattle.rules.specs.Words.{storeSize, encode}
 use Rattle.paths.specs.Map.{
   SpanLists,
@@ -262,7 +263,7 @@ pub record Right (limit : Limit) (m : Map) (r : Feed) : Type 0 where
   pub losses : (p : ℕ) → p < m .places → LeastLoss limit m p (getD (r .left .best) p none)
   pub tree : (p : ℕ) → p < m .places → getD (r .left .best) p none ≢ none
       → LeadsBack m (r .left .last) p (getD (r .left .best) p none) (getD (r .left .joints) p none)
-  pub store : r .left .store ≡ encode (empty (m .places))
+  pub store : r .left .store ≡ encode (emptyQueues (m .places))
   pub examined : r .examined ≡ leavingReached m (r .left .best)
   pub atMost : r .examined ≤ spans m
 

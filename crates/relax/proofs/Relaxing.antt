@@ -12,6 +12,7 @@ use Rattle.rules.specs.declared.Line.the-variants.{Yields}
 use Rattle.rules.specs.Lists.{sumBy}
 use Rattle.rules.specs.Forests.{none, empty}
 use Rattle.rules.specs.Answers.{after}
+use Rattle.rules.specs.Unraised.{isRaise}
 use Rattle.rules.specs.WellFormed.{WellFormed}
 use Rattle.rules.proofs.Default.{getD-any}
 use Rattle.rules.proofs.Sums.{sumBy-set}
@@ -28,11 +29,12 @@ module _ (p loss hops span : ℕ) (l : ResultLists) (go : Progress) where
   module _
       (call : Call) (met : ℕ) (l′ : ResultLists) (r : Progress)
       (I : Improved call p loss hops span met l go l′ r) where
-    improved-tracks : {n out : ℕ} {s t : Search} → WellFormed (after (empty n) (s .calls)) → Tracks n out s l go
+    improved-tracks : isRaise (Yields call) ≡ false → {n out : ℕ} {s t : Search}
+        → WellFormed (after (empty n) (s .calls)) → Tracks n out s l go
         → t .best ≡ set (s .best) p loss → t .last ≡ set (s .last) p span → t .joints ≡ set (s .joints) p hops
         → t .calls ≡ s .calls ++ (Yields call ∷ []) → t .examined ≡ s .examined
         → met ≡ out + sumBy (λ w. w) (t .queue .waits) → Tracks n out t l′ r
-    improved-tracks {n} {out} {s} {t} W H eb el ej ec ex em =
+    improved-tracks u {n} {out} {s} {t} W H eb el ej ec ex em =
         rw (I .progress)
         (record {
           best-is = I .best-is ∙ ap (λ b. set b p loss) (H .best-is) ∙ sym eb;
@@ -40,7 +42,7 @@ module _ (p loss hops span : ℕ) (l : ResultLists) (go : Progress) where
           joints-is = I .joints-is ∙ ap (λ b. set b p hops) (H .joints-is) ∙ sym ej;
           logged =
               rw ec
-              (call-logged n (s .calls) (l .store) (go .tally) (H .logged) W call (I .reply) (l′ .store)
+              (call-logged n (s .calls) (l .store) (go .tally) (H .logged) W call u (I .reply) (l′ .store)
               (I .performed));
           examined-is = H .examined-is ∙ sym ex;
           met-is = em;
@@ -49,7 +51,7 @@ module _ (p loss hops span : ℕ) (l : ResultLists) (go : Progress) where
   enter-advances : p < length (l .best) → getD (l .best) p 0 ≡ none → {l′ : ResultLists} {r : Progress}
       → Improved (Insert 0 p loss) p loss hops span (go .met + 1) l go l′ r
       → Advances p (update unmet p loss hops span) l go l′ r
-  unfolding update
+  unfolding update isRaise
   enter-advances i u {l′} {r} I =
       record {
         visited-is = ap (λ (q : Progress). q .visited) (I .progress);
@@ -57,20 +59,21 @@ module _ (p loss hops span : ℕ) (l : ResultLists) (go : Progress) where
             λ n out s O H.
             let z : getD (s .best) p none ≡ none =
             rw (sym (H .best-is)) (getD-any (l .best) p none 0 i ∙ u) in
-            improved-tracks (Insert 0 p loss) (go .met + 1) l′ r I (O .formed) H refl refl refl refl refl
+            improved-tracks (Insert 0 p loss) (go .met + 1) l′ r I refl (O .formed) H refl refl refl refl refl
             (omega (arith, H .met-is, sumBy-set (λ w. w) (s .queue .waits) p 1 0 (O .inside), O .apart z));
       }
 
   lower-advances : {l′ : ResultLists} {r : Progress}
       → Improved (DecreaseKey p loss) p loss hops span (go .met) l go l′ r
       → Advances p (update smaller p loss hops span) l go l′ r
-  unfolding update
+  unfolding update isRaise
   lower-advances {l′} {r} I =
       record {
         visited-is = ap (λ (q : Progress). q .visited) (I .progress);
         tracks =
             λ n out s O H.
-            improved-tracks (DecreaseKey p loss) (go .met) l′ r I (O .formed) H refl refl refl refl refl (H .met-is);
+            improved-tracks (DecreaseKey p loss) (go .met) l′ r I refl (O .formed) H refl refl refl refl refl
+            (H .met-is);
       }
 
   -- the lists with another span and number of spans at p

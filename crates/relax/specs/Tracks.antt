@@ -7,14 +7,15 @@ use Rattle.rules.specs.declared.Tally.{Tally}
 use Rattle.rules.specs.Lists.{sumBy}
 use Rattle.rules.specs.Forests.{empty}
 use Rattle.rules.specs.Answers.{after}
+use Rattle.rules.specs.Queues.{unraised}
 use Rattle.rules.specs.Words.{encode}
 use Rattle.paths.specs.Search.{Search}
 use Rattle.paths.specs.Feed.{linksOf, cutsOf, ResultLists}
 use Rattle.relax.specs.declared.Progress.{Progress}
 
--- The store holds the forests that the calls leave, and the tally is theirs.
+-- The store holds the forests that the calls leave, with no heap raised, and the tally is theirs.
 pub record Logged (n : ℕ) (calls : List Line) (store : List ℕ) (t : Tally) : Type 0 where
-  pub words : store ≡ encode (after (empty n) calls)
+  pub words : store ≡ encode (unraised (after (empty n) calls))
   pub links : t .links ≡ linksOf n calls
   pub cuts : t .cuts ≡ cutsOf n calls
 

@@ -10,8 +10,9 @@ use Rattle.rules.specs.declared.Line.{Line}
 use Rattle.rules.specs.declared.Line.the-variants.{NoCall, Yields}
 use Rattle.rules.specs.declared.Tally.{Tally}
 use Rattle.rules.specs.Answers.{answer, refused}
+use Rattle.rules.specs.Queues.{afterLine, amountsAfterLine}
 use Rattle.rules.specs.Theorems.{InRange}
-use Rattle.rules.specs.Words.{encode, forestsOf}
+use Rattle.rules.specs.Words.{encode, queuesOf, forestsOf}
 use Rattle.rules.proofs.ReplyBounds.{Small, answer-small}
 use Rattle.rules.proofs.SoundWords.{sound-forests, sound-words}
 use Rattle.heap.specs.declared.Reply.{Reply}
@@ -48,9 +49,9 @@ module _ {w out : List ℕ} {at : ℕ} {line : Line} (A : Answerable w out at li
     unfolding answer refused
     six-reply = ap (λ (l : Line). (answer (forestsOf w) l) .reply) (sym e)
 
-    -- and the forests stay
-    none-next : (answer (forestsOf w) line) .next ≡ forestsOf w
-    unfolding answer refused
+    -- and the queues stay
+    none-next : afterLine (queuesOf w) line ≡ queuesOf w
+    unfolding answer refused amountsAfterLine
     none-next = rw e
 
     pub answered-none : {out′ : List ℕ} {r : ℕ} → Wrote out at (answerRow six) out′ r → Answered w out at line r w out′

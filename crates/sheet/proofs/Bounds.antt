@@ -4,9 +4,9 @@ use mathlib.Core.Path.{_≡_, refl}
 use mathlib.Core.List.{List}
 use mathlib.Core.Bool.{Bool, true, false, cond, not}
 use native.Mathlib.Omega.{arith}
-use Rattle.rules.specs.Forests.{Forests, empty}
+use Rattle.rules.specs.Queues.{Queues, emptyQueues}
 use Rattle.rules.specs.WellFormed.{WellFormed}
-use Rattle.rules.specs.Words.{forestsOf, itemsIn}
+use Rattle.rules.specs.Words.{queuesOf, itemsIn}
 use Rattle.rules.proofs.EmptyForests.{emptyWellFormed}
 use Rattle.rules.proofs.SoundWords.{sound-forests}
 use Rattle.soundness.specs.Check.{soundWords}
@@ -30,20 +30,21 @@ unless-bounded zero store out run f = f refl
 unless-bounded (suc code) store out run f = refused-bounded (suc code) store out
 
 module _ (store sheet out : List ℕ) where
-  done-bounded : limitCode store sheet out ≡ 0 → (s : Forests) → WellFormed s
-      → Bounded (doneRun s (linesOf sheet) out)
+  done-bounded : limitCode store sheet out ≡ 0 → (q : Queues) → WellFormed (q .forests)
+      → Bounded (doneRun q (linesOf sheet) out)
   unfolding doneRun
-  done-bounded e s W =
+  done-bounded e q W =
       record {
         lines = omega (arith, within store sheet out e .few, lines-length sheet);
-        bytes = printed-32 s W (linesOf sheet) (lines-range sheet);
+        bytes = printed-32 (q .forests) W (linesOf sheet) (lines-range sheet);
       }
 
   fresh-bounded : Bounded (freshRun store sheet out)
   unfolding freshRun
   fresh-bounded =
       unless-bounded (limitCode store sheet out) store out _ (λ e.
-      done-bounded e (empty (itemsIn store)) (emptyWellFormed (itemsIn store) (within store sheet out e .sized .small)))
+      done-bounded e (emptyQueues (itemsIn store))
+      (emptyWellFormed (itemsIn store) (within store sheet out e .sized .small)))
 
   kept-bounded : Bounded (keptRun store sheet out)
   unfolding keptRun
@@ -51,8 +52,8 @@ module _ (store sheet out : List ℕ) where
       unless-bounded (limitCode store sheet out) store out _ (λ e. go (soundWords store) refl e)
     where
       go : (t : Bool) → soundWords store ≡ t → limitCode store sheet out ≡ 0
-          → Bounded (cond (not t) (refusedRun 5 store out) (doneRun (forestsOf store) (linesOf sheet) out))
-      go true p e = done-bounded e (forestsOf store) (sound-forests store (accepted-sound store p))
+          → Bounded (cond (not t) (refusedRun 5 store out) (doneRun (queuesOf store) (linesOf sheet) out))
+      go true p e = done-bounded e (queuesOf store) (sound-forests store (accepted-sound store p))
       go false p e = refused-bounded 5 store out
 
 pub runsBounded : RunsBounded

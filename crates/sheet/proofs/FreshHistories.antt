@@ -6,16 +6,16 @@ use native.Mathlib.Omega.{arith}
 use lib.ListN.{replicate}
 use Rattle.rules.specs.Forests.{empty, marks, potential, trees}
 use Rattle.rules.specs.Lists.{sumBy}
-use Rattle.rules.specs.WellFormed.{WellFormed}
-use Rattle.rules.specs.Words.{encode, itemsIn}
-use Rattle.rules.proofs.EmptyForests.{emptyWellFormed}
-use Rattle.rules.proofs.SoundWords.{forests-encode}
+use Rattle.rules.specs.Queues.{Queues, emptyQueues}
+use Rattle.rules.specs.Words.{encode, forestsOf, itemsIn}
+use Rattle.rules.proofs.SoundWords.{queues-encode}
 use Rattle.lines.specs.Parse.{linesOf}
 use Rattle.sheet.specs.Histories.{historyLines, linesIf, storeAfter, writtenBy}
 use Rattle.sheet.specs.Runs.{Run, keptRun, limitCode}
 use Rattle.sheet.specs.Theorems.{FreshHistoryAccounted}
 use Rattle.sheet.proofs.FreshRuns.{fresh-code}
 use Rattle.sheet.proofs.Limits.{within}
+use Rattle.sheet.proofs.Queues.{empty-formed}
 use Rattle.sheet.proofs.FreshIsKept.{freshIsKept}
 use Rattle.sheet.proofs.Histories.{historyAccounted}
 
@@ -37,13 +37,15 @@ unfolding historyLines writtenBy storeAfter
 freshHistoryAccounted store first runs e =
     let n : ℕ = itemsIn store in
     let z : limitCode store (first .sheet) (first .out) ≡ 0 = sym (fresh-code store (first .sheet) (first .out)) ∙ e in
-    let W : WellFormed (empty n) = emptyWellFormed n (within store (first .sheet) (first .out) z .sized .small) in
+    let q : Queues = emptyQueues n in
     let K = freshIsKept store (first .sheet) (first .out) z in
-    let kept : Run = keptRun (encode (empty n)) (first .sheet) (first .out) in
+    let kept : Run = keptRun (encode q) (first .sheet) (first .out) in
     let l : linesIf (kept .code) (first .sheet) ≡ linesOf (first .sheet) =
     rw (← K .1) (done-lines _ (first .sheet) e) in
-    let f = forests-encode (empty n) W in
-    let H = historyAccounted (encode (empty n)) (K .0) (first ∷ runs) in (
+    let f : forestsOf (encode q) ≡ empty n =
+    ap (λ r. r .forests)
+    (queues-encode q (empty-formed n (within store (first .sheet) (first .out) z .sized .small))) in
+    let H = historyAccounted (encode q) (K .0) (first ∷ runs) in (
       empty-potential n,
       rw (← f, K .1, ← l) (H .0),
       λ before rest q. rw (← f, K .1, ← l) (H .1 (first ∷ before) rest (ap (λ r. first ∷ r) q)),

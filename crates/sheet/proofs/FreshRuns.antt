@@ -7,6 +7,7 @@ use lib.ListN.{length}
 use lib.Seq.{length-sets}
 use Rattle.rules.specs.Answers.{answers}
 use Rattle.rules.specs.Forests.{empty}
+use Rattle.rules.specs.Queues.{emptyQueues}
 use Rattle.rules.specs.WellFormed.{WellFormed}
 use Rattle.rules.specs.Words.{itemsIn}
 use Rattle.rules.proofs.EmptyForests.{emptyWellFormed}
@@ -35,7 +36,7 @@ pub fresh-shown : (a b sheet out : List ℕ) → length a ≡ length b
 unfolding freshRun
 fresh-shown a b sheet out e =
     rw (same-limits a b sheet out e, same-items a b e)
-    (shown-unless (limitCode b sheet out) a b out (doneRun (empty (itemsIn b)) (linesOf sheet) out))
+    (shown-unless (limitCode b sheet out) a b out (doneRun (emptyQueues (itemsIn b)) (linesOf sheet) out))
 
 code-unless : (c : ℕ) (store out : List ℕ) (run : Run) → run .code ≡ 0 → (unlessLimit c store out run) .code ≡ c
 unfolding unlessLimit refusedRun
@@ -56,7 +57,7 @@ length-unless (suc c) store out run e = refl
 pub fresh-length : (store sheet out : List ℕ) → length ((freshRun store sheet out) .out) ≡ length out
 unfolding freshRun doneRun
 fresh-length store sheet out =
-    length-unless (limitCode store sheet out) store out (doneRun (empty (itemsIn store)) (linesOf sheet) out)
+    length-unless (limitCode store sheet out) store out (doneRun (emptyQueues (itemsIn store)) (linesOf sheet) out)
     (length-sets out 0 (printed (answers (empty (itemsIn store)) (linesOf sheet))))
 
 room-unless : (c : ℕ) (store out : List ℕ) (run : Run) → (c ≡ 0 → run .bytes ≤ length out)
@@ -68,7 +69,7 @@ room-unless (suc c) store out run f = zero-le
 pub fresh-room : (store sheet out : List ℕ) → (freshRun store sheet out) .bytes ≤ length out
 unfolding freshRun doneRun
 fresh-room store sheet out =
-    room-unless (limitCode store sheet out) store out (doneRun (empty (itemsIn store)) (linesOf sheet) out) (λ e.
+    room-unless (limitCode store sheet out) store out (doneRun (emptyQueues (itemsIn store)) (linesOf sheet) out) (λ e.
     let W : WellFormed (empty (itemsIn store)) =
     emptyWellFormed (itemsIn store) (within store sheet out e .sized .small) in
     omega (

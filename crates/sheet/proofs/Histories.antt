@@ -7,10 +7,13 @@ use lib.Seq.{take-append-seam}
 use Rattle.rules.specs.declared.Line.{Line}
 use Rattle.rules.specs.Answers.{after, answers}
 use Rattle.rules.specs.Forests.{Forests}
-use Rattle.rules.specs.WellFormed.{WellFormed}
-use Rattle.rules.specs.Words.{Sound, encode, forestsOf}
-use Rattle.rules.proofs.Answers.{AllInRange, after-append, after-well-formed}
-use Rattle.rules.proofs.SoundWords.{forests-encode, sound-encode, sound-forests, sound-words}
+use Rattle.rules.specs.Queues.{afterLines, amountsAfter}
+use Rattle.rules.specs.Theorems.{AllInRange}
+use Rattle.rules.specs.WellFormed.{WellFormedQueues}
+use Rattle.rules.specs.Words.{Sound, encode, queuesOf, forestsOf}
+use Rattle.rules.proofs.Answers.{after-append}
+use Rattle.rules.proofs.KeepsQueues.{after-queues}
+use Rattle.rules.proofs.SoundWords.{queues-encode, sound-encode, sound-forests, sound-queues, sound-words}
 use Rattle.lines.specs.Parse.{linesOf}
 use Rattle.lines.specs.Print.{printed}
 use Rattle.lines.proofs.InRange.{lines-range}
@@ -27,15 +30,15 @@ use Rattle.sheet.proofs.Runs.{run-room, wrote}
 -- what a kept run does to sound words: it answers some lines of the list
 record RunAnswers (store : List ℕ) (run : Run) (ls : List Line) : Type 0 where
   range : AllInRange ls
-  words : run .store ≡ encode (after (forestsOf store) ls)
+  words : run .store ≡ encode (afterLines (queuesOf store) ls)
   shows : take (run .bytes) (run .out) ≡ printed (answers (forestsOf store) ls)
 
 refused-answers : (store out : List ℕ) (code : ℕ) → Sound store → RunAnswers store (refusedRun code store out) []
-unfolding refusedRun after answers printed
+unfolding refusedRun after amountsAfter answers printed
 refused-answers store out code S = record { range = tt; words = sound-words store S; shows = refl }
 
 done-answers : (store sheet out : List ℕ) → Sound store → 32 * length (linesOf sheet) ≤ length out
-    → RunAnswers store (doneRun (forestsOf store) (linesOf sheet) out) (linesOf sheet)
+    → RunAnswers store (doneRun (queuesOf store) (linesOf sheet) out) (linesOf sheet)
 unfolding doneRun
 done-answers store sheet out S k =
     record {
@@ -50,26 +53,27 @@ unfolding keptRun unlessLimit doneRun refusedRun linesIf
 kept-answers store sheet out S = rw (sound-accepted store S) (go (limitCode store sheet out) refl)
   where
     go : (r : ℕ) → limitCode store sheet out ≡ r
-        → RunAnswers store (unlessLimit r store out (doneRun (forestsOf store) (linesOf sheet) out))
-        (linesIf ((unlessLimit r store out (doneRun (forestsOf store) (linesOf sheet) out)) .code) sheet)
+        → RunAnswers store (unlessLimit r store out (doneRun (queuesOf store) (linesOf sheet) out))
+        (linesIf ((unlessLimit r store out (doneRun (queuesOf store) (linesOf sheet) out)) .code) sheet)
     go zero e = done-answers store sheet out S (run-room store sheet out e)
     go (suc r) e = refused-answers store out (suc r) S
 
 -- ---- the whole history
 
--- where the words stand for the forests after the first lines, they do so after more lines
+-- where the words stand for the queues after the first lines, they do so after more lines
 module _ (store : List ℕ) (S : Sound store) (run : Run) (first : List Line) (K : RunAnswers store run first) where
   abbrev s : Forests
   s = forestsOf store
 
-  next : WellFormed (after s first)
-  next = after-well-formed s (sound-forests store S) first (K .range)
+  next : WellFormedQueues (afterLines (queuesOf store) first)
+  next = after-queues (queuesOf store) (sound-queues store S) first (K .range)
 
   next-sound : Sound (run .store)
-  next-sound = rw (K .words) (sound-encode (after s first) next)
+  next-sound = rw (K .words) (sound-encode (afterLines (queuesOf store) first) next)
 
   next-forests : forestsOf (run .store) ≡ after s first
-  next-forests = ap forestsOf (K .words) ∙ forests-encode (after s first) next
+  next-forests =
+      ap forestsOf (K .words) ∙ ap (λ q. q .forests) (queues-encode (afterLines (queuesOf store) first) next)
 
   -- the lines of the history that follows
   module _ (rest : List Line) where

@@ -6,11 +6,10 @@ use mathlib.Core.Bool.{true, false}
 use native.Mathlib.Omega.{arith}
 use lib.ListN.{length}
 use Rattle.rules.specs.Answers.{answers}
-use Rattle.rules.specs.Forests.{Forests, empty}
-use Rattle.rules.specs.WellFormed.{WellFormed}
-use Rattle.rules.specs.Words.{Sound, encode, forestsOf, itemsIn}
-use Rattle.rules.proofs.EmptyForests.{emptyWellFormed}
-use Rattle.rules.proofs.SoundWords.{forests-encode, sound-encode, sound-forests}
+use Rattle.rules.specs.Queues.{Queues, emptyQueues}
+use Rattle.rules.specs.WellFormed.{WellFormedQueues}
+use Rattle.rules.specs.Words.{Sound, encode, queuesOf, forestsOf, itemsIn}
+use Rattle.rules.proofs.SoundWords.{queues-encode, sound-encode, sound-forests}
 use Rattle.soundness.specs.Check.{soundWords}
 use Rattle.store.specs.Says.{Sized}
 use Rattle.text.specs.Lines.{lines}
@@ -25,6 +24,7 @@ use Rattle.sheet.specs.Promises.{Limited, RanLines, Refuses, Runnable}
 use Rattle.sheet.specs.Runs.{Leaves, Run, doneRun, freshRun, keptRun, limitCode, refusedRun, unlessLimit}
 use Rattle.sheet.proofs.Accepted.{accepted-sound}
 use Rattle.sheet.proofs.Limits.{WithinLimits, within}
+use Rattle.sheet.proofs.Queues.{empty-formed}
 use Rattle.sheet.proofs.Runs.{fresh-done, kept-done}
 
 -- the bytes that the lines took
@@ -33,11 +33,11 @@ ran-short : {w sheet out w′ out′ : List ℕ} {r : ℕ} → Sound w → RanLi
 ran-short {w} {sheet} S R =
     omega (arith, R .wrote .next, printed-32 (forestsOf w) (sound-forests w S) (linesOf sheet) (lines-range sheet))
 
--- the lines answered from the forests s on
-ran-all : {w sheet out w′ out′ : List ℕ} {r : ℕ} (s : Forests) → forestsOf w ≡ s → RanLines w sheet out r w′ out′
-    → Leaves (doneRun s (linesOf sheet) out) (record { code = 0; lines = length (linesOf sheet); bytes = r }) w′ out′
+-- the lines answered from the queues q on
+ran-all : {w sheet out w′ out′ : List ℕ} {r : ℕ} (q : Queues) → queuesOf w ≡ q → RanLines w sheet out r w′ out′
+    → Leaves (doneRun q (linesOf sheet) out) (record { code = 0; lines = length (linesOf sheet); bytes = r }) w′ out′
 unfolding doneRun
-ran-all {w} {sheet} {out} {w′} {out′} {r} s e R =
+ran-all {w} {sheet} {out} {w′} {out′} {r} q e R =
     let n : r ≡ length (printed (answers (forestsOf w) (linesOf sheet))) = omega (arith, R .wrote .next) in
     rw (← e)
     (record { sameCode = refl; sameLines = refl; sameBytes = n; sameStore = R .words; sameOut = R .wrote .left })
@@ -89,12 +89,12 @@ module _ {store sheet out : List ℕ} {l : Checked} (L : Limited store sheet out
     bytes-fit S R = omega (arith, ran-short S R, limits .few, lines-length sheet)
 
     -- a fresh run, on the words of the empty store
-    module _ {w : List ℕ} (e : w ≡ encode (empty (l .items))) where
-      formed : WellFormed (empty (l .items))
-      formed = emptyWellFormed (l .items) (sized .small)
+    module _ {w : List ℕ} (e : w ≡ encode (emptyQueues (l .items))) where
+      formed : WellFormedQueues (emptyQueues (l .items))
+      formed = empty-formed (l .items) (sized .small)
 
       empty-sound : Sound w
-      empty-sound = rw e (sound-encode (empty (l .items)) formed)
+      empty-sound = rw e (sound-encode (emptyQueues (l .items)) formed)
 
       pub fresh-runnable : Runnable w sheet out
       fresh-runnable = runnable w empty-sound
@@ -105,9 +105,9 @@ module _ {store sheet out : List ℕ} {l : Checked} (L : Limited store sheet out
 
         pub fresh-ran : Leaves (freshRun store sheet out) (record { code = 0; lines = l .lines; bytes = r }) w′ out′
         fresh-ran =
-            let f : forestsOf w ≡ empty (itemsIn store) =
-            ap forestsOf e ∙ forests-encode (empty (l .items)) formed ∙ ap empty (L .items z) in
-            rw (fresh-done store sheet out none, L .lines z) (ran-all (empty (itemsIn store)) f R)
+            let f : queuesOf w ≡ emptyQueues (itemsIn store) =
+            ap queuesOf e ∙ queues-encode (emptyQueues (l .items)) formed ∙ ap emptyQueues (L .items z) in
+            rw (fresh-done store sheet out none, L .lines z) (ran-all (emptyQueues (itemsIn store)) f R)
 
     -- a kept run
     pub unsound : {r : Ran} → soundWords store ≡ false → Refuses 5 r → Leaves (keptRun store sheet out) r store out
@@ -124,4 +124,4 @@ module _ {store sheet out : List ℕ} {l : Checked} (L : Limited store sheet out
 
         pub kept-ran : Leaves (keptRun store sheet out) (record { code = 0; lines = l .lines; bytes = r }) w′ out′
         kept-ran =
-            rw (kept-done store sheet out none (accepted-sound store t), L .lines z) (ran-all (forestsOf store) refl R)
+            rw (kept-done store sheet out none (accepted-sound store t), L .lines z) (ran-all (queuesOf store) refl R)

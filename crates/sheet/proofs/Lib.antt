@@ -2,6 +2,7 @@ pub mod Accepted
 pub mod Answered
 pub mod RanLines
 pub mod Limits
+pub mod Queues
 pub mod Runs
 pub mod Leaves
 pub mod FreshRuns

@@ -1,5 +1,5 @@
 -- The lines of a sheet, answered one after the other: what is left from here gives the whole.
-use Prim.Native.Nat.{ℕ, _+_, _-_, _*_, _≤_}
+use Prim.Native.Nat.{ℕ, _+_, _*_, _≤_}
 use mathlib.Core.Path.{_≡_, refl, sym, ap, _∙_}
 use mathlib.Core.List.{List, [], _++_, append-assoc, append-nil}
 use native.Mathlib.Omega.{arith}
@@ -7,8 +7,9 @@ use lib.ListN.{length, drop}
 use Rattle.rules.specs.declared.Line.{Line}
 use Rattle.rules.specs.Answers.{after, answer, answers}
 use Rattle.rules.specs.Forests.{Forests}
-use Rattle.rules.specs.Words.{Sound, encode, forestsOf}
-use Rattle.rules.proofs.KeepsSound.{next-forests, next-sound}
+use Rattle.rules.specs.Queues.{afterLines, amountsAfter}
+use Rattle.rules.specs.Words.{Sound, encode, queuesOf, forestsOf}
+use Rattle.rules.proofs.KeepsSound.{next-forests, next-queues, next-sound}
 use Rattle.rules.proofs.ReplyBounds.{answer-small}
 use Rattle.rules.proofs.SoundWords.{sound-forests, sound-words}
 use Rattle.text.specs.Output.{Wrote}
@@ -27,7 +28,7 @@ pub record AnsweredTo (w₀ sheet out₀ w out : List ℕ) (at to : ℕ) : Type 
   pub sound : Sound w
   pub done : List ℕ
   pub wrote : Wrote out₀ 0 done out to
-  pub forests : after (forestsOf w₀) (linesOf sheet) ≡ after (forestsOf w) (linesOf (drop at sheet))
+  pub queues : afterLines (queuesOf w₀) (linesOf sheet) ≡ afterLines (queuesOf w) (linesOf (drop at sheet))
   pub shows : printed (answers (forestsOf w₀) (linesOf sheet))
       ≡ done ++ printed (answers (forestsOf w) (linesOf (drop at sheet)))
   pub room : to + 32 * length (linesOf (drop at sheet)) ≤ length out₀
@@ -39,7 +40,7 @@ none-done {w} {sheet} {out} R =
       sound = R .sound;
       done = [];
       wrote = wrote-none out 0;
-      forests = refl;
+      queues = refl;
       shows = refl;
       room = omega (arith, R .room, lines-length sheet);
       same-length = refl;
@@ -67,15 +68,17 @@ module _ {w₀ sheet out₀ w out : List ℕ} {at to : ℕ} (G : AnsweredTo w₀
 
   pub one-more : {w′ out′ : List ℕ} {to′ : ℕ} → length w′ ≡ length w → Answered w out to l to′ w′ out′
       → AnsweredTo w₀ sheet out₀ w′ out′ (e + 1) to′
-  unfolding after answers printed
+  unfolding after amountsAfter answers printed
   one-more {w′} {out′} {to′} k A =
-      let t : forestsOf w′ ≡ (answer s l) .next = next-forests l (G .sound) (F .range) (A .words) in
+      let rest = linesOf (drop (e + 1) sheet) in
+      let t = next-queues l (G .sound) (F .range) (A .words) in
+      let f = next-forests l (G .sound) (F .range) (A .words) in
       record {
         sound = next-sound l (G .sound) (F .range) (A .words);
         done = G .done ++ answerRow ((answer s l) .reply);
         wrote = wrote-then (G .wrote) (A .wrote);
-        forests = G .forests ∙ rw (F .rest, t);
-        shows = G .shows ∙ rw (F .rest, t, append-assoc);
+        queues = G .queues ∙ ap (afterLines (queuesOf w)) (F .rest) ∙ ap (λ q. afterLines q rest) (sym t);
+        shows = G .shows ∙ rw (F .rest, f, append-assoc);
         room = omega (arith, G .room, A .wrote .next, short, ap length (F .rest));
         same-length = k ∙ G .same-length;
       }
@@ -83,9 +86,9 @@ module _ {w₀ sheet out₀ w out : List ℕ} {at to : ℕ} (G : AnsweredTo w₀
 -- all lines
 pub all-done : {w₀ sheet out₀ w out : List ℕ} {at to : ℕ} → AnsweredTo w₀ sheet out₀ w out at to
     → lineAt sheet at ≡ NoMore → RanLines w₀ sheet out₀ to w out
-unfolding after answers printed
+unfolding after amountsAfter answers printed
 all-done {w₀} {sheet} {out₀} {w} {out} {at} {to} G q =
     let e : linesOf (drop at sheet) ≡ [] = no-line sheet at q in
-    let f : after (forestsOf w₀) (linesOf sheet) ≡ forestsOf w = G .forests ∙ rw e in
+    let f : afterLines (queuesOf w₀) (linesOf sheet) ≡ queuesOf w = G .queues ∙ ap (afterLines (queuesOf w)) e in
     let p : printed (answers (forestsOf w₀) (linesOf sheet)) ≡ G .done = G .shows ∙ rw (e, append-nil) in
     record { words = sound-words w (G .sound) ∙ ap encode (sym f); wrote = rw p (G .wrote) }

@@ -4,9 +4,10 @@ use mathlib.Core.Path.{_≡_}
 use mathlib.Core.List.{List}
 use lib.ListN.{length}
 use Rattle.rules.specs.declared.Line.{Line}
-use Rattle.rules.specs.Answers.{answer, answers, after}
+use Rattle.rules.specs.Answers.{answer, answers}
+use Rattle.rules.specs.Queues.{afterLine, afterLines}
 use Rattle.rules.specs.Theorems.{InRange}
-use Rattle.rules.specs.Words.{Sound, encode, forestsOf, itemsIn}
+use Rattle.rules.specs.Words.{Sound, encode, queuesOf, forestsOf, itemsIn}
 use Rattle.text.specs.Lines.{lines}
 use Rattle.text.specs.Output.{Wrote}
 use Rattle.lines.specs.Parse.{linesOf}
@@ -21,9 +22,9 @@ pub record Answerable (w out : List ℕ) (at : ℕ) (line : Line) : Type 0 where
   pub room : at + 32 ≤ length out
   pub range : InRange line
 
--- the words of the forests after the line, and its answer in the output
+-- the words of the queues after the line, and its answer in the output
 pub record Answered (w out : List ℕ) (at : ℕ) (line : Line) (r : ℕ) (w′ out′ : List ℕ) : Type 0 where
-  pub words : w′ ≡ encode ((answer (forestsOf w) line) .next)
+  pub words : w′ ≡ encode (afterLine (queuesOf w) line)
   pub wrote : Wrote out at (answerRow ((answer (forestsOf w) line) .reply)) out′ r
 
 -- A sound store, and an output with room for every line.
@@ -31,9 +32,9 @@ pub record Runnable (w sheet out : List ℕ) : Type 0 where
   pub sound : Sound w
   pub room : 32 * length (lines sheet) ≤ length out
 
--- the words of the forests after all lines, and their answers at the start of the output
+-- the words of the queues after all lines, and their answers at the start of the output
 pub record RanLines (w sheet out : List ℕ) (r : ℕ) (w′ out′ : List ℕ) : Type 0 where
-  pub words : w′ ≡ encode (after (forestsOf w) (linesOf sheet))
+  pub words : w′ ≡ encode (afterLines (queuesOf w) (linesOf sheet))
   pub wrote : Wrote out 0 (printed (answers (forestsOf w) (linesOf sheet))) out′ r
 
 -- the first of the codes 1 to 4 whose condition is met; 0, and then the number of items and the number of lines

@@ -8,9 +8,9 @@ use lib.ListN.{length}
 use lib.Seq.{sets}
 use lib.Dec.{ltb}
 use Rattle.rules.specs.declared.Line.{Line}
-use Rattle.rules.specs.Forests.{Forests, empty}
-use Rattle.rules.specs.Answers.{answers, after}
-use Rattle.rules.specs.Words.{itemsIn, isStore, encode, forestsOf}
+use Rattle.rules.specs.Answers.{answers}
+use Rattle.rules.specs.Queues.{Queues, emptyQueues, afterLines}
+use Rattle.rules.specs.Words.{itemsIn, isStore, encode, queuesOf}
 use Rattle.soundness.specs.Check.{soundWords}
 use Rattle.text.specs.Lines.{lines}
 use Rattle.lines.specs.Parse.{linesOf}
@@ -37,16 +37,16 @@ limitCode store sheet out =
 unfoldable pub refusedRun : ℕ → List ℕ → List ℕ → Run
 refusedRun code store out = record { code = code; lines = 0; bytes = 0; store = store; out = out }
 
--- The lines ls answered from the forests s on: the store has the words of the forests after them, the output begins
--- with the answers and is untouched beyond.
-unfoldable pub doneRun : Forests → List Line → List ℕ → Run
-doneRun s ls out =
+-- The lines ls answered from the queues q on: the store has the words of the queues after them, the output begins with
+-- the answers and is untouched beyond.
+unfoldable pub doneRun : Queues → List Line → List ℕ → Run
+doneRun q ls out =
     record {
       code = 0;
       lines = length ls;
-      bytes = length (printed (answers s ls));
-      store = encode (after s ls);
-      out = sets out 0 (printed (answers s ls));
+      bytes = length (printed (answers (q .forests) ls));
+      store = encode (afterLines q ls);
+      out = sets out 0 (printed (answers (q .forests) ls));
     }
 
 unfoldable pub unlessLimit : ℕ → List ℕ → List ℕ → Run → Run
@@ -56,13 +56,13 @@ unlessLimit (suc code) store out run = refusedRun (suc code) store out
 -- A fresh run starts from the empty store, whatever words it finds.
 unfoldable pub freshRun : List ℕ → List ℕ → List ℕ → Run
 freshRun store sheet out =
-    unlessLimit (limitCode store sheet out) store out (doneRun (empty (itemsIn store)) (linesOf sheet) out)
+    unlessLimit (limitCode store sheet out) store out (doneRun (emptyQueues (itemsIn store)) (linesOf sheet) out)
 
 -- A kept run goes on from the store that it finds; after the limits comes code 5, for words that are not sound.
 unfoldable pub keptRun : List ℕ → List ℕ → List ℕ → Run
 keptRun store sheet out =
     unlessLimit (limitCode store sheet out) store out
-    (cond (not (soundWords store)) (refusedRun 5 store out) (doneRun (forestsOf store) (linesOf sheet) out))
+    (cond (not (soundWords store)) (refusedRun 5 store out) (doneRun (queuesOf store) (linesOf sheet) out))
 
 -- A run that answers r and leaves these words and these bytes did all that the definition says.
 pub record Leaves (run : Run) (r : Ran) (store out : List ℕ) : Type 0 where

@@ -9,6 +9,7 @@ use Rattle.rules.specs.declared.Line.{Line}
 use Rattle.rules.specs.Forests.{Forests, empty, potential}
 use Rattle.rules.specs.Answers.{answers}
 use Rattle.rules.specs.Ledger.{allowed, movesIn}
+use Rattle.rules.specs.Queues.{emptyQueues}
 use Rattle.rules.specs.Words.{Sound, encode, itemsIn, forestsOf}
 use Rattle.text.specs.Lines.{closed}
 use Rattle.lines.specs.Parse.{linesOf}
@@ -24,8 +25,8 @@ pub record Bounded (run : Run) : Type 0 where
 abbrev pub RunsBounded : Type 0
 RunsBounded = (store sheet out : List ℕ) → Bounded (freshRun store sheet out) × Bounded (keptRun store sheet out)
 
--- Only the calls of a sheet count: sheets whose lines yield the same, as where only zeros before numbers differ (`lines`
--- `PaddedLine`), have the same runs, where both are within the limits.
+-- Only the calls of a sheet count: sheets whose lines yield the same, as where only zeros before numbers differ
+-- (`lines` `PaddedLine`), have the same runs, where both are within the limits.
 abbrev pub SameCalls : Type 0
 SameCalls =
     (store a b out : List ℕ) → linesOf a ≡ linesOf b → limitCode store a out ≡ 0 → limitCode store b out ≡ 0
@@ -61,8 +62,8 @@ KeptContinues =
 abbrev pub FreshIsKept : Type 0
 FreshIsKept =
     (store sheet out : List ℕ) → limitCode store sheet out ≡ 0
-    → Sound (encode (empty (itemsIn store)))
-    × (freshRun store sheet out ≡ keptRun (encode (empty (itemsIn store))) sheet out)
+    → Sound (encode (emptyQueues (itemsIn store)))
+    × (freshRun store sheet out ≡ keptRun (encode (emptyQueues (itemsIn store))) sheet out)
 
 -- Demand 3, said of what was written. The lines ls were answered from the forests `start` on, and the runs that
 -- answered them wrote the bytes `written`.

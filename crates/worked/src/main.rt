@@ -41,7 +41,7 @@ fn show_word(s: &[u32], f: Field, i: u32, end: u8)
     print(get(s, 9, f, i), end);
 }
 
-// The four words of each heap, a line for each.
+// The five words of each heap, a line for each.
 fn show_heaps(s: &[u32])
     requires { ⌜ Sized 9 (now s) ⌝ }
 {
@@ -49,7 +49,8 @@ fn show_heaps(s: &[u32])
         show_word(s, Field::FirstTree, h, b' ');
         show_word(s, Field::LastTree, h, b' ');
         show_word(s, Field::Minimum, h, b' ');
-        show_word(s, Field::Count, h, b'\n');
+        show_word(s, Field::Count, h, b' ');
+        show_word(s, Field::Amount, h, b'\n');
     }
 }
 
