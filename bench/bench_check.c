@@ -47,8 +47,8 @@ static void stir(void)
 {
     int len = 0;
     for (uint32_t i = 0; i < full.items / 64; i++) {
-        uint32_t item = draw(full.items);
-        len += sprintf(sheet + len, "D,%u,%u\n", item, full.key[item] - draw(full.key[item] / 4 + 1));
+        uint32_t item = draw(full.items), key = key_of(&full, full.heap[0].amount, item);
+        len += sprintf(sheet + len, "D,%u,%u\n", item, key - draw(key / 4 + 1));
     }
     run_kept(len);
     run_kept(sprintf(sheet, "T,0\nI,0,%u,%u\n", full.heap[0].minimum, draw(KEYS)));

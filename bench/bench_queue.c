@@ -133,6 +133,8 @@ void bench_queue(void)
     compare("busy sheet", SIDES, true);
     make_calls_sheet(&sheet);
     compare("insert, take, lower, short numbers", SIDES, false);
+    make_raises_sheet(&sheet);
+    compare("busy sheet with raises", SIDES, false);
     make_text_sheet(&sheet);
     compare("reading and printing alone", own_sides(), false);
 }

@@ -20,25 +20,54 @@
 
 namespace {
 
+/* An item's key less the amount of its heap. Neither wraps, so that what was put into a heap stays in order when the heap
+   is raised; the sums of a sheet's 2,000 raises are far below ZERO. */
+typedef int64_t rest;
+
+enum { ITEM_BITS = 8 };
+const rest ZERO = rest{1} << 50;
+
 /* Item order in one number: the smaller key, then the smaller item. */
-uint64_t order_of(uint32_t item, uint32_t key) { return uint64_t{key} << 32 | item; }
-uint32_t item_of(uint64_t order) { return uint32_t(order); }
-uint32_t key_of(uint64_t order) { return uint32_t(order >> 32); }
+uint64_t order_of(uint32_t item, rest key) { return uint64_t(ZERO + key) << ITEM_BITS | item; }
+uint32_t item_of(uint64_t order) { return uint32_t(order & (MODEM_ITEMS - 1)); }
+rest rest_of(uint64_t order) { return rest(order >> ITEM_BITS) - ZERO; }
 
 /* Eight heaps of one library, and what refusals need to know. */
 template <class Heap> struct queue_of {
     Heap heap[HEAPS];
     uint8_t home[MODEM_ITEMS]; /* 0 for a free item, else 1 + its heap */
-    uint32_t key[MODEM_ITEMS];
+    rest less[MODEM_ITEMS], amount[HEAPS];
 
     void make_empty()
     {
         for (Heap &one : heap)
             one.make_empty();
         memset(home, 0, sizeof home);
+        memset(amount, 0, sizeof amount);
     }
 
-    Heap &heap_of(uint32_t item) { return heap[home[item] - 1]; }
+    uint32_t heap_of(uint32_t item) const { return home[item] - 1; }
+    bool is_in(uint32_t h, uint32_t item) const { return home[item] == 1 + h; }
+    uint32_t key_of(uint32_t item) const { return uint32_t(less[item] + amount[heap_of(item)]); }
+
+    /* No branch in the pass depends on an item, as in plain C. */
+    uint32_t largest_key(uint32_t h) const
+    {
+        uint32_t largest = 0;
+        for (uint32_t item = 0; item < MODEM_ITEMS; item++) {
+            uint32_t key = uint32_t(less[item] + amount[h]) & -uint32_t(is_in(h, item));
+            largest = key > largest ? key : largest;
+        }
+        return largest;
+    }
+
+    void let_go(uint32_t item)
+    {
+        uint32_t h = heap_of(item);
+        home[item] = 0;
+        if (heap[h].size() == 0)
+            amount[h] = 0;
+    }
 };
 
 template <class Heap> answer call_insert(queue_of<Heap> *q, uint32_t h, uint32_t item, uint32_t key)
@@ -49,9 +78,9 @@ template <class Heap> answer call_insert(queue_of<Heap> *q, uint32_t h, uint32_t
         return refused(8);
     if (q->home[item] != 0)
         return refused(9);
-    q->heap[h].push(item, order_of(item, key));
     q->home[item] = uint8_t(1 + h);
-    q->key[item] = key;
+    q->less[item] = key - q->amount[h];
+    q->heap[h].push(item, order_of(item, q->less[item]));
     return done(item, key, 0, 0);
 }
 
@@ -62,7 +91,7 @@ template <class Heap> answer call_find_min(queue_of<Heap> *q, uint32_t h)
     if (q->heap[h].size() == 0)
         return refused(12);
     uint64_t first = q->heap[h].top();
-    return done(item_of(first), key_of(first), 0, 0);
+    return done(item_of(first), uint32_t(rest_of(first) + q->amount[h]), 0, 0);
 }
 
 template <class Heap> answer call_extract_min(queue_of<Heap> *q, uint32_t h)
@@ -70,7 +99,7 @@ template <class Heap> answer call_extract_min(queue_of<Heap> *q, uint32_t h)
     answer first = call_find_min(q, h);
     if (first.code == 0) {
         q->heap[h].pop();
-        q->home[first.item] = 0;
+        q->let_go(first.item);
     }
     return first;
 }
@@ -81,10 +110,11 @@ template <class Heap> answer call_decrease_key(queue_of<Heap> *q, uint32_t item,
         return refused(8);
     if (q->home[item] == 0)
         return refused(10);
-    if (key > q->key[item])
+    if (key > q->key_of(item))
         return refused(11);
-    q->heap_of(item).lower(item, order_of(item, key));
-    q->key[item] = key;
+    uint32_t h = q->heap_of(item);
+    q->less[item] = key - q->amount[h];
+    q->heap[h].lower(item, order_of(item, q->less[item]));
     return done(item, key, 0, 0);
 }
 
@@ -94,9 +124,19 @@ template <class Heap> answer call_delete(queue_of<Heap> *q, uint32_t item)
         return refused(8);
     if (q->home[item] == 0)
         return refused(10);
-    q->heap_of(item).erase(item);
-    q->home[item] = 0;
-    return done(item, q->key[item], 0, 0);
+    answer gone = done(item, q->key_of(item), 0, 0);
+    q->heap[q->heap_of(item)].erase(item);
+    q->let_go(item);
+    return gone;
+}
+
+/* Puts all of a heap into another, where their orders differ by the amounts. */
+template <class Heap> void take_one_by_one(Heap &into, Heap &from, rest more)
+{
+    for (; from.size() != 0; from.pop()) {
+        uint32_t item = item_of(from.top());
+        into.push(item, order_of(item, rest_of(from.top()) + more));
+    }
 }
 
 template <class Heap> answer call_meld(queue_of<Heap> *q, uint32_t into, uint32_t from)
@@ -105,11 +145,28 @@ template <class Heap> answer call_meld(queue_of<Heap> *q, uint32_t into, uint32_
         return refused(7);
     if (into == from)
         return refused(13);
-    q->heap[into].take_all(q->heap[from]);
-    for (uint8_t &home : q->home)
-        if (home == 1 + from)
-            home = uint8_t(1 + into);
+    rest more = q->amount[from] - q->amount[into];
+    q->heap[into].take_all(q->heap[from], more);
+    for (uint32_t item = 0; item < MODEM_ITEMS; item++)
+        if (q->is_in(from, item)) {
+            q->home[item] = uint8_t(1 + into);
+            q->less[item] += more;
+        }
+    q->amount[from] = 0;
     return done(into, q->heap[into].size(), 0, 0);
+}
+
+template <class Heap> answer call_raise(queue_of<Heap> *q, uint32_t h, uint32_t by)
+{
+    if (h >= HEAPS)
+        return refused(7);
+    uint32_t count = q->heap[h].size();
+    if (count > 0) {
+        if (by > UINT32_MAX - q->largest_key(h))
+            return refused(25);
+        q->amount[h] += by;
+    }
+    return done(h, count, 0, 0);
 }
 
 template <class Heap> uint32_t fresh_sheet(const uint8_t *sheet, size_t sheet_len, uint8_t *out, size_t out_len)
@@ -156,11 +213,7 @@ public:
     void erase(uint32_t item) { heap.erase(item); }
 
     /* LEMON joins no heaps, so the items go one by one. */
-    void take_all(lemon_heap &other)
-    {
-        for (; other.size() != 0; other.pop())
-            push(item_of(other.top()), other.top());
-    }
+    void take_all(lemon_heap &other, rest more) { take_one_by_one(*this, other, more); }
 };
 
 #define QUEUE queue_of<lemon_heap>
@@ -235,7 +288,15 @@ public:
     void pop() { heap.pop(); }
     void lower(uint32_t item, uint64_t order) { heap.increase(handle[item], order); }
     void erase(uint32_t item) { heap.erase(handle[item]); }
-    void take_all(boost_heap &other) { heap.merge(other.heap); }
+
+    /* A merge leaves orders as they are, so heaps of different amounts are not merged. */
+    void take_all(boost_heap &other, rest more)
+    {
+        if (more == 0)
+            heap.merge(other.heap);
+        else
+            take_one_by_one(*this, other, more);
+    }
 };
 
 boost_heap::heap_type::handle_type boost_heap::handle[MODEM_ITEMS];

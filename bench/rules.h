@@ -5,10 +5,12 @@
 #include "store.h"
 #include "text.h"
 
+static const heap_words empty_heap = { NONE, NONE, NONE, 0, 0 };
+
 static void make_empty(const store *s)
 {
     for (int h = 0; h < HEAPS; h++)
-        s->heap[h] = (heap_words){ NONE, NONE, NONE, 0 };
+        s->heap[h] = empty_heap;
     memset(s->key, 0, (size_t)s->items * ITEM_WORDS * sizeof *s->key);
 }
 
@@ -63,13 +65,13 @@ static inline void link_under(const store *s, uint32_t loser, uint32_t winner)
 }
 
 /* Gives a tree a place of its rank, linking it with each holder on the way. */
-static inline uint32_t climb(const store *s, uint32_t place[RANKS], uint32_t tree)
+static inline uint32_t climb(const store *s, uint32_t amount, uint32_t place[RANKS], uint32_t tree)
 {
     uint32_t links = 0, rank = s->rank[tree];
     while (place[rank] != NONE) {
         uint32_t holder = place[rank];
         place[rank] = NONE;
-        if (precedes(s, tree, holder)) {
+        if (precedes(s, amount, tree, holder)) {
             link_under(s, holder, tree);
         } else {
             link_under(s, tree, holder);
@@ -99,7 +101,7 @@ static inline void row_from_places(const store *s, uint32_t h, const uint32_t pl
         else
             s->next[last] = tree;
         last = tree;
-        if (minimum == NONE || precedes(s, tree, minimum))
+        if (minimum == NONE || precedes(s, heap->amount, tree, minimum))
             minimum = tree;
     }
     if (last != NONE)
@@ -108,25 +110,26 @@ static inline void row_from_places(const store *s, uint32_t h, const uint32_t pl
     heap->minimum = minimum;
 }
 
-/* Removes the minimum and links the rest of the row and then the children of the minimum. */
+/* Removes the minimum and links the rest of the row and then the children of the minimum. An empty heap's amount is 0. */
 static uint32_t extract_min(const store *s, uint32_t h)
 {
     heap_words *heap = &s->heap[h];
-    uint32_t place[RANKS], links = 0, taken = heap->minimum, next;
+    uint32_t place[RANKS], links = 0, amount = heap->amount, taken = heap->minimum, next;
     for (int rank = 0; rank < RANKS; rank++)
         place[rank] = NONE;
     for (uint32_t tree = heap->first; tree != NONE; tree = next) {
         next = s->next[tree];
         if (tree != taken)
-            links += climb(s, place, tree);
+            links += climb(s, amount, place, tree);
     }
     for (uint32_t tree = s->first_child[taken]; tree != NONE; tree = next) {
         next = s->next[tree];
         s->state[tree] = unmarked(h);
-        links += climb(s, place, tree);
+        links += climb(s, amount, place, tree);
     }
     row_from_places(s, h, place);
-    heap->count--;
+    if (--heap->count == 0)
+        heap->amount = 0;
     free_item(s, taken);
     return links;
 }
@@ -134,11 +137,11 @@ static uint32_t extract_min(const store *s, uint32_t h)
 static inline void insert(const store *s, uint32_t h, uint32_t item, uint32_t key)
 {
     heap_words *heap = &s->heap[h];
-    s->key[item] = key;
+    s->key[item] = key - heap->amount;
     s->first_child[item] = s->last_child[item] = NONE;
     s->rank[item] = 0;
     append_root(s, h, item);
-    if (heap->minimum == NONE || precedes(s, item, heap->minimum))
+    if (heap->minimum == NONE || precedes(s, heap->amount, item, heap->minimum))
         heap->minimum = item;
     heap->count++;
 }
@@ -166,11 +169,11 @@ static inline uint32_t cascading_cut(const store *s, uint32_t h, uint32_t item)
 
 static inline uint32_t decrease_key(const store *s, uint32_t item, uint32_t key)
 {
-    uint32_t h = heap_of(s, item), parent = s->parent[item], cuts = 0;
-    s->key[item] = key;
-    if (parent != NONE && precedes(s, item, parent))
+    uint32_t h = heap_of(s, item), amount = s->heap[h].amount, parent = s->parent[item], cuts = 0;
+    s->key[item] = key - amount;
+    if (parent != NONE && precedes(s, amount, item, parent))
         cuts = cascading_cut(s, h, item);
-    if (precedes(s, item, s->heap[h].minimum))
+    if (precedes(s, amount, item, s->heap[h].minimum))
         s->heap[h].minimum = item;
     return cuts;
 }
@@ -192,26 +195,41 @@ static uint32_t delete_other(const store *s, uint32_t h, uint32_t item)
     return cuts;
 }
 
+/* The items that come keep their keys under the amount of the heap that they come into. */
 static void meld(const store *s, uint32_t into, uint32_t from)
 {
     heap_words *a = &s->heap[into], *b = &s->heap[from];
     if (b->count == 0)
         return;
-    uint32_t turn = 2 * into - 2 * from;
+    uint32_t turn = 2 * into - 2 * from, more = b->amount - a->amount;
     for (uint32_t item = 0; item < s->items; item++)
-        if (s->state[item] != 0 && heap_of(s, item) == from)
+        if (is_in(s, from, item)) {
             s->state[item] += turn;
+            s->key[item] += more;
+        }
     if (a->count == 0) {
         *a = *b;
+        a->amount = 0;
     } else {
         s->next[a->last] = b->first;
         s->previous[b->first] = a->last;
         a->last = b->last;
-        if (precedes(s, b->minimum, a->minimum))
+        if (precedes(s, a->amount, b->minimum, a->minimum))
             a->minimum = b->minimum;
         a->count += b->count;
     }
-    *b = (heap_words){ NONE, NONE, NONE, 0 };
+    *b = empty_heap;
+}
+
+/* The largest key of a heap, 0 if it is empty. No branch in the pass depends on an item. */
+static uint32_t largest_key(const store *s, uint32_t h)
+{
+    uint32_t amount = s->heap[h].amount, largest = 0;
+    for (uint32_t item = 0; item < s->items; item++) {
+        uint32_t key = key_of(s, amount, item) & -(uint32_t)is_in(s, h, item);
+        largest = key > largest ? key : largest;
+    }
+    return largest;
 }
 
 /* One call each: refusals in the order of their codes, then the work. */
@@ -235,7 +253,7 @@ static inline answer call_find_min(const store *s, uint32_t h)
     uint32_t item = s->heap[h].minimum;
     if (item == NONE)
         return refused(12);
-    return done(item, s->key[item], 0, 0);
+    return done(item, key_of(s, s->heap[h].amount, item), 0, 0);
 }
 
 static inline answer call_extract_min(const store *s, uint32_t h)
@@ -252,7 +270,7 @@ static inline answer call_decrease_key(const store *s, uint32_t item, uint32_t k
         return refused(8);
     if (s->state[item] == 0)
         return refused(10);
-    if (key > s->key[item])
+    if (key > key_of(s, s->heap[heap_of(s, item)].amount, item))
         return refused(11);
     return done(item, key, 0, decrease_key(s, item, key));
 }
@@ -264,7 +282,7 @@ static inline answer call_delete(const store *s, uint32_t item)
     if (s->state[item] == 0)
         return refused(10);
     uint32_t h = heap_of(s, item);
-    answer a = done(item, s->key[item], 0, 0);
+    answer a = done(item, key_of(s, s->heap[h].amount, item), 0, 0);
     if (s->heap[h].minimum == item)
         a.links = extract_min(s, h);
     else
@@ -280,6 +298,19 @@ static inline answer call_meld(const store *s, uint32_t into, uint32_t from)
         return refused(13);
     meld(s, into, from);
     return done(into, s->heap[into].count, 0, 0);
+}
+
+static inline answer call_raise(const store *s, uint32_t h, uint32_t by)
+{
+    if (h >= HEAPS)
+        return refused(7);
+    uint32_t count = s->heap[h].count;
+    if (count > 0) {
+        if (by > UINT32_MAX - largest_key(s, h))
+            return refused(25);
+        s->heap[h].amount += by;
+    }
+    return done(h, count, 0, 0);
 }
 
 #endif

@@ -1,4 +1,4 @@
-/* The run of a sheet over QUEUE, which has the six calls by now. Included once for each kind of queue. */
+/* The run of a sheet over QUEUE, which has the seven calls by now. Included once for each kind of queue. */
 
 static inline answer answer_line(QUEUE *queue, const uint8_t **p, const uint8_t *end)
 {
@@ -16,6 +16,8 @@ static inline answer answer_line(QUEUE *queue, const uint8_t **p, const uint8_t 
         return call_delete(queue, field[0]);
     case 'J':
         return call_meld(queue, field[0], field[1]);
+    case 'A':
+        return call_raise(queue, field[0], field[1]);
     }
     return refused(6);
 }

@@ -56,8 +56,11 @@ static void let_go(uint32_t item)
 
 /* Parts of a hundred, one after the other; what is left are shows. */
 typedef struct {
-    uint32_t insertions, takings, lowerings, deletions, key_limit;
+    uint32_t insertions, takings, lowerings, deletions, raises, key_limit;
 } mix;
+
+/* So small that no sum of them and a key passes the largest number. */
+enum { RAISE_LIMIT = 1000000 };
 
 static void add_insertion(sheet_text *sheet, const mix *m)
 {
@@ -66,25 +69,50 @@ static void add_insertion(sheet_text *sheet, const mix *m)
     add_line(sheet, "I,0,%u,%u\n", item, keys[item]);
 }
 
+static void add_taking(sheet_text *sheet)
+{
+    let_go(first_item());
+    add_line(sheet, "T,0\n");
+}
+
+static void add_lowering(sheet_text *sheet)
+{
+    uint32_t item = draw_item(true);
+    keys[item] -= draw(keys[item] / 4 + 1);
+    add_line(sheet, "D,%u,%u\n", item, keys[item]);
+}
+
+static void add_deletion(sheet_text *sheet)
+{
+    uint32_t item = draw_item(true);
+    let_go(item);
+    add_line(sheet, "X,%u\n", item);
+}
+
+static void add_raise(sheet_text *sheet)
+{
+    uint32_t by = draw(RAISE_LIMIT);
+    for (uint32_t item = 0; item < MODEM_ITEMS; item++)
+        keys[item] += by;
+    add_line(sheet, "A,0,%u\n", by);
+}
+
 static void add_call(sheet_text *sheet, const mix *m)
 {
-    uint32_t kind = draw(100), item;
-    if (held_count == 0 || (kind < m->insertions && held_count < MODEM_ITEMS)) {
+    uint32_t kind = draw(100), takings = m->insertions + m->takings, lowerings = takings + m->lowerings;
+    uint32_t deletions = lowerings + m->deletions;
+    if (held_count == 0 || (kind < m->insertions && held_count < MODEM_ITEMS))
         add_insertion(sheet, m);
-    } else if (kind < m->insertions + m->takings) {
-        let_go(first_item());
-        add_line(sheet, "T,0\n");
-    } else if (kind < m->insertions + m->takings + m->lowerings) {
-        item = draw_item(true);
-        keys[item] -= draw(keys[item] / 4 + 1);
-        add_line(sheet, "D,%u,%u\n", item, keys[item]);
-    } else if (kind < m->insertions + m->takings + m->lowerings + m->deletions) {
-        item = draw_item(true);
-        let_go(item);
-        add_line(sheet, "X,%u\n", item);
-    } else {
+    else if (kind < takings)
+        add_taking(sheet);
+    else if (kind < lowerings)
+        add_lowering(sheet);
+    else if (kind < deletions)
+        add_deletion(sheet);
+    else if (kind < deletions + m->raises)
+        add_raise(sheet);
+    else
         add_line(sheet, "M,0\n");
-    }
 }
 
 static void make_sheet(sheet_text *sheet, const mix *m)
@@ -100,8 +128,9 @@ static void make_sheet(sheet_text *sheet, const mix *m)
         add_call(sheet, m);
 }
 
-void make_busy_sheet(sheet_text *sheet) { make_sheet(sheet, &(mix){ 30, 20, 40, 5, 1000000000 }); }
-void make_calls_sheet(sheet_text *sheet) { make_sheet(sheet, &(mix){ 30, 30, 40, 0, 100 }); }
+void make_busy_sheet(sheet_text *sheet) { make_sheet(sheet, &(mix){ 30, 20, 40, 5, 0, 1000000000 }); }
+void make_calls_sheet(sheet_text *sheet) { make_sheet(sheet, &(mix){ 30, 30, 40, 0, 0, 100 }); }
+void make_raises_sheet(sheet_text *sheet) { make_sheet(sheet, &(mix){ 30, 20, 30, 5, 10, 1000000000 }); }
 
 void make_text_sheet(sheet_text *sheet)
 {
@@ -113,10 +142,11 @@ void make_text_sheet(sheet_text *sheet)
 
 static void add_mixed_line(sheet_text *sheet)
 {
-    static const char *const no_calls[] = { "", "I,0,1", "T,-7", "D,1,4294967296", "X,1,", "Q,1", "M,0\r" };
+    static const char *const no_calls[] = { "", "I,0,1", "T,-7", "D,1,4294967296", "X,1,", "A,1", "M,0\r" };
+    static const uint32_t raises[] = { 0, 1, 50, 1000, 4294967195, 4294967294, 4294967295 };
     uint32_t heap = draw(9), item = draw(260), key = draw(100);
     int digits = draw(4) == 0 ? 1 + (int)draw(11) : 1; /* with zeros before shorter numbers; eleven make no call */
-    switch (draw(8)) {
+    switch (draw(9)) {
     case 0:
         add_line(sheet, "%s\n", no_calls[draw(7)]);
         break;
@@ -134,6 +164,9 @@ static void add_mixed_line(sheet_text *sheet)
         break;
     case 5:
         add_line(sheet, "D,%u,%0*u\n", item, digits, key / 2);
+        break;
+    case 6:
+        add_line(sheet, "A,%u,%0*u\n", heap, digits, raises[draw(7)]);
         break;
     default:
         add_line(sheet, "I,%u,%0*u,%0*u\n", heap, digits, item, digits, key);

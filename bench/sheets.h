@@ -18,6 +18,9 @@ void make_busy_sheet(sheet_text *sheet);
 /* Half of the items inserted, then 30 % insertions, 30 % takings, 40 % lowerings; keys of one or two digits. */
 void make_calls_sheet(sheet_text *sheet);
 
+/* The busy sheet with a raise of heap 0 on 10 % of the lines, instead of as many lowerings. */
+void make_raises_sheet(sheet_text *sheet);
+
 /* Long numbers in and out and next to no work in the queue: one item lowered to the key that it has. */
 void make_text_sheet(sheet_text *sheet);
 

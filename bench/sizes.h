@@ -5,7 +5,7 @@
 enum {
     HEAPS = 8,
     RANKS = 17,
-    HEAP_WORDS = 4 * HEAPS,
+    HEAP_WORDS = 5 * HEAPS,
     ITEM_WORDS = 8,
     MODEM_ITEMS = 256,
     MAX_ITEMS = 4096,

@@ -9,9 +9,9 @@
 
 #define NONE UINT32_MAX
 
-/* The four words of a heap. */
+/* The five words of a heap. An item's key is its key word and the amount of its heap, added with wrapping. */
 typedef struct {
-    uint32_t first, last, minimum, count;
+    uint32_t first, last, minimum, count, amount;
 } heap_words;
 
 /* The blocks of a store. */
@@ -29,15 +29,21 @@ static inline store store_at(uint32_t *words, uint32_t items)
                     block + 4 * items, block + 5 * items, block + 6 * items, block + 7 * items };
 }
 
-/* Item order: the smaller key, then the smaller number, in one comparison. */
-static inline bool precedes(const store *s, uint32_t a, uint32_t b)
+/* The key of an item in a heap of the amount. */
+static inline uint32_t key_of(const store *s, uint32_t amount, uint32_t item) { return s->key[item] + amount; }
+
+/* Item order in a heap of the amount: the smaller key, then the smaller number, in one comparison. */
+static inline bool precedes(const store *s, uint32_t amount, uint32_t a, uint32_t b)
 {
-    uint64_t order_a = (uint64_t)s->key[a] << 32 | a, order_b = (uint64_t)s->key[b] << 32 | b;
+    uint64_t order_a = (uint64_t)key_of(s, amount, a) << 32 | a, order_b = (uint64_t)key_of(s, amount, b) << 32 | b;
     return order_a < order_b;
 }
 
 static inline uint32_t unmarked(uint32_t heap) { return 1 + 2 * heap; }
 static inline uint32_t heap_of(const store *s, uint32_t item) { return (s->state[item] - 1) >> 1; }
 static inline bool is_marked(const store *s, uint32_t item) { return (s->state[item] & 1) == 0; }
+
+/* What heap_of gives for a free item is no heap. */
+static inline bool is_in(const store *s, uint32_t heap, uint32_t item) { return heap_of(s, item) == heap; }
 
 #endif

@@ -62,6 +62,7 @@ static inline int field_count(uint8_t letter)
         return 3;
     case 'D':
     case 'J':
+    case 'A':
         return 2;
     case 'M':
     case 'T':

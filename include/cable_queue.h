@@ -6,13 +6,27 @@
  * under a code what it can't accept. A refused call changes nothing but its figures, which are then zeros. Nothing is
  * allocated and nothing is kept between calls.
  *
- * A store for N items, N from 0 to 4,096, is 32 + 8N words, and its length says what N is.
+ * A store for N items, N from 0 to 4,096, is 40 + 8N words, and its length says what N is. First come five words for each
+ * of the heaps 0 to 7: first tree, last tree, first item, item count and amount. Then come N words of each kind: key,
+ * parent, first child, last child, next sibling, previous sibling, rank and state.
+ *
+ * The amount of a heap is what its key words lack: an item's key is its key word plus the amount of its heap, and of the
+ * sum 32 bits count. So a raise changes one word of the store, and key words alone tell neither keys nor their order. A
+ * heap that has items may have any amount; that of an empty heap is 0. Keys in sheets and answers are the keys themselves.
+ *
+ * Calls, one on each line of a sheet:
+ *   I,h,i,k  puts item i into heap h with key k      D,i,k  lowers the key of item i to k
+ *   M,h      shows the first item of heap h          X,i    deletes item i
+ *   T,h      takes it                                J,a,b  joins heap b into heap a
+ *   A,h,d    adds d to all keys of heap h
+ * A line is answered with its code, two numbers, links and cuts. The numbers are an item and its key; of J they are a and
+ * its item count, of A they are h and its item count.
  *
  * A number in a sheet or a map text has one to ten digits, leading zeros among them, and is at most 4,294,967,295: `T,07`
  * takes from heap 7, while `T,-7` and `T,00000000007` are no calls. What is written has no leading zeros.
  *
  * Codes of a run, of a feed call and of the map reader, the first whose condition is met; 0 is done:
- *    1  the store is not 32 + 8N words
+ *    1  the store is not 40 + 8N words
  *    2  the sheet is over 60,000 bytes
  *    3  the sheet has over 2,000 lines
  *    4  the output has fewer than 32 bytes a line
@@ -21,7 +35,7 @@
  *   15  the start is not a place
  *   24  the minute is above 1,439
  *   16  the five span lists differ in length, or are over 16,384 long (feed calls) or too short (read_map)
- *   17  best, last or joints is not one word a place, or the store is not 32 + 8 words a place
+ *   17  best, last or joints is not one word a place, or the store is not 40 words and 8 a place
  *   22  the place list is shorter than the number of places (feed_budget)
  *   18  a span names no place
  *   19  a span's loss is not from 1 to 1,000,000
@@ -30,11 +44,13 @@
  *   21  the map text is over 60,000 bytes, or malformed
  * Of faulty spans the first one in the lists decides, under the first of 18, 19, 20 and 23 that it meets.
  *
- * Codes of a line, which stand in its answer:
- *    6  not a call             10  the item is in no heap
- *    7  heap above 7           11  the key is larger than before
- *    8  item N or above        12  the heap is empty
- *    9  the item is in a heap  13  a heap is joined to itself */
+ * Codes of a line, which stand in its answer, the first whose condition is met:
+ *    6  not a call             11  the key is larger than before
+ *    7  heap above 7           12  the heap is empty
+ *    8  item N or above        25  the raise would carry a key above 4,294,967,295
+ *    9  the item is in a heap  13  a heap is joined to itself
+ *   10  the item is in no heap
+ * An empty heap has no key that could be carried too far, so A on it is done for every d. */
 #ifndef CABLE_QUEUE_H
 #define CABLE_QUEUE_H
 
@@ -51,7 +67,10 @@ extern "C" {
 /* The word of a feed table that is no loss, no span and no number of spans, and of a store's links that is no item. */
 #define CABLE_QUEUE_NONE UINT32_MAX
 
-/* Runs a sheet fresh on 256 items, in 2,080 words of its own on the stack. Returns the number of bytes written to out, or
+/* The number of words of a store for so many items. */
+#define CABLE_QUEUE_STORE_WORDS(items) (40 + 8 * (items))
+
+/* Runs a sheet fresh on 256 items, in 2,088 words of its own on the stack. Returns the number of bytes written to out, or
  * CABLE_QUEUE_REFUSED + code, with a code from 2 to 4. Output beyond the bytes written stays as it was. */
 uint32_t queue_run(const uint8_t *sheet, size_t sheet_len, uint8_t *out, size_t out_len);
 

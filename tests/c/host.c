@@ -4,8 +4,10 @@
 #include "check.h"
 
 #define ITEMS 16
-#define STORE(items) (32 + 8 * (items))
+#define STORE(items) (40 + 8 * (items))
+#define OLD_STORE(items) (32 + 8 * (items)) /* of four words a heap */
 #define COUNT_OF_HEAP_0 3 /* the word */
+#define AMOUNT_OF(heap) (5 * (heap) + 4)
 #define FILL 0xA5A5A5A5u
 
 typedef struct {
@@ -150,9 +152,9 @@ static void try_worked_runs(void) {
                    "0,8,80,0,0\n0,0,0,7,0\n0,8,5,0,1\n0,6,4,0,1\n0,7,3,0,2\n0,3,30,0,1\n"));
     expect("run (h), kept on (g)", answers(kept_run, store, "T,0\n", "0,7,3,3,0\n"));
     expect("every code of a line",
-           answers(fresh_run, store, "T,-7\nJ,9,9\nX,16\nI,0,1,5\nI,0,1,5\nX,0\nD,1,6\nT,1\nJ,2,2\n",
+           answers(fresh_run, store, "T,-7\nJ,9,9\nX,16\nI,0,1,5\nI,0,1,5\nX,0\nD,1,6\nT,1\nA,0,4294967291\nJ,2,2\n",
                    "6,0,0,0,0\n7,0,0,0,0\n8,0,0,0,0\n0,1,5,0,0\n9,0,0,0,0\n10,0,0,0,0\n11,0,0,0,0\n12,0,0,0,0\n"
-                   "13,0,0,0,0\n"));
+                   "25,0,0,0,0\n13,0,0,0,0\n"));
     expect("zeros before numbers, none in the answers",
            answers(fresh_run, store, "I,07,0000000003,0000000005\nM,007\nT,07\nT,0000000007\nM,0000000000\n",
                    "0,3,5,0,0\n0,3,5,0,0\n0,3,5,0,0\n12,0,0,0,0\n12,0,0,0,0\n"));
@@ -172,6 +174,60 @@ enum { KEY, PARENT, FIRST_CHILD, LAST_CHILD, NEXT, PREVIOUS, RANK, STATE };
 static uint32_t word_of(words store, int field, uint32_t item) {
     size_t items = (store.len - STORE(0)) / 8;
     return store.at[STORE(0) + (size_t)field * items + item];
+}
+
+/* Raises, each row a kept run on what the row before left: a sheet and its answers, and after it the key word of an item
+ * and the amount of a heap. */
+static const struct {
+    const char *what, *sheet, *answers;
+    uint32_t item, key_word, heap, amount;
+} raises[] = {
+    { "a raise", "I,0,1,5\nA,0,10\nM,0\n", "0,1,5,0,0\n0,0,1,0,0\n0,1,15,0,0\n", 1, 5, 0, 10 },
+    { "a key below the amount", "I,0,2,3\nM,0\n", "0,2,3,0,0\n0,2,3,0,0\n", 2, UINT32_MAX - 6, 0, 10 },
+    { "one too many: 25", "A,0,4294967281\nM,0\n", "25,0,0,0,0\n0,2,3,0,0\n", 1, 5, 0, 10 },
+    { "up to the largest key", "A,0,4294967280\nX,1\nM,0\n", "0,0,2,0,0\n0,1,4294967295,0,0\n0,2,4294967283,0,0\n", 2,
+      UINT32_MAX - 6, 0, UINT32_MAX - 5 },
+    { "lowered by key, not by word", "D,2,4294967284\nD,2,8\n", "11,0,0,0,0\n0,2,8,0,0\n", 2, 14, 0, UINT32_MAX - 5 },
+    { "an amount that wraps", "A,0,100\nM,0\n", "0,0,1,0,0\n0,2,108,0,0\n", 2, 14, 0, 94 },
+    { "joined into an unraised heap", "I,5,3,200\nJ,5,0\nM,5\n", "0,3,200,0,0\n0,5,2,0,0\n0,2,108,0,0\n", 2, 108, 5, 0 },
+    { "the heap that was joined", "A,0,9\nM,0\n", "0,0,0,0,0\n12,0,0,0,0\n", 2, 108, 0, 0 },
+    { "joined into a raised heap", "I,1,4,1\nA,1,7\nJ,1,5\nT,1\n", "0,4,1,0,0\n0,1,1,0,0\n0,1,3,0,0\n0,4,8,1,0\n", 2,
+      101, 1, 7 },
+    { "joined into an empty heap", "J,6,1\nA,6,1\n", "0,6,2,0,0\n0,6,2,0,0\n", 2, 108, 6, 1 },
+    { "emptied by T and by X", "T,6\nX,3\n", "0,2,109,0,0\n0,3,201,0,0\n", 3, 0, 6, 0 },
+    { "raises of empty heaps", "A,0,4294967295\nA,7,0\nA,8,0\n", "0,0,0,0,0\n0,7,0,0,0\n7,0,0,0,0\n", 0, 0, 0, 0 },
+    { "no raises: 6", "A,0\nA,0,1,2\nA,,1\nA,0,4294967296\n", "6,0,0,0,0\n6,0,0,0,0\n6,0,0,0,0\n6,0,0,0,0\n", 0, 0, 0, 0 },
+};
+
+static void try_raises(void) {
+    words store = filled(STORE(ITEMS)), empty = filled(STORE(ITEMS));
+    expect("empty runs", answers(fresh_run, store, "", "") && answers(fresh_run, empty, "", ""));
+    for (size_t i = 0; i < sizeof raises / sizeof *raises; i++) {
+        expect(raises[i].what, answers(kept_run, store, raises[i].sheet, raises[i].answers));
+        expect(raises[i].what, word_of(store, KEY, raises[i].item) == raises[i].key_word);
+        expect(raises[i].what, store.at[AMOUNT_OF(raises[i].heap)] == raises[i].amount);
+        expect(raises[i].what, store_sound(store.at, store.len) == 1);
+    }
+    expect("all amounts are 0 again", same_words(store, empty));
+    free(store.at);
+    free(empty.at);
+}
+
+/* The check of a store in which 1 and 2 stand in heap 3, 2 below 1: by keys, under any amount. */
+static void try_amounts(void) {
+    words store = filled(STORE(ITEMS));
+    expect("a linked heap", answers(fresh_run, store, "I,3,0,1\nI,3,1,4\nI,3,2,9\nT,3\n",
+                                    "0,0,1,0,0\n0,1,4,0,0\n0,2,9,0,0\n0,0,1,1,0\n"));
+    store.at[AMOUNT_OF(3)] = UINT32_MAX - 9;
+    expect("keys up to the largest: sound", store_sound(store.at, store.len) == 1);
+    expect("they are shown", answers(kept_run, store, "M,3\nA,3,1\n", "0,1,4294967290,0,0\n25,0,0,0,0\n"));
+    store.at[AMOUNT_OF(3)] = UINT32_MAX - 8;
+    expect("the key below wraps: not sound", store_sound(store.at, store.len) == 0 && refused(kept_run, 5, store, 1, 32));
+    store.at[AMOUNT_OF(3)] = UINT32_MAX - 3;
+    expect("both wrap: sound", answers(kept_run, store, "M,3\n", "0,1,0,0,0\n"));
+    store.at[AMOUNT_OF(4)] = 1;
+    expect("an amount on an empty heap: 5", store_sound(store.at, store.len) == 0 && refused(kept_run, 5, store, 1, 32));
+    free(store.at);
 }
 
 /* So many items, from the highest down, put into heap 0 with key 0. */
@@ -207,15 +263,18 @@ static void try_largest_store(void) {
 }
 
 static void try_refused_runs(void) {
-    words store = filled(STORE(ITEMS)), odd = filled(33);
+    words store = filled(STORE(ITEMS)), odd = filled(41), old = filled(OLD_STORE(0));
     expect("words of no store: 5", refused(kept_run, 5, store, 1, 32));
     expect("words of no store: not sound", store_sound(store.at, store.len) == 0);
-    expect("33 words: not sound", store_sound(odd.at, odd.len) == 0);
+    expect("41 words: not sound", store_sound(odd.at, odd.len) == 0);
+    expect("32 words: not sound", store_sound(old.at, old.len) == 0);
+    expect("the header's number of words", CABLE_QUEUE_STORE_WORDS(0) == 40 && CABLE_QUEUE_STORE_WORDS(256) == 2088);
     expect("no words: not sound", store_sound(odd.at, 0) == 0);
     expect("a fresh run", answers(fresh_run, store, worked_sheet, worked_answers));
     expect("its store: sound", store_sound(store.at, store.len) == 1);
 
-    expect("33 words: 1, before 2", refused(fresh_run, 1, odd, 60001, 0) && refused(kept_run, 1, odd, 60001, 0));
+    expect("41 words: 1, before 2", refused(fresh_run, 1, odd, 60001, 0) && refused(kept_run, 1, odd, 60001, 0));
+    expect("32 words: 1, before 2", refused(fresh_run, 1, old, 60001, 0) && refused(kept_run, 1, old, 60001, 0));
     expect("60,001 bytes: 2, before 3", refused(fresh_run, 2, store, 60001, 0) && refused(kept_run, 2, store, 60001, 0));
     expect("2,001 lines: 3, before 4", refused(fresh_run, 3, store, 2001, 0) && refused(kept_run, 3, store, 2001, 0));
     expect("31 bytes: 4", refused(fresh_run, 4, store, 1, 31) && refused(kept_run, 4, store, 1, 31));
@@ -226,6 +285,7 @@ static void try_refused_runs(void) {
     expect("item count 1, all free: 5, after 4", refused(kept_run, 5, store, 0, 0) && refused(kept_run, 4, store, 1, 0));
     free(store.at);
     free(odd.at);
+    free(old.at);
 }
 
 /* The feed table. */
@@ -521,6 +581,9 @@ static void try_refused_feeds(void) {
     EARLY("2 words of joints, 3 places: 17", joints_len, 2, 17);
     EARLY("4 words of joints, 3 places: 17", joints_len, 4, 17);
     EARLY("a store for 2, 3 places: 17", store_len, STORE(2), 17);
+    EARLY("a store of four words a heap: 17", store_len, OLD_STORE(3), 17);
+    EARLY("a word too few: 17", store_len, STORE(3) - 1, 17);
+    EARLY("a word too many: 17", store_len, STORE(3) + 1, 17);
     LATE("from 3 of 3: 18", from[2], 3, 18);
     LATE("to 3 of 3: 18", to[2], 3, 18);
     LATE("loss 0: 19", loss[1], 0, 19);
@@ -634,6 +697,8 @@ static void try_readings(void) {
 
 int main(void) {
     try_worked_runs();
+    try_raises();
+    try_amounts();
     try_largest_store();
     try_refused_runs();
     try_tables();

@@ -47,6 +47,12 @@ int main(void) {
     expect("zeros before numbers", answered("0,255,7,0,0\n0,255,7,0,0\n6,0,0,0,0\n",
                                             run_text("I,07,0000000255,007\nT,07\nT,00000000007\n", 96)));
 
+    expect("raises", answered("0,255,7,0,0\n0,7,1,0,0\n0,255,4294967295,0,0\n25,0,0,0,0\n0,255,4294967295,0,0\n",
+                              run_text("I,7,255,7\nA,7,4294967288\nM,7\nA,7,1\nT,7\n", 5 * 32)));
+    expect("a raise of an empty heap", answered("0,7,0,0,0\n", run_text("A,7,4294967295\n", 32)));
+    expect("raises that are no calls or name no heap",
+           answered("6,0,0,0,0\n6,0,0,0,0\n6,0,0,0,0\n7,0,0,0,0\n", run_text("A,0\nA,0,1,2\nA,,1\nA,8,0\n", 4 * 32)));
+
     memset(sheet, '\n', sizeof sheet);
     uint32_t n = run(LINES, ROOM);
     expect("2,000 lines", n == LINES * strlen("6,0,0,0,0\n") && untouched(n));

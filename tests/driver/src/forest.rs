@@ -15,14 +15,21 @@ pub struct Seen {
 
 /// Every node of the forests, with what a sheet writer wants to know of it.
 pub fn nodes(queues: &Queues) -> Vec<Seen> {
+    nodes_by_heap(queues).map(|(_, node)| node).collect()
+}
+
+/// Every node with its heap.
+pub fn nodes_by_heap(queues: &Queues) -> impl Iterator<Item = (usize, Seen)> + '_ {
     fn walk(tree: &Tree, depth: usize, parent: Option<&Tree>, seen: &mut Vec<Seen>) {
         let (parent_key, parent_marked) = parent.map_or((0, false), |parent| (parent.key, parent.marked));
         seen.push(Seen { item: tree.item, key: tree.key, depth, parent_key, parent_marked });
         tree.children.iter().for_each(|child| walk(child, depth + 1, Some(tree), seen));
     }
-    let mut seen = Vec::new();
-    queues.rows.iter().flatten().for_each(|root| walk(root, 0, None, &mut seen));
-    seen
+    queues.rows.iter().enumerate().flat_map(|(heap, row)| {
+        let mut seen = Vec::new();
+        row.iter().for_each(|root| walk(root, 0, None, &mut seen));
+        seen.into_iter().map(move |node| (heap, node))
+    })
 }
 
 /// The nodes of a longest way from a root down, root first.
@@ -35,6 +42,20 @@ pub fn longest_path(queues: &Queues) -> Vec<&Tree> {
     let mut path = queues.rows.iter().flatten().map(below).max_by_key(Vec::len).unwrap_or_default();
     path.reverse();
     path
+}
+
+/// Forests whose keys are the key words of the given ones, with no amounts.
+pub fn by_words(queues: &Queues) -> Queues {
+    fn lessen(tree: &mut Tree, amount: u32) {
+        tree.key = tree.key.wrapping_sub(amount);
+        tree.children.iter_mut().for_each(|child| lessen(child, amount));
+    }
+    let mut queues = queues.clone();
+    for (row, amount) in queues.rows.iter_mut().zip(queues.amounts) {
+        row.iter_mut().for_each(|root| lessen(root, amount));
+    }
+    queues.amounts = Default::default();
+    queues
 }
 
 /// Hands out item numbers in the order of the walk; keys rise along it, so heap order holds.

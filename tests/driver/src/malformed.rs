@@ -4,7 +4,7 @@ use crate::random::Random;
 
 /// Lines that are no call, by one small fault each.
 #[rustfmt::skip]
-pub const NO_CALLS: [&str; 63] = [
+pub const NO_CALLS: [&str; 81] = [
     "", ",", ",0", "0", "T", "T,", "T0", "T,0,", "T,,0", "T,0,0", "TT,0", "t,0", " T,0", "T ,0", "T, 0", "T,0 ",
     "T,0\r", "\r", "\t", "T,00000000000", "T,00000000007", "T,07,", "T,0-7", "M,0 9", "M,9,", "M,8,1", "M,8\r",
     "T,+0", "T,-0", "T,-7", "T,-07", "T,04294967295",
@@ -12,14 +12,16 @@ pub const NO_CALLS: [&str; 63] = [
     "I,0", "I,0,0", "I,8,0", "I,9,9,9,9", "I,0,0,00000000000", "I,0,00000000000,0", "I,00000000000,0,0",
     "I,0,0,4294967296", "I,0,0,0,",
     "I,0,0,0,0", "D", "D,0", "D,0,0,0", "D,0,", "D,4294967296,0", "X", "X,", "X,0,0", "X,00000000001", "J", "J,0", "J,9",
-    "J,0,1,2",
+    "J,0,1,2", "A", "A,", "A,0", "A,0,", "A,,1", "A,,", "A,0,1,", "A,0,1,2", "A,8", "A,8,", "A0,1", "a,0,1", "A,0,-1",
+    "A,0,4294967296", "A,0,00000000001", "A,00000000000,1", "A,0,1\r", "A, 0,1",
 ];
 
 pub fn line(random: &mut Random) -> Vec<u8> {
     if random.chance(50) {
         return random.pick(&NO_CALLS).as_bytes().to_vec();
     }
-    let mut line = random.pick(&["I,0,1,5", "M,0", "T,0", "D,1,4294967295", "X,2", "J,0,1"]).as_bytes().to_vec();
+    let mut line =
+        random.pick(&["I,0,1,5", "M,0", "T,0", "D,1,4294967295", "X,2", "J,0,1", "A,0,7"]).as_bytes().to_vec();
     for _ in 0..1 + random.size(2) {
         damage(random, &mut line);
     }
@@ -31,7 +33,7 @@ pub fn line(random: &mut Random) -> Vec<u8> {
 pub fn damage(random: &mut Random, text: &mut Vec<u8>) {
     let byte = match random.below(4) {
         0 => random.below(256) as u8,
-        _ => *random.pick(b"0123456789,,\n\r IMTDXJ-+"),
+        _ => *random.pick(b"0123456789,,\n\r IMTDXJA-+"),
     };
     let at = random.size(text.len() + 1);
     match random.below(3) {

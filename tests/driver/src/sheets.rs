@@ -1,4 +1,4 @@
-//! Sheets: steered towards deep trees, cascades and ties, with refusals and malformed lines between.
+//! Sheets: steered towards deep trees, cascades, ties and raises, with refusals and malformed lines between.
 
 use crate::forest;
 use crate::malformed;
@@ -17,9 +17,9 @@ pub struct Profile {
     pub fill: u64,
     /// Percent of steps that prepare and then make a long cascade.
     pub bursts: u64,
-    /// I, M, T, D, X, J.
-    pub weights: [u64; 6],
-    /// Percent of lines meant to be refused with 7 to 13.
+    /// I, M, T, D, X, J, A.
+    pub weights: [u64; 7],
+    /// Percent of lines meant to be refused with 7 to 13 or 25.
     pub refusals: u64,
     /// Percent of lines that are no call.
     pub malformed: u64,
@@ -27,10 +27,11 @@ pub struct Profile {
     pub padding: u64,
 }
 
-pub const STEADY: [u64; 6] = [30, 5, 20, 35, 8, 2];
-pub const CASCADES: [u64; 6] = [25, 0, 8, 60, 6, 1];
-pub const DELETIONS: [u64; 6] = [35, 2, 6, 20, 35, 2];
-pub const MELDS: [u64; 6] = [40, 5, 15, 15, 10, 15];
+pub const STEADY: [u64; 7] = [30, 5, 20, 35, 8, 2, 0];
+pub const CASCADES: [u64; 7] = [25, 0, 8, 60, 6, 1, 0];
+pub const DELETIONS: [u64; 7] = [35, 2, 6, 20, 35, 2, 2];
+pub const MELDS: [u64; 7] = [40, 5, 15, 15, 10, 15, 6];
+pub const RAISES: [u64; 7] = [28, 6, 14, 22, 8, 7, 15];
 
 const WIDE: u64 = 1 << 32;
 
@@ -41,7 +42,7 @@ pub fn profile(random: &mut Random, lines: usize) -> Profile {
         keys: *random.pick(&[1, 3, 20, 1000, 100_000, WIDE]),
         fill: *random.pick(&[0, 50, 100]),
         bursts: *random.pick(&[0, 3, 10]),
-        weights: *random.pick(&[STEADY, CASCADES, DELETIONS, MELDS]),
+        weights: *random.pick(&[STEADY, CASCADES, DELETIONS, MELDS, RAISES]),
         refusals: *random.pick(&[0, 3, 15]),
         malformed: *random.pick(&[0, 2, 15]),
         padding: *random.pick(&[0, 0, 15, 100]),
@@ -146,7 +147,7 @@ fn steered(random: &mut Random, queues: &Queues, profile: &Profile) -> String {
     let kind = if nodes.is_empty() { 0 } else { random.weighted(&profile.weights) };
     match kind {
         0 => match free_item(random, queues, &nodes) {
-            Some(item) => format!("I,{heap},{item},{}", key(random, profile.keys)),
+            Some(item) => format!("I,{heap},{item},{}", key_beside(random, queues, heap as usize, profile.keys)),
             None => format!("T,{full}"),
         },
         1 => format!("M,{full}"),
@@ -159,8 +160,34 @@ fn steered(random: &mut Random, queues: &Queues, profile: &Profile) -> String {
             format!("D,{},{}", node.item, random.pick(&aims))
         }
         4 => format!("X,{}", deep_node(random, &nodes).item),
-        _ => format!("J,{heap},{full}"),
+        5 if random.chance(25) => format!("J,{full},{heap}"),
+        5 => format!("J,{heap},{full}"),
+        _ => format!("A,{full},{}", raise(random, queues, full as usize)),
     }
+}
+
+/// The most that a heap can be raised by.
+pub fn room(queues: &Queues, heap: usize) -> u32 {
+    u32::MAX - queues.largest_key(heap).unwrap_or(0)
+}
+
+/// By how much to raise a heap: mostly little, now and then up to the largest number or one more.
+fn raise(random: &mut Random, queues: &Queues, heap: usize) -> u32 {
+    let room = room(queues, heap);
+    let little = random.below(u64::from(room).min(50) + 1) as u32;
+    let any = random.below(u64::from(room) + 1) as u32;
+    let choices = [little, any, room, room.saturating_add(1), 0, random.word() as u32];
+    choices[random.weighted(&[60, 15, 8, 6, 4, 7])]
+}
+
+/// A key for a heap: where it has been raised, often that of one of its items, or one beside it.
+fn key_beside(random: &mut Random, queues: &Queues, heap: usize, limit: u64) -> u32 {
+    let row = &queues.rows[heap];
+    if queues.amounts[heap] == 0 || row.is_empty() || random.chance(40) {
+        return key(random, limit);
+    }
+    let near = random.pick(row).key;
+    *random.pick(&[near, near.saturating_add(1), near.saturating_sub(1), queues.amounts[heap]])
 }
 
 fn free_item(random: &mut Random, queues: &Queues, nodes: &[forest::Seen]) -> Option<u32> {
@@ -186,7 +213,7 @@ fn refused(random: &mut Random, queues: &Queues) -> String {
     let outside = *random.pick(&[queues.capacity, queues.capacity + 1, u32::MAX]);
     let item = random.below(u64::from(queues.capacity) + 1) as u32;
     let heap = random.below(8);
-    match random.below(12) {
+    match random.below(17) {
         0 => format!("{},{beyond}", random.pick(&["M", "T"])),
         1 => format!("J,{heap},{beyond}"),
         2 => format!("J,{beyond},{beyond}"),
@@ -198,8 +225,23 @@ fn refused(random: &mut Random, queues: &Queues) -> String {
         8 => format!("I,{heap},{item},{}", random.below(9)),
         9 => format!("D,{item},{}", u32::MAX - random.below(2) as u32),
         10 => format!("X,{item}"),
+        11 => format!("A,{beyond},{}", random.below(3)),
+        12 => format!("A,{heap},{}", room(queues, heap as usize).saturating_add(1)),
+        13 => format!("A,{heap},{}", u32::MAX - random.below(3) as u32),
+        14 | 15 => lowering_by_word(random, queues),
         _ => format!("{},{heap}", random.pick(&["M", "T"])),
     }
+}
+
+/// A lowering to the key word of an item or to one above its key: where the heap is raised, the word misleads.
+fn lowering_by_word(random: &mut Random, queues: &Queues) -> String {
+    let nodes: Vec<_> = forest::nodes_by_heap(queues).filter(|&(heap, _)| queues.amounts[heap] != 0).collect();
+    if nodes.is_empty() {
+        return "D,0,4294967295".into();
+    }
+    let (heap, node) = *random.pick(&nodes);
+    let word = node.key.wrapping_sub(queues.amounts[heap]);
+    format!("D,{},{}", node.item, random.pick(&[word, word.wrapping_add(1), node.key.saturating_add(1)]))
 }
 
 /// Queues as a random sheet leaves them.

@@ -1,4 +1,4 @@
-//! The six calls, how a sheet line names them, and the answer to a line.
+//! The seven calls, how a sheet line names them, and the answer to a line.
 
 use crate::text;
 
@@ -10,6 +10,7 @@ pub enum Call {
     DecreaseKey { item: u32, key: u32 },
     Delete { item: u32 },
     Meld { into: u32, from: u32 },
+    Raise { heap: u32, by: u32 },
 }
 
 impl Call {
@@ -26,6 +27,7 @@ impl Call {
             (b'D', &[item, key]) => Some(Call::DecreaseKey { item, key }),
             (b'X', &[item]) => Some(Call::Delete { item }),
             (b'J', &[into, from]) => Some(Call::Meld { into, from }),
+            (b'A', &[heap, by]) => Some(Call::Raise { heap, by }),
             _ => None,
         }
     }
@@ -33,7 +35,10 @@ impl Call {
     /// The heap numbers that the call carries.
     pub fn heaps(&self) -> Vec<u32> {
         match *self {
-            Call::Insert { heap, .. } | Call::FindMin { heap } | Call::ExtractMin { heap } => vec![heap],
+            Call::Insert { heap, .. }
+            | Call::FindMin { heap }
+            | Call::ExtractMin { heap }
+            | Call::Raise { heap, .. } => vec![heap],
             Call::Meld { into, from } => vec![into, from],
             Call::DecreaseKey { .. } | Call::Delete { .. } => vec![],
         }

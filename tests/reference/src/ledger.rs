@@ -25,7 +25,7 @@ pub fn allowance(before: &Queues, line: Option<Call>) -> u64 {
     let Some(call) = line.filter(|&call| before.refusal(call) == 0) else { return 0 };
     match call {
         Call::Insert { .. } => 1,
-        Call::FindMin { .. } | Call::Meld { .. } => 0,
+        Call::FindMin { .. } | Call::Meld { .. } | Call::Raise { .. } => 0,
         Call::ExtractMin { heap } => max_rank(before.count(heap as usize)),
         Call::DecreaseKey { .. } => 4,
         Call::Delete { item } => {

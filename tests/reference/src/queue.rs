@@ -1,4 +1,4 @@
-//! Eight Fibonacci heaps as rows of owned trees, and the six calls on them.
+//! Eight Fibonacci heaps as rows of owned trees, and the seven calls on them.
 
 use crate::call::{Answer, Call};
 
@@ -9,6 +9,7 @@ pub const PLACES: usize = 17;
 #[derive(Clone, Debug, PartialEq, Eq)]
 pub struct Tree {
     pub item: u32,
+    /// The key itself, whatever amount its heap has: only `store` knows what its word holds.
     pub key: u32,
     pub marked: bool,
     /// In the order in which they were linked.
@@ -35,6 +36,17 @@ impl Tree {
 
     pub fn marks(&self) -> usize {
         usize::from(self.marked) + self.children.iter().map(Tree::marks).sum::<usize>()
+    }
+
+    /// The largest key of the tree.
+    pub fn largest_key(&self) -> u32 {
+        self.children.iter().map(Tree::largest_key).fold(self.key, u32::max)
+    }
+
+    /// Adds to every key of the tree.
+    pub fn raise(&mut self, by: u32) {
+        self.key += by;
+        self.children.iter_mut().for_each(|child| child.raise(by));
     }
 
     /// Extends `path` by the child numbers that lead to `item`.
@@ -72,15 +84,22 @@ pub struct Position {
 pub struct Queues {
     pub capacity: u32,
     pub rows: [Vec<Tree>; HEAPS],
+    /// What raises have added to each heap since it was last empty, wrapping at 32 bits; 0 for an empty heap.
+    pub amounts: [u32; HEAPS],
 }
 
 impl Queues {
     pub fn new(capacity: u32) -> Queues {
-        Queues { capacity, rows: Default::default() }
+        Queues { capacity, rows: Default::default(), amounts: [0; HEAPS] }
     }
 
     pub fn count(&self, heap: usize) -> usize {
         self.rows[heap].iter().map(Tree::size).sum()
+    }
+
+    /// The largest key of a heap.
+    pub fn largest_key(&self, heap: usize) -> Option<u32> {
+        self.rows[heap].iter().map(Tree::largest_key).max()
     }
 
     /// The row number of the root that comes first.
@@ -125,9 +144,15 @@ impl Queues {
             Call::DecreaseKey { .. } | Call::Delete { .. } if self.locate(item).is_none() => 10,
             Call::DecreaseKey { item, key } if key > self.key_of(item) => 11,
             Call::FindMin { heap } | Call::ExtractMin { heap } if self.rows[heap as usize].is_empty() => 12,
+            Call::Raise { heap, by } if self.passes_the_largest(heap as usize, by) => 25,
             Call::Meld { into, from } if into == from => 13,
             _ => 0,
         }
+    }
+
+    /// Whether a raise would carry a key of the heap above 4,294,967,295.
+    fn passes_the_largest(&self, heap: usize, by: u32) -> bool {
+        self.largest_key(heap).is_some_and(|key| key.checked_add(by).is_none())
     }
 
     fn key_of(&self, item: u32) -> u32 {
@@ -161,8 +186,24 @@ impl Queues {
             Call::Meld { into, from } => {
                 let joined = std::mem::take(&mut self.rows[from as usize]);
                 self.rows[into as usize].extend(joined);
+                self.forget_amount_if_empty(from as usize);
                 Answer::done(into, self.count(into as usize) as u32, 0, 0)
             }
+            Call::Raise { heap, by } => self.raise(heap as usize, by),
+        }
+    }
+
+    fn raise(&mut self, heap: usize, by: u32) -> Answer {
+        self.rows[heap].iter_mut().for_each(|root| root.raise(by));
+        self.amounts[heap] = self.amounts[heap].wrapping_add(by);
+        self.forget_amount_if_empty(heap);
+        Answer::done(heap as u32, self.count(heap) as u32, 0, 0)
+    }
+
+    /// An empty heap has the amount 0.
+    pub fn forget_amount_if_empty(&mut self, heap: usize) {
+        if self.rows[heap].is_empty() {
+            self.amounts[heap] = 0;
         }
     }
 
@@ -172,6 +213,7 @@ impl Queues {
         let (item, key) = (tree.item, tree.key);
         self.release(heap, tree);
         let links = self.consolidate(heap);
+        self.forget_amount_if_empty(heap);
         Answer::done(item, key, links, 0)
     }
 

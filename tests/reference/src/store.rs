@@ -5,7 +5,20 @@ use crate::queue::{Queues, Tree, HEAPS};
 /// "None" in a link word.
 pub const NONE: u32 = u32::MAX;
 pub const MAX_ITEMS: usize = 4096;
-const HEAP_WORDS: usize = 4 * HEAPS;
+/// The words of one heap.
+pub const WORDS_A_HEAP: usize = 5;
+const HEAP_WORDS: usize = WORDS_A_HEAP * HEAPS;
+
+/// The five words of a heap, in their order.
+#[derive(Clone, Copy)]
+pub enum HeapField {
+    FirstTree,
+    LastTree,
+    FirstItem,
+    Count,
+    /// What is added to an item's key word to make its key, wrapping.
+    Amount,
+}
 
 /// The eight words of an item, in the order of their blocks.
 #[derive(Clone, Copy)]
@@ -31,6 +44,11 @@ pub fn items(words: usize) -> Option<usize> {
     (length(items) == words && items <= MAX_ITEMS).then_some(items)
 }
 
+/// The place of one word of a heap.
+pub fn heap_index(field: HeapField, heap: usize) -> usize {
+    WORDS_A_HEAP * heap + field as usize
+}
+
 /// The place of one word of an item.
 pub fn index(items: usize, field: Field, item: u32) -> usize {
     HEAP_WORDS + field as usize * items + item as usize
@@ -50,23 +68,26 @@ pub fn encode(queues: &Queues) -> Vec<u32> {
     for (heap, row) in queues.rows.iter().enumerate() {
         let (first, last) = ends(row);
         let minimum = queues.minimum(heap).map_or(NONE, |root| row[root].item);
-        words[4 * heap..4 * heap + 4].copy_from_slice(&[first, last, minimum, queues.count(heap) as u32]);
-        encode_siblings(&mut words, queues.capacity as usize, heap as u32, NONE, row);
+        let amount = queues.amounts[heap];
+        let fields = [first, last, minimum, queues.count(heap) as u32, amount];
+        words[WORDS_A_HEAP * heap..][..WORDS_A_HEAP].copy_from_slice(&fields);
+        encode_siblings(&mut words, queues.capacity as usize, (heap as u32, amount), NONE, row);
     }
     words
 }
 
-fn encode_siblings(words: &mut [u32], items: usize, heap: u32, parent: u32, row: &[Tree]) {
+fn encode_siblings(words: &mut [u32], items: usize, (heap, amount): (u32, u32), parent: u32, row: &[Tree]) {
     for (number, tree) in row.iter().enumerate() {
         let (first, last) = ends(&tree.children);
         let previous = if number == 0 { NONE } else { row[number - 1].item };
         let next = row.get(number + 1).map_or(NONE, |sibling| sibling.item);
         let state = 1 + 2 * heap + u32::from(tree.marked);
-        let fields = [tree.key, parent, first, last, next, previous, tree.rank() as u32, state];
+        let key_word = tree.key.wrapping_sub(amount);
+        let fields = [key_word, parent, first, last, next, previous, tree.rank() as u32, state];
         for (field, word) in fields.into_iter().enumerate() {
             words[HEAP_WORDS + field * items + tree.item as usize] = word;
         }
-        encode_siblings(words, items, heap, tree.item, &tree.children);
+        encode_siblings(words, items, (heap, amount), tree.item, &tree.children);
     }
 }
 
@@ -74,10 +95,12 @@ fn encode_siblings(words: &mut [u32], items: usize, heap: u32, parent: u32, row:
 /// out of range. What comes back need not have these words: `sound` compares.
 pub fn decode(words: &[u32]) -> Option<Queues> {
     let items = items(words.len())?;
-    let mut reader = Reader { words, items, met: vec![false; items] };
+    let mut reader = Reader { words, items, amount: 0, met: vec![false; items] };
     let mut queues = Queues::new(items as u32);
     for heap in 0..HEAPS {
-        queues.rows[heap] = reader.siblings(words[4 * heap])?;
+        reader.amount = words[heap_index(HeapField::Amount, heap)];
+        queues.amounts[heap] = reader.amount;
+        queues.rows[heap] = reader.siblings(words[heap_index(HeapField::FirstTree, heap)])?;
     }
     Some(queues)
 }
@@ -85,6 +108,8 @@ pub fn decode(words: &[u32]) -> Option<Queues> {
 struct Reader<'a> {
     words: &'a [u32],
     items: usize,
+    /// The amount of the heap that is read.
+    amount: u32,
     met: Vec<bool>,
 }
 
@@ -111,13 +136,20 @@ impl Reader<'_> {
         }
         let marked = self.word(Field::State, item).is_multiple_of(2);
         let children = self.siblings(self.word(Field::FirstChild, item))?;
-        Some(Tree { item, key: self.word(Field::Key, item), marked, children })
+        let key = self.word(Field::Key, item).wrapping_add(self.amount);
+        Some(Tree { item, key, marked, children })
     }
 }
 
-/// Heap order, no marked root, and the rank rule.
+/// Heap order, no marked root, the rank rule, and no amount on an empty heap.
 pub fn well_formed(queues: &Queues) -> bool {
-    queues.rows.iter().flatten().all(|root| !root.marked && ordered(root) && ranks_suffice(root))
+    let roots = || queues.rows.iter().flatten();
+    roots().all(|root| !root.marked && ordered(root) && ranks_suffice(root)) && amounts_fit(queues)
+}
+
+/// An empty heap has the amount 0; any other may have any.
+pub fn amounts_fit(queues: &Queues) -> bool {
+    (0..HEAPS).all(|heap| !queues.rows[heap].is_empty() || queues.amounts[heap] == 0)
 }
 
 pub fn ordered(tree: &Tree) -> bool {

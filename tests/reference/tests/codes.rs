@@ -10,16 +10,19 @@ fn fresh_code(words: usize, sheet: &[u8], room: usize) -> u32 {
 
 #[test]
 fn runs() {
-    assert_eq!(fresh_code(33, b"", 0), 1);
-    assert_eq!(fresh_code(31, b"", 0), 1);
+    // A store is 40 words and eight for each item; before request 6 it was 32.
+    for words in [0, 32, 39, 41, 47] {
+        assert_eq!(fresh_code(words, b"", 0), 1);
+    }
+    assert_eq!([0, 1, 256, 4096].map(store::length), [40, 48, 2_088, 32_808]);
     assert_eq!(fresh_code(store::length(4097), b"", 0), 1);
     assert_eq!(fresh_code(store::length(4096), b"", 0), 0);
-    assert_eq!(fresh_code(32, &[b'M'; 60_001], 32), 2);
-    assert_eq!(fresh_code(32, &[b'M'; 60_000], 32), 0);
-    assert_eq!(fresh_code(32, &[b'\n'; 2_001], 64_064), 3);
-    assert_eq!(fresh_code(32, &[b'\n'; 2_000], 64_000), 0);
-    assert_eq!(fresh_code(32, b"M,0", 31), 4);
-    assert_eq!(fresh_code(32, b"M,0", 32), 0);
+    assert_eq!(fresh_code(40, &[b'M'; 60_001], 32), 2);
+    assert_eq!(fresh_code(40, &[b'M'; 60_000], 32), 0);
+    assert_eq!(fresh_code(40, &[b'\n'; 2_001], 64_064), 3);
+    assert_eq!(fresh_code(40, &[b'\n'; 2_000], 64_000), 0);
+    assert_eq!(fresh_code(40, b"M,0", 31), 4);
+    assert_eq!(fresh_code(40, b"M,0", 32), 0);
 }
 
 #[test]
@@ -47,11 +50,14 @@ fn lines() {
     assert_eq!(codes(4, &["T,0"]), [12]);
     assert_eq!(codes(4, &["J,2,2"]), [13]);
     assert_eq!(codes(4, &["J,2,3", "M,7", "M,8", "I,8,9,0", "I,0,4,0"]), [0, 12, 7, 7, 8]);
+    assert_eq!(codes(4, &["A,8,0", "A,7,0", "I,0,1,5", "A,0,4294967290", "A,0,1"]), [7, 0, 0, 0, 25]);
 }
 
 #[test]
 fn lines_that_are_no_call() {
     let lines = ["", ",", "T", "T,", "T,0,", "T,0,0", "T 0", "t,0", "T,0\r", " T,0", "T,+0", "T,-0", "M,,0"];
+    assert_eq!(codes(4, &lines), vec![6; lines.len()]);
+    let lines = ["A", "A,", "A,0", "A,0,", "A,,1", "A,0,1,2", "a,0,1", "A,0,-1", "A,0,4294967296", "A,8"];
     assert_eq!(codes(4, &lines), vec![6; lines.len()]);
     assert_eq!(codes(4, &["T,4294967295", "T,4294967296", "T,18446744073709551616"]), [7, 6, 6]);
 }

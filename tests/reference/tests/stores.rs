@@ -15,7 +15,7 @@ fn after(capacity: u32, lines: &[&str]) -> Queues {
 fn words_of_a_linked_heap() {
     // Item 3 taken from keys 5, 3, 8, 1: the row is 2, 1 with 0 under 1.
     let words = encode(&after(4, &["I,0,0,5", "I,0,1,3", "I,0,2,8", "I,0,3,1", "T,0"]));
-    assert_eq!(words[..8], [2, 1, 1, 3, NONE, NONE, NONE, 0]);
+    assert_eq!(words[..10], [2, 1, 1, 3, 0, NONE, NONE, NONE, 0, 0]);
     let block = |field: Field| words[index(4, field, 0)..index(4, field, 0) + 4].to_vec();
     assert_eq!(block(Field::Key), [5, 3, 8, 0]);
     assert_eq!(block(Field::Parent), [1, NONE, NONE, 0]);
@@ -31,7 +31,8 @@ fn words_of_a_linked_heap() {
 fn sound_and_unsound() {
     assert!(sound(&empty(0)).is_some());
     assert!(sound(&empty(5)).is_some());
-    assert!(sound(&[0; 32]).is_none());
+    assert!(sound(&[0; 40]).is_none());
+    assert!(sound(&empty(0)[..32]).is_none(), "four words a heap");
     assert!(sound(&empty(5)[1..]).is_none());
 
     let marked_leaf = Tree { item: 1, key: 1, marked: true, children: vec![] };

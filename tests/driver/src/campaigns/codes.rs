@@ -3,7 +3,7 @@
 use crate::check::{Checker, Verdict};
 use crate::malformed;
 use crate::sheets;
-use reference::store;
+use reference::store::{self, heap_index, HeapField};
 
 pub const WORKED: &[u8] = b"I,0,0,5\nI,0,1,3\nI,0,2,8\nI,0,3,1\nT,0\nD,0,2\nM,0\nT,1\n";
 pub const WORKED_ANSWERS: &[u8] =
@@ -110,14 +110,15 @@ pub fn worked_runs(checker: &mut Checker) -> Verdict {
 pub fn run_limits(checker: &mut Checker) -> Verdict {
     let sound = store::empty(3);
     let mut unsound = sound.clone();
-    unsound[3] = 1;
+    unsound[heap_index(HeapField::Count, 0)] = 1;
     for (sheet, room) in limit_cases() {
         for words in [&sound, &unsound, &unsound[1..].to_vec()] {
             checker.fresh(words, &sheet, room)?;
             checker.kept(words, &sheet, room)?;
         }
     }
-    let lengths = (0..140).chain(32_760..32_840).chain([65_568, 262_176]);
+    // 40 words and eight an item; 32 and eight an item is what they were before request 6.
+    let lengths = (0..140).chain(32_760..32_840).chain([65_568, 65_576, 262_176, 262_184]);
     for length in lengths {
         for fill in [0, u32::MAX] {
             checker.fresh(&vec![fill; length], b"I,0,0,7\nM,0", 64)?;
@@ -140,7 +141,7 @@ pub fn no_calls(checker: &mut Checker) -> Verdict {
         all.push(line.as_bytes().to_vec());
     }
     // Every byte in place of each byte of a call, and between its bytes.
-    for line in [&b"T,0"[..], b"D,6,4", b"J,0,1"] {
+    for line in [&b"T,0"[..], b"D,6,4", b"J,0,1", b"A,0,9"] {
         for at in 0..=line.len() {
             for byte in 0..=255 {
                 let mut changed = line.to_vec();
@@ -163,7 +164,7 @@ fn refusals(capacity: u64) -> Vec<Vec<String>> {
     let line = |text: String| vec![text];
     let mut sheets = vec![];
     for heap in ["7", "8", "9", "4294967295"] {
-        for text in ["M,H", "T,H", "J,H,0", "J,0,H", "J,H,H", "I,H,0,0"] {
+        for text in ["M,H", "T,H", "J,H,0", "J,0,H", "J,H,H", "I,H,0,0", "A,H,0", "A,H,4294967295"] {
             sheets.push(line(text.replace('H', heap)));
         }
         sheets.push(line(format!("I,{heap},{capacity},0")));
@@ -189,6 +190,10 @@ fn refusals(capacity: u64) -> Vec<Vec<String>> {
         "J,4,3".into(),
         "J,3,4".into(),
         "J,3,8".into(),
+        "A,3,0".into(),
+        "A,3,4294967290".into(),
+        "A,3,4294967291".into(),
+        "A,4,4294967295".into(),
         "T,3".into(),
     ];
     for text in taken_up {
@@ -199,6 +204,7 @@ fn refusals(capacity: u64) -> Vec<Vec<String>> {
     sheets
 }
 
+/// 6 to 13, and 25.
 pub fn line_codes(checker: &mut Checker) -> Verdict {
     for capacity in [1u64, 2, 256, 1024, 4096] {
         for lines in refusals(capacity) {
@@ -208,8 +214,8 @@ pub fn line_codes(checker: &mut Checker) -> Verdict {
         }
     }
     let nothing = store::empty(0);
-    let sheet = b"I,0,0,0\nD,0,0\nX,0\nM,0\nT,7\nJ,0,1\nJ,1,1\nI,8,0,0\nM,8\nT,-7\n";
-    checker.fresh(&nothing, sheet, 320)?;
-    checker.kept(&nothing, sheet, 320)?;
+    let sheet = b"I,0,0,0\nD,0,0\nX,0\nM,0\nT,7\nJ,0,1\nJ,1,1\nI,8,0,0\nM,8\nT,-7\nA,0,9\nA,8,0\n";
+    checker.fresh(&nothing, sheet, 12 * 32)?;
+    checker.kept(&nothing, sheet, 12 * 32)?;
     Ok(())
 }

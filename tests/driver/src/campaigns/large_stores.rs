@@ -9,7 +9,7 @@ use reference::store::{self, index, Field};
 use reference::Queues;
 
 /// The largest ranks, the longest cascades, many roots.
-fn large_shapes(step: u32) -> Vec<Queues> {
+pub fn large_shapes(step: u32) -> Vec<Queues> {
     let mut shapes = Vec::new();
     let mut number = Numbering::new(1, step);
     shapes.push(heap_of(4096, vec![number.sparse(16)]));

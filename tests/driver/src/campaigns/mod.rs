@@ -1,5 +1,6 @@
 //! The campaigns: each drives one part of an engine and stops at the first difference.
 
+pub mod amounts;
 pub mod budgets;
 pub mod codes;
 pub mod feeds;
@@ -8,7 +9,10 @@ pub mod linking_places;
 pub mod map_texts;
 pub mod numbers;
 pub mod programs;
+pub mod raised_sheets;
+pub mod raises;
 pub mod runs;
+pub mod store_lengths;
 pub mod stores;
 pub mod ties;
 pub mod windows;
@@ -27,31 +31,46 @@ const fn campaign(part: Part, name: &'static str, run: fn(&mut Checker) -> Verdi
 }
 
 /// Quick ones first, so that a wrong engine is caught soon.
-pub const ALL: [Campaign; 69] = [
+pub const ALL: [Campaign; 86] = [
     campaign(Part::Modem, "modem: worked runs and limits", codes::modem),
     campaign(Part::Modem, "modem: zeros before every number", numbers::modem),
+    campaign(Part::Modem, "modem: raises", raises::modem),
     campaign(Part::Modem, "modem: random sheets", runs::modem_sheets),
     campaign(Part::Runs, "runs: worked runs", codes::worked_runs),
     campaign(Part::Runs, "runs: codes 1 to 5 at their limits", codes::run_limits),
     campaign(Part::Runs, "runs: lines that are no call", codes::no_calls),
-    campaign(Part::Runs, "runs: codes 6 to 13", codes::line_codes),
+    campaign(Part::Runs, "runs: codes 6 to 13 and 25", codes::line_codes),
+    campaign(Part::Runs, "runs: worked raises", raises::worked),
+    campaign(Part::Runs, "runs: raises to the largest number", raises::limits),
     campaign(Part::Runs, "runs: zeros before every number", numbers::calls),
     campaign(Part::Runs, "runs: sheets with zeros, cut", numbers::continued),
     campaign(Part::Runs, "stores: items 0 and 4,095 at every rank", linking_places::first_and_last_item),
+    campaign(Part::Runs, "runs: joins of raised heaps", raises::joins),
+    campaign(Part::Runs, "stores: amounts and none, same answers", amounts::same_answers),
+    campaign(Part::Runs, "stores: four words a heap, as before", amounts::four_words_a_heap),
+    campaign(Part::Runs, "stores: every single-word change, amounts", amounts::single_changes),
+    campaign(Part::Runs, "stores: several changes, amounts", amounts::several_changes),
+    campaign(Part::Runs, "stores: careless forests with amounts", amounts::careless_forests),
+    campaign(Part::Runs, "stores: every forest of three, amounts", amounts::every_small_forest),
     campaign(Part::Runs, "stores: every single-word change", stores::single_changes),
     campaign(Part::Runs, "stores: several changes", stores::several_changes),
     campaign(Part::Runs, "stores: loops apart from the rows", stores::loops),
     campaign(Part::Runs, "stores: careless forests", stores::careless_forests),
     campaign(Part::Runs, "stores: every forest of four items", stores::every_small_forest),
+    campaign(Part::Runs, "runs: sheets with many raises", raised_sheets::random_sheets),
+    campaign(Part::Runs, "runs: sheets with raises, every cut", raised_sheets::every_cut),
+    campaign(Part::Runs, "runs: three calls on raised heaps, all", raised_sheets::every_short_sheet),
     campaign(Part::Runs, "runs: every sheet of four calls", runs::every_short_sheet),
     campaign(Part::Runs, "runs: random fresh sheets", runs::fresh_sheets),
     campaign(Part::Runs, "runs: demand 3, line by line", runs::ledger),
     campaign(Part::Runs, "runs: every cut into kept runs", runs::every_cut),
     campaign(Part::Runs, "stores: large forests, ranks to 16", large_stores::large_forests),
+    campaign(Part::Runs, "stores: large forests with amounts", amounts::large_forests),
     campaign(Part::Feed, "feed: worked run", feeds::worked),
     campaign(Part::Feed, "feed: worked windows", windows::worked),
     campaign(Part::Feed, "feed: worked ties", ties::worked),
     campaign(Part::Feed, "feed: lengths of the list of joints", ties::list_lengths),
+    campaign(Part::Feed, "feed: lengths of the store", store_lengths::full),
     campaign(Part::Feed, "feed: two faulty spans, open or closed", windows::span_faults),
     campaign(Part::Feed, "feed: every choice of faults at once", feeds::several_faults),
     campaign(Part::Feed, "feed: codes 14 to 24 at their limits", feeds::limits),
@@ -70,6 +89,7 @@ pub const ALL: [Campaign; 69] = [
     campaign(Part::Budget, "budget: worked windows", windows::worked_within),
     campaign(Part::Budget, "budget: worked ties", ties::worked_within),
     campaign(Part::Budget, "budget: lengths of the list of joints", ties::list_lengths_within),
+    campaign(Part::Budget, "budget: lengths of the store", store_lengths::within),
     campaign(Part::Budget, "budget: two faulty spans, open or closed", windows::span_faults_within),
     campaign(Part::Budget, "budget: codes 14 to 24 at their limits", budgets::limits),
     campaign(Part::Budget, "budget: every choice of faults at once", budgets::several_faults),
@@ -91,6 +111,7 @@ pub const ALL: [Campaign; 69] = [
     campaign(Part::Map, "map: zeros before every number", numbers::maps),
     campaign(Part::Map, "map: random and damaged texts", map_texts::texts),
     campaign(Part::Map, "map: lengths of the lent lists", map_texts::lists),
+    campaign(Part::QueueProgram, "queue program: raises", programs::queue_with_raises),
     campaign(Part::QueueProgram, "queue program", programs::queue),
     campaign(Part::QueueProgram, "queue program: zeros before every number", numbers::queue_program),
     campaign(Part::FeedProgram, "feed program: windows", programs::feed_at_minutes),

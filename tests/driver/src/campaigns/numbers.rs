@@ -17,8 +17,8 @@ const VALUES: [u64; 15] = [
 const ZEROS: std::ops::RangeInclusive<usize> = 0..=11;
 
 /// Each kind of call, with numbers by which it is done after `BEFORE`.
-const CALLS: [(char, &[u64]); 6] =
-    [('I', &[1, 9, 40]), ('M', &[7]), ('T', &[7]), ('D', &[42, 5]), ('X', &[123]), ('J', &[0, 7])];
+const CALLS: [(char, &[u64]); 7] =
+    [('I', &[1, 9, 40]), ('M', &[7]), ('T', &[7]), ('D', &[42, 5]), ('X', &[123]), ('J', &[0, 7]), ('A', &[7, 30])];
 
 /// Items with numbers of one to four digits, in three heaps.
 const BEFORE: &str = "I,0,0,4294967295\nI,0,7,27182818\nI,0,42,31337\nI,7,123,123\nI,7,255,42\nI,1,4095,7\n";

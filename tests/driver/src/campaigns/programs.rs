@@ -2,7 +2,7 @@
 
 use super::codes;
 use super::feeds;
-use super::{ties, windows};
+use super::{raised_sheets, raises, ties, windows};
 use crate::check::{Checker, FeedCall, Verdict};
 use crate::malformed;
 use crate::maps;
@@ -33,6 +33,20 @@ pub fn queue(checker: &mut Checker) -> Verdict {
     let takings = vec![b"T,0".to_vec(); 976];
     inputs.push(sheets::sheet(&[full, takings].concat(), false));
     inputs.iter().try_for_each(|input| checker.queue_program(input))
+}
+
+/// Worked raises, and sheets of which many lines are raises.
+pub fn queue_with_raises(checker: &mut Checker) -> Verdict {
+    for lines in raises::WORKED {
+        checker.queue_program(&raises::sheet_and_answers(lines).0)?;
+    }
+    let mut random = Random::new(42);
+    for case in 0..40 {
+        let items = *random.pick(&[4, 30, 1024]);
+        let count = if case < 30 { 20 + random.size(100) } else { 700 };
+        checker.queue_program(&raised_sheets::many_raises(&mut random, &Queues::new(items), count))?;
+    }
+    Ok(())
 }
 
 pub fn feed(checker: &mut Checker) -> Verdict {

@@ -55,9 +55,10 @@ pub fn fresh_sheets(checker: &mut Checker) -> Verdict {
     coverage.suffices()
 }
 
-/// Every sheet of four calls with two heaps, three items and two keys.
+/// Every sheet of four calls with two heaps, three items, two keys and two raises.
 pub fn every_short_sheet(checker: &mut Checker) -> Verdict {
-    let mut calls: Vec<String> = ["M,0", "M,1", "T,0", "T,1", "J,0,1", "J,1,0"].map(String::from).to_vec();
+    let of_heaps = ["M,0", "M,1", "T,0", "T,1", "J,0,1", "J,1,0", "A,0,1", "A,1,4294967295"];
+    let mut calls: Vec<String> = of_heaps.map(String::from).to_vec();
     for item in 0..3 {
         calls.push(format!("X,{item}"));
         for key in 0..2 {
@@ -77,11 +78,12 @@ pub fn every_short_sheet(checker: &mut Checker) -> Verdict {
 /// How often each kind of answer was seen: a campaign that never meets one shows nothing about it.
 #[derive(Default)]
 struct Coverage {
-    codes: [u32; 14],
+    codes: [u32; 26],
     cascades: u32,
     long_cascades: u32,
     many_links: u32,
     padded: u32,
+    raises: u32,
 }
 
 impl Coverage {
@@ -93,15 +95,16 @@ impl Coverage {
             self.long_cascades += u32::from(answer.cuts > 3);
             self.many_links += u32::from(answer.links > 20);
             self.padded += u32::from(answer.code == 0 && padding::is_padded(line));
+            self.raises += u32::from(answer.code == 0 && answer.key > 0 && line.starts_with(b"A"));
         }
     }
 
     fn suffices(&self) -> Verdict {
-        let others = [self.cascades, self.long_cascades, self.many_links, self.padded];
-        let seen = [&self.codes[..1], &self.codes[6..], &others].concat();
+        let others = [self.cascades, self.long_cascades, self.many_links, self.padded, self.raises];
+        let seen = [&self.codes[..1], &self.codes[6..14], &self.codes[25..], &others].concat();
         match seen.iter().all(|&times| times >= 100) {
             true => Ok(()),
-            false => Err(format!("codes 0 and 6 to 13, cascades, links and zeros were seen only {seen:?} times")),
+            false => Err(format!("codes, cascades, links, zeros and raises were seen only {seen:?} times")),
         }
     }
 }
@@ -189,7 +192,7 @@ fn small_start(random: &mut Random) -> Queues {
 }
 
 /// Runs the lines in pieces that end at `ends`, and again in one; answers and store must agree.
-fn cut(checker: &mut Checker, start: &Queues, lines: &[Vec<u8>], ends: &[usize], open: bool) -> Verdict {
+pub fn cut(checker: &mut Checker, start: &Queues, lines: &[Vec<u8>], ends: &[usize], open: bool) -> Verdict {
     let fresh = start.rows.iter().all(Vec::is_empty);
     let first = store::encode(start);
     let whole = sheets::sheet(lines, open && lines.last().is_some_and(|line| !line.is_empty()));

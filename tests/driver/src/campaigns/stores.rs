@@ -4,11 +4,11 @@ use crate::check::{Checker, Verdict};
 use crate::forest;
 use crate::random::Random;
 use crate::sheets;
-use reference::store::{self, index, Field};
+use reference::store::{self, heap_index, index, Field, HeapField};
 use reference::{Call, Queues, Tree, NONE};
 
 /// A few sound stores of up to six items, with children and marks in them.
-fn small_stores(random: &mut Random) -> Vec<Vec<u32>> {
+pub fn small_stores(random: &mut Random) -> Vec<Vec<u32>> {
     let mut stores = vec![store::empty(0), store::empty(1), store::empty(3)];
     let hand_made: [&[&str]; 3] = [
         &["I,0,0,5", "I,0,1,3", "I,0,2,8", "I,0,3,1", "T,0"],
@@ -44,7 +44,7 @@ pub fn candidates(old: u32, items: u32) -> Vec<u32> {
 }
 
 /// The verdict, and a kept run that must agree with it and leave an unsound store alone.
-fn judge(checker: &mut Checker, words: &[u32]) -> Verdict<bool> {
+pub fn judge(checker: &mut Checker, words: &[u32]) -> Verdict<bool> {
     let sound = checker.sound(words)?;
     let ran = checker.kept(words, b"M,0\nT,0\nM,2\n", 96)?;
     if ran.done() != sound {
@@ -128,7 +128,7 @@ pub fn loops(checker: &mut Checker) -> Verdict {
 
 fn loops_in(checker: &mut Checker, words: &[u32], free: &[u32], (heap, added, state): (u32, u32, u32)) -> Verdict {
     let mut counted = words.to_vec();
-    counted[4 * heap as usize + 3] += added;
+    counted[heap_index(HeapField::Count, heap as usize)] += added;
     let mut check = |shape: &[(u32, [u32; 4], u32)]| {
         let mut changed = counted.clone();
         for &(item, links, rank) in shape {
@@ -141,7 +141,8 @@ fn loops_in(checker: &mut Checker, words: &[u32], free: &[u32], (heap, added, st
         check(&[(a, [a, a, NONE, NONE], 1)])?;
         check(&[(a, [NONE, NONE, a, a], 0)])?;
         check(&[(a, [NONE, a, NONE, NONE], 1)])?;
-        check(&[(a, [words[4 * heap as usize], NONE, NONE, NONE], 0)])?;
+        let first = words[heap_index(HeapField::FirstTree, heap as usize)];
+        check(&[(a, [first, NONE, NONE, NONE], 0)])?;
     }
     if let [a, b, ..] = *free {
         check(&[(a, [NONE, NONE, b, b], 0), (b, [NONE, NONE, a, a], 0)])?;

@@ -102,9 +102,14 @@ pub fn worked_texts() -> impl Iterator<Item = Vec<u8>> {
     WORKED_MAPS.into_iter().map(|(places, start, spans, ..)| maps::text(places, start, spans, false))
 }
 
-/// The faults of a call beside that of its list of joints, in the order in which they are tested.
-const OTHERS: [u32; 8] = [14, 15, 24, 16, 18, 19, 20, 23];
-const OTHERS_WITHIN: [u32; 9] = [14, 15, 24, 16, 22, 18, 19, 20, 23];
+/// The faults of a call beside that of the length of a list, in the order in which they are tested.
+pub const OTHERS: [u32; 8] = [14, 15, 24, 16, 18, 19, 20, 23];
+pub const OTHERS_WITHIN: [u32; 9] = [14, 15, 24, 16, 22, 18, 19, 20, 23];
+
+/// The first of the faults that are tested before lengths of lists and store.
+pub fn before_lengths(faults: &[u32]) -> Option<u32> {
+    faults.iter().copied().find(|code| [14, 15, 24, 16].contains(code))
+}
 
 /// A call with a list of joints of this length, and with other faults.
 fn with_length(joints: usize, others: &[u32], way: usize) -> BudgetCall {
@@ -119,8 +124,8 @@ fn with_length(joints: usize, others: &[u32], way: usize) -> BudgetCall {
 fn wrong_lengths<const N: usize>(others: [u32; N]) -> impl Iterator<Item = (BudgetCall, u32)> {
     let choices = (0..1 << N).map(move |bits| feeds::chosen(others, bits));
     choices.flat_map(|chosen| {
-        let earlier = chosen.iter().copied().find(|code| [14, 15, 24, 16].contains(code));
-        let calls = |joints| [0, 1, 2, 3].map(|way| (with_length(joints, &chosen, way), earlier.unwrap_or(17)));
+        let code = before_lengths(&chosen).unwrap_or(17);
+        let calls = |joints| [0, 1, 2, 3].map(|way| (with_length(joints, &chosen, way), code));
         [0, 1, 2, 4, 5, 59].map(calls).into_iter().flatten()
     })
 }

@@ -6,7 +6,8 @@ use super::Mock;
 use super::Variant::*;
 use crate::engine::{BudgetLists, Engine, Faithful, FeedLists};
 use reference::feed::{self, Asked, Lent};
-use reference::{store, NONE};
+use reference::store::{self, heap_index, HeapField};
+use reference::NONE;
 use std::cmp::Reverse;
 
 impl Mock {
@@ -54,6 +55,7 @@ impl Mock {
     /// The code, with faults in the test of the place list and in those of windows.
     fn budget_code(&self, asked: Asked, lent: &Lent, listed: usize) -> u32 {
         let code = self.joints_code(self.windows_code(asked, lent, Some(listed)), asked, lent, Some(listed));
+        let code = self.store_code(code, asked, lent, Some(listed));
         let per_place = asked.places as usize;
         let without_list = || feed::refusal(asked, lent, None);
         match self.variant {
@@ -119,6 +121,7 @@ impl Mock {
                 show(lists.joints, &self.search(Within { budget: NONE, ..within }).entries, |entry| entry.hops)
             }
             Some(WaitingPlacesLeftInStore) => lists.store.copy_from_slice(&store::encode(&waiting().queues)),
+            Some(FeedLeavesAnAmount) => lists.store[heap_index(HeapField::Amount, 0)] = 1,
             _ => {}
         }
     }

@@ -6,7 +6,8 @@ use super::Mock;
 use super::Variant::*;
 use crate::engine::{Engine, Faithful, FeedLists};
 use reference::feed::{Asked, Lent, Spans};
-use reference::{store, Call, Queues, NONE};
+use reference::store::{self, heap_index, HeapField};
+use reference::{Call, Queues, NONE};
 
 impl Mock {
     pub(super) fn faulty_table(&self, asked: Asked, lists: FeedLists, figures: &mut [u32; 3]) -> u32 {
@@ -40,7 +41,8 @@ impl Mock {
 
     fn table_code(&self, asked: Asked, lent: &Lent) -> u32 {
         let falls = || asked.spans.from.windows(2).any(|pair| pair[1] < pair[0]);
-        match self.joints_code(self.windows_code(asked, lent, None), asked, lent, None) {
+        let code = self.joints_code(self.windows_code(asked, lent, None), asked, lent, None);
+        match self.store_code(code, asked, lent, None) {
             19 if self.is(OrderTestedBeforeLoss) && falls() => 20,
             code => code,
         }
@@ -63,6 +65,7 @@ impl Mock {
                 store.copy_from_slice(&store::encode(&queues));
             }
             Some(FeedStoreLeftAsFound) => store.copy_from_slice(found),
+            Some(FeedLeavesAnAmount) => store[heap_index(HeapField::Amount, 0)] = 1,
             Some(FeedCountsZero) => figures[..2].fill(0),
             Some(StartShowsASpan) => {
                 let into = (0..spans.to.len()).find(|&span| spans.to[span] == start);

@@ -1,8 +1,10 @@
-//! Faults in the six calls and in reading lines.
+//! Faults in the calls and in reading lines.
 
 use super::places;
+use super::raises::shift;
 use super::Mock;
 use super::Variant::*;
+use crate::forest;
 use reference::{Answer, Call, Position, Queues};
 
 impl Mock {
@@ -10,6 +12,7 @@ impl Mock {
         let call = self.parse(line);
         match call {
             None if self.is(SixTestedAfterSeven) && names_heap_above_7(line) => return Answer::refused(7),
+            None if self.is_raise_by_too_much(line) => return Answer::refused(25),
             Some(Call::Insert { item, heap, .. })
                 if self.is(EightAnsweredAsNine) && heap < 8 && item == queues.capacity =>
             {
@@ -20,31 +23,39 @@ impl Mock {
             }
             _ => {}
         }
-        if call.is_none_or(|call| queues.refusal(call) != 0) {
-            return queues.answer(call);
+        let Some(call) = call else { return Answer::refused(6) };
+        match self.refusal(queues, call) {
+            0 => {}
+            code => return Answer::refused(code),
         }
-        match call.expect("not refused") {
+        let before = queues.clone();
+        let mut answer = self.by_words(queues, call).unwrap_or_else(|| self.perform(queues, call, takings));
+        self.settle_amounts(queues, call, &before);
+        self.show_words(&before, call, &mut answer);
+        answer
+    }
+
+    fn perform(&self, queues: &mut Queues, call: Call, takings: &mut u32) -> Answer {
+        match call {
             Call::FindMin { heap } | Call::ExtractMin { heap } => {
-                let takes = matches!(call, Some(Call::ExtractMin { .. }));
+                let takes = matches!(call, Call::ExtractMin { .. });
                 *takings += u32::from(takes);
                 self.first(queues, heap as usize, takes, *takings)
             }
             Call::DecreaseKey { item, key } => self.lower(queues, item, key),
             Call::Delete { item } => self.delete(queues, item, *takings),
-            Call::Meld { into, from } if self.is(JoinedRowInFront) => {
-                let mut row = std::mem::take(&mut queues.rows[from as usize]);
-                row.append(&mut queues.rows[into as usize]);
-                queues.rows[into as usize] = row;
-                Answer::done(into, queues.count(into as usize) as u32, 0, 0)
-            }
-            call => queues.answer(Some(call)),
+            Call::Meld { into, from } => self.join(queues, into as usize, from as usize),
+            Call::Raise { heap, .. } if heap >= 8 => Answer::done(heap, 0, 0, 0),
+            Call::Raise { heap, by } => self.raise(queues, heap as usize, by),
+            Call::Insert { .. } => queues.answer(Some(call)),
         }
     }
 
     fn parse(&self, line: &[u8]) -> Option<Call> {
         match line {
             [start @ .., b'\r'] if self.is(ReturnBeforeLineEndAccepted) => Call::parse(start),
-            _ => Call::parse(&self.misread(line)),
+            [b'A', ..] if self.is(RaiseIsNoCall) => None,
+            _ => Call::parse(&self.misread(line)).or_else(|| self.misread_raise(line)),
         }
     }
 
@@ -54,6 +65,9 @@ impl Mock {
         if self.is(EqualKeysInRowOrder) {
             let key = queues.rows[heap][root].key;
             root = queues.rows[heap].iter().position(|tree| tree.key == key).expect("the key is there");
+        }
+        if self.is(FirstByWords) {
+            root = forest::by_words(queues).minimum(heap).expect("not empty");
         }
         if !takes {
             return Answer::done(queues.rows[heap][root].item, queues.rows[heap][root].key, 0, 0);
@@ -96,6 +110,10 @@ impl Mock {
                 queues.rows[heap] = row;
                 self.consolidate_by_numbers(queues, heap)
             }
+            Some(LinkedByWords) => {
+                queues.rows[heap] = row;
+                consolidate_by_words(queues, heap)
+            }
             Some(LinksReportedZero) => 0,
             Some(InventedCount) => links + links / 3,
             _ => links,
@@ -111,6 +129,9 @@ impl Mock {
         }
         if self.is(NoCascade) {
             ancestors.unmark_parent(queues, &position);
+        }
+        if self.is(CutByWords) {
+            return lower_by_words(queues, &position, key);
         }
         let answer = queues.answer(Some(Call::DecreaseKey { item, key }));
         self.after_cuts(queues, &ancestors, answer.cuts);
@@ -176,10 +197,32 @@ fn consolidate_by_row_order(queues: &mut Queues, heap: usize) -> u32 {
     links
 }
 
+/// Linking in which words are compared.
+fn consolidate_by_words(queues: &mut Queues, heap: usize) -> u32 {
+    let amount = queues.amounts[heap];
+    let mut words = forest::by_words(queues);
+    let links = words.consolidate(heap);
+    queues.rows[heap] = words.rows[heap].clone();
+    queues.rows[heap].iter_mut().for_each(|root| shift(root, amount));
+    links
+}
+
+/// A lowering that cuts if the word then comes before that of the parent.
+fn lower_by_words(queues: &mut Queues, position: &Position, key: u32) -> Answer {
+    queues.node_mut(position).key = key;
+    let words = forest::by_words(queues);
+    let mut parent = position.clone();
+    parent.path.pop();
+    let cut = !parent.path.is_empty() && words.node(position).precedes(words.node(&parent));
+    let item = queues.node(position).item;
+    let cuts = if cut { queues.cut(position) } else { 0 };
+    Answer::done(item, key, 0, cuts)
+}
+
 fn names_heap_above_7(line: &[u8]) -> bool {
     let digits: Vec<u8> = line.iter().skip(2).copied().take_while(u8::is_ascii_digit).collect();
     let number = String::from_utf8_lossy(&digits).parse::<u64>().unwrap_or(0);
-    matches!(line, [b'M' | b'T' | b'I' | b'J', b',', ..]) && number > 7
+    matches!(line, [b'M' | b'T' | b'I' | b'J' | b'A', b',', ..]) && number > 7
 }
 
 fn set_mark(queues: &mut Queues, item: u32, marked: bool) {

@@ -3,11 +3,13 @@
 mod budgets;
 mod feeds;
 mod joints;
+mod layouts;
 mod lines;
 mod maps;
 mod numbers;
 mod places;
 mod programs;
+mod raises;
 mod runs;
 mod search;
 mod windows;
@@ -34,6 +36,26 @@ variants! {
         LinkingOnDeleteOfAnother EqualKeysInRowOrder RowByDescendingRank EqualKeyNeverCut
         ReleasedChildrenCountedAsCuts NoCascade JoinedRowInFront DeleteOfTheFirstWithoutLinking
         TallyNotReset TieLinkedByRowOrder;
+    // Raises: which are refused, what they add to, and what they answer.
+    [Modem Runs QueueProgram]
+        RaiseIsNoCall RaiseWithoutAmountAccepted RaiseWithThirdNumberAccepted RaiseWithoutHeapAccepted
+        NumberAboveTheLargestIs25 RaiseOfNoHeapDone RaiseOfEmptyHeapRefused RaiseByNothingRefused
+        Never25 AtTheLargestSum25 OneTooManyAccepted OfTheFirstOnly25 OfRootsOnly25 OfTheLastTreeOnly25 ByWords25
+        ByTheAmount25 OfAnyHeap25 OfEmptyHeaps25 RefusedRaiseDone RaiseSaturates RaiseOfRootsOnly RaiseOfEveryHeap
+        RaiseReplacesTheAmount AmountCutTo16Bits AmountCutTo31Bits AmountSaturates RaiseLinksTheRow
+        RaiseCountedAsLink RaiseCountedAsCut RaiseAnswersWhatIsAdded RaiseAnswersTheAmount RaiseAnswersTrees
+        RaiseAnswersTheFirst;
+    // Words and keys: seen in answers.
+    [Modem Runs QueueProgram]
+        InsertionStoredWithoutAmount LoweringStoredWithoutAmount ElevenByWord OrderByWords LinkedByWords CutByWords
+        FirstByWords ShowingAnswersWord TakingAnswersWord InsertionAnswersWord DeletionAnswersWord LoweringAnswersWord
+        JoinedWordsLeft JoinedWordsLeftIfBothAreRaised JoinedWordsLeftInAnUnraisedHeap JoinedWordsLeftInARaisedHeap
+        JoinedWordsLeftInAnEmptyHeap JoinedWordsTurnedRound JoinedWordsOfRootsOnly JoinTakesTheOtherAmount;
+    // Amounts: seen in store words only, since the keys are right.
+    [Runs]
+        AmountKeptAfterTaking AmountKeptAfterDeletion EmptyHeapRaised JoinedAmountLeft JoinRewritesToTheOtherAmount
+        JoinIntoEmptyTakesTheAmount JoinForgetsTheAmount RaiseRewritesWords AmountSubtracted AmountIsTheFirstWord
+        AmountsAfterAllHeaps;
     // Queues: seen in store words only, since a mark on a root changes no later answer.
     [Runs]
         MarkLeftOnCutTree MarkLeftOnReleasedChild RootMarkedThatLostAChild;
@@ -54,10 +76,19 @@ variants! {
         StoreLeftAsFound KeptRunEmptiesTheStore FirstItemWordIsFirstTree CountOfJoinedHeapLeft RunFiguresSwapped
         RunFiguresLeftOnRefusal;
     [Modem] ModemHoldsOneItemMore;
+    // The size of a store, as it was with four words a heap.
+    [Runs] StoreOf32Words;
+    [Modem] ModemStoreOf2080Words;
+    [Feed Budget] FeedStoreOf32Words FeedStoreOf32WordsToo LongerFeedStoreAccepted StoreTestedAfterSpans;
+    [QueueProgram] QueueProgramStoreOf8224Words;
+    [FeedProgram] FeedProgramStoreOf8224Words;
+    // What a feed call leaves in the words of heap 0.
+    [Feed Budget] FeedLeavesAnAmount;
     // The check of a kept store.
     [Runs]
         SmallChildAccepted MarkedRootAccepted HeapOrderIgnored CountsIgnored EveryStoreSound NoStoreSound
-        MarkedSecondChildRefused;
+        MarkedSecondChildRefused AmountOnEmptyHeapAccepted OrderCheckedByWords FirstItemCheckedByWords
+        AnyAmountRefused WrappedKeyRefused;
     // Feed calls.
     [Feed]
         TableOfAllNone FixedTable ZeroLossAccepted FeedStoreLeftFull FeedStoreLeftAsFound FeedCountsZero
@@ -157,7 +188,8 @@ impl Engine for Mock {
     }
 
     fn queue_run(&self, sheet: &[u8], out: &mut [u8]) -> u32 {
-        let items = MODEM_ITEMS + usize::from(self.is(ModemHoldsOneItemMore));
+        let more = usize::from(self.is(ModemHoldsOneItemMore));
+        let items = MODEM_ITEMS + more - usize::from(self.is(ModemStoreOf2080Words));
         self.run(false, &mut vec![0; store::length(items)], sheet, out).number()
     }
 
@@ -170,7 +202,7 @@ impl Engine for Mock {
     }
 
     fn store_sound(&self, store: &[u32]) -> u32 {
-        u32::from(self.accepts(store).is_some())
+        u32::from(self.accepts_lent(store).is_some())
     }
 
     fn feed_table(&self, asked: Asked, lists: FeedLists, figures: &mut [u32; 3]) -> u32 {
@@ -187,7 +219,8 @@ impl Engine for Mock {
 
     fn queue_program(&self, input: &[u8]) -> Vec<u8> {
         let mut out = vec![0; LINE_ROOM * MAX_LINES];
-        let items = program::ITEMS + usize::from(self.is(ProgramHoldsOneItemMore));
+        let more = usize::from(self.is(ProgramHoldsOneItemMore));
+        let items = program::ITEMS + more - usize::from(self.is(QueueProgramStoreOf8224Words));
         let run = self.run(false, &mut vec![0; store::length(items)], self.read(input), &mut out);
         let mut printed = match run.code {
             0 => out[..run.bytes].to_vec(),

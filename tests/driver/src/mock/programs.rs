@@ -26,6 +26,9 @@ impl Mock {
         if places as usize > most {
             return Err(14);
         }
+        if self.is(FeedProgramStoreOf8224Words) && places == 1024 {
+            return Err(17);
+        }
         let [from, to, loss, opens, closes] = lists.each_ref().map(|list| &list[..spans as usize]);
         let asked = Asked { places, start, minute, spans: Spans { from, to, loss, opens, closes } };
         let [best, last, joints] = &mut [(); 3].map(|()| vec![0; places as usize]);

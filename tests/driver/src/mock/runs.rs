@@ -2,28 +2,53 @@
 
 use super::Mock;
 use super::Variant::*;
+use crate::forest;
 use crate::padding;
 use reference::run::{self, Run, LINE_ROOM};
-use reference::{store, text, Answer, Queues, Tree, NONE};
+use reference::store::{self, heap_index, HeapField, WORDS_A_HEAP};
+use reference::{text, Answer, Queues, Tree, HEAPS, NONE};
 
 impl Mock {
-    pub(super) fn accepts(&self, words: &[u32]) -> Option<Queues> {
+    /// The check of words as they are lent.
+    pub(super) fn accepts_lent(&self, words: &[u32]) -> Option<Queues> {
+        let mut words = words.to_vec();
+        if self.is(StoreOf32Words) {
+            words.resize(words.len() + WORDS_A_HEAP + 3, 0);
+        }
+        store::items(words.len())?;
+        self.lay_out(&mut words, true);
+        self.accepts(&words)
+    }
+
+    fn accepts(&self, words: &[u32]) -> Option<Queues> {
         let decoded = store::decode(words)?;
         let exact = store::encode(&decoded) == words;
         let roots = || decoded.rows.iter().flatten();
         let unmarked = roots().all(|root| !root.marked);
         let (ordered, ranks) = (roots().all(store::ordered), roots().all(store::ranks_suffice));
+        let amounts = store::amounts_fit(&decoded);
+        let by_words = forest::by_words(&decoded);
         let accepted = match self.variant {
-            Some(SmallChildAccepted) => exact && unmarked && ordered,
-            Some(MarkedRootAccepted) => exact && ordered && ranks,
-            Some(HeapOrderIgnored) => exact && unmarked && ranks,
-            Some(CountsIgnored) => same_but_counts(&store::encode(&decoded), words) && unmarked && ordered && ranks,
+            Some(SmallChildAccepted) => exact && unmarked && ordered && amounts,
+            Some(MarkedRootAccepted) => exact && ordered && ranks && amounts,
+            Some(HeapOrderIgnored) => exact && unmarked && ranks && amounts,
+            Some(CountsIgnored) => {
+                same_but(HeapField::Count, &store::encode(&decoded), words) && unmarked && ordered && ranks && amounts
+            }
             Some(EveryStoreSound) => true,
             Some(NoStoreSound) => false,
             Some(MarkedSecondChildRefused) => {
-                exact && unmarked && ordered && ranks && !roots().any(has_marked_small_child)
+                exact && unmarked && ordered && ranks && amounts && !roots().any(has_marked_small_child)
             }
-            _ => exact && unmarked && ordered && ranks,
+            Some(AmountOnEmptyHeapAccepted) => exact && unmarked && ordered && ranks,
+            Some(OrderCheckedByWords) => exact && amounts && store::well_formed(&by_words),
+            Some(FirstItemCheckedByWords) => {
+                let others = same_but(HeapField::FirstItem, &store::encode(&decoded), words);
+                others && has_first_items(&by_words, words) && store::well_formed(&decoded)
+            }
+            Some(AnyAmountRefused) => exact && store::well_formed(&decoded) && decoded.amounts == [0; HEAPS],
+            Some(WrappedKeyRefused) => exact && store::well_formed(&decoded) && !has_wrapped_key(&decoded),
+            _ => exact && unmarked && ordered && ranks && amounts,
         };
         accepted.then_some(decoded)
     }
@@ -48,7 +73,25 @@ impl Mock {
         run.code
     }
 
+    /// A run on words that lie, and are as many, as a fault has it.
     pub(super) fn run(&self, kept: bool, words: &mut [u32], sheet: &[u8], out: &mut [u8]) -> Run {
+        let mut own = words.to_vec();
+        if self.is(StoreOf32Words) {
+            own.resize(words.len() + WORDS_A_HEAP + 3, 0);
+        }
+        let is_store = store::items(own.len()).is_some();
+        if is_store && kept {
+            self.lay_out(&mut own, true);
+        }
+        let run = self.run_laid_out(kept, &mut own, sheet, out);
+        if run.code == 0 {
+            self.lay_out(&mut own, false);
+            words.copy_from_slice(&own[..words.len()]);
+        }
+        run
+    }
+
+    fn run_laid_out(&self, kept: bool, words: &mut [u32], sheet: &[u8], out: &mut [u8]) -> Run {
         let limit = match run::limits(words.len(), sheet, out.len()) {
             3 if self.is(RoomTestedBeforeLines) && out.len() < LINE_ROOM * text::lines(sheet).len() => 4,
             0 if self.is(RefusesEverySheet) => 2,
@@ -80,13 +123,15 @@ impl Mock {
 
     fn spoil_heap_words(&self, words: &mut [u32], sheet: &[u8]) {
         for heap in 0..8 {
+            let [first_tree, first_item, count] =
+                [HeapField::FirstTree, HeapField::FirstItem, HeapField::Count].map(|field| heap_index(field, heap));
             if self.is(FirstItemWordIsFirstTree) {
-                words[4 * heap + 2] = words[4 * heap];
+                words[first_item] = words[first_tree];
             }
             let joined = format!(",{heap}").into_bytes();
             let was_joined = text::lines(sheet).iter().any(|line| line.starts_with(b"J") && line.ends_with(&joined));
-            if self.is(CountOfJoinedHeapLeft) && was_joined && words[4 * heap] == NONE {
-                words[4 * heap + 3] = 1;
+            if self.is(CountOfJoinedHeapLeft) && was_joined && words[first_tree] == NONE {
+                words[count] = 1;
             }
         }
     }
@@ -120,8 +165,21 @@ impl Mock {
     }
 }
 
-fn same_but_counts(expected: &[u32], words: &[u32]) -> bool {
-    expected.iter().zip(words).enumerate().all(|(at, (a, b))| a == b || (at < 32 && at % 4 == 3))
+/// Whether words are the same but for one word of each heap.
+fn same_but(field: HeapField, expected: &[u32], words: &[u32]) -> bool {
+    let exempt: Vec<usize> = (0..HEAPS).map(|heap| heap_index(field, heap)).collect();
+    expected.iter().zip(words).enumerate().all(|(at, (a, b))| a == b || exempt.contains(&at))
+}
+
+/// Whether the words name the first items of these forests.
+fn has_first_items(queues: &Queues, words: &[u32]) -> bool {
+    let first = |heap: usize| queues.minimum(heap).map_or(NONE, |root| queues.rows[heap][root].item);
+    (0..HEAPS).all(|heap| words[heap_index(HeapField::FirstItem, heap)] == first(heap))
+}
+
+/// Whether a key is smaller than the amount, so that its word is larger.
+fn has_wrapped_key(queues: &Queues) -> bool {
+    forest::nodes_by_heap(queues).any(|(heap, node)| node.key < queues.amounts[heap])
 }
 
 fn has_marked_small_child(tree: &Tree) -> bool {
