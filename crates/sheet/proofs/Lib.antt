@@ -13,3 +13,4 @@ pub mod Moments
 pub mod Histories
 pub mod FreshIsKept
 pub mod FreshHistories
+pub mod Unraised
