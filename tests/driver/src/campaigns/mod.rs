@@ -5,6 +5,7 @@ pub mod budgets;
 pub mod codes;
 pub mod feeds;
 pub mod large_stores;
+pub mod lengths;
 pub mod linking_places;
 pub mod map_texts;
 pub mod numbers;
@@ -12,7 +13,6 @@ pub mod programs;
 pub mod raised_sheets;
 pub mod raises;
 pub mod runs;
-pub mod store_lengths;
 pub mod stores;
 pub mod ties;
 pub mod windows;
@@ -69,8 +69,8 @@ pub const ALL: [Campaign; 86] = [
     campaign(Part::Feed, "feed: worked run", feeds::worked),
     campaign(Part::Feed, "feed: worked windows", windows::worked),
     campaign(Part::Feed, "feed: worked ties", ties::worked),
-    campaign(Part::Feed, "feed: lengths of the list of joints", ties::list_lengths),
-    campaign(Part::Feed, "feed: lengths of the store", store_lengths::full),
+    campaign(Part::Feed, "feed: lengths of the list of joints", lengths::joints),
+    campaign(Part::Feed, "feed: lengths of the store", lengths::store),
     campaign(Part::Feed, "feed: two faulty spans, open or closed", windows::span_faults),
     campaign(Part::Feed, "feed: every choice of faults at once", feeds::several_faults),
     campaign(Part::Feed, "feed: codes 14 to 24 at their limits", feeds::limits),
@@ -88,8 +88,8 @@ pub const ALL: [Campaign; 86] = [
     campaign(Part::Budget, "budget: worked runs", budgets::worked),
     campaign(Part::Budget, "budget: worked windows", windows::worked_within),
     campaign(Part::Budget, "budget: worked ties", ties::worked_within),
-    campaign(Part::Budget, "budget: lengths of the list of joints", ties::list_lengths_within),
-    campaign(Part::Budget, "budget: lengths of the store", store_lengths::within),
+    campaign(Part::Budget, "budget: lengths of the list of joints", lengths::joints_within),
+    campaign(Part::Budget, "budget: lengths of the store", lengths::store_within),
     campaign(Part::Budget, "budget: two faulty spans, open or closed", windows::span_faults_within),
     campaign(Part::Budget, "budget: codes 14 to 24 at their limits", budgets::limits),
     campaign(Part::Budget, "budget: every choice of faults at once", budgets::several_faults),

@@ -1,9 +1,9 @@
 //! Chains of equal loss: which of them the table shows, how many spans it has, and the list of these numbers.
 
 use super::budgets::{self, every_budget, holds, some_budgets};
-use super::feeds::{self, expect, WORKED};
+use super::feeds::{expect, WORKED};
 use super::windows::{as_the_open_spans_alone, at_their_minutes, law};
-use crate::check::{BudgetCall, Checker, FeedCall, Verdict};
+use crate::check::{Checker, FeedCall, Verdict};
 use crate::maps;
 use crate::random::Random;
 use reference::{store, NONE};
@@ -100,65 +100,6 @@ pub fn worked_within(checker: &mut Checker) -> Verdict {
 /// The map texts of the worked maps.
 pub fn worked_texts() -> impl Iterator<Item = Vec<u8>> {
     WORKED_MAPS.into_iter().map(|(places, start, spans, ..)| maps::text(places, start, spans, false))
-}
-
-/// The faults of a call beside that of the length of a list, in the order in which they are tested.
-pub const OTHERS: [u32; 8] = [14, 15, 24, 16, 18, 19, 20, 23];
-pub const OTHERS_WITHIN: [u32; 9] = [14, 15, 24, 16, 22, 18, 19, 20, 23];
-
-/// The first of the faults that are tested before lengths of lists and store.
-pub fn before_lengths(faults: &[u32]) -> Option<u32> {
-    faults.iter().copied().find(|code| [14, 15, 24, 16].contains(code))
-}
-
-/// A call with a list of joints of this length, and with other faults.
-fn with_length(joints: usize, others: &[u32], way: usize) -> BudgetCall {
-    let mut call = budgets::call(&maps::call(3, 0, &WORKED), 11, way);
-    call.feed.joints = joints;
-    others.iter().for_each(|&code| budgets::make_faulty(&mut call, code, way));
-    call
-}
-
-/// Lists of joints of wrong lengths beside every choice of other faults, with the code: 17 comes after 16 and before all
-/// that is tested later.
-fn wrong_lengths<const N: usize>(others: [u32; N]) -> impl Iterator<Item = (BudgetCall, u32)> {
-    let choices = (0..1 << N).map(move |bits| feeds::chosen(others, bits));
-    choices.flat_map(|chosen| {
-        let code = before_lengths(&chosen).unwrap_or(17);
-        let calls = |joints| [0, 1, 2, 3].map(|way| (with_length(joints, &chosen, way), code));
-        [0, 1, 2, 4, 5, 59].map(calls).into_iter().flatten()
-    })
-}
-
-/// Lists of joints of every length up to one more than the places, and near it, on maps of few and of most places.
-fn lengths() -> impl Iterator<Item = (FeedCall, u32)> {
-    let sizes = [(1, 0..3), (2, 0..4), (3, 0..6), (256, 254..259), (4096, 4094..4099)];
-    sizes.into_iter().flat_map(|(places, lengths)| {
-        lengths.map(move |joints| {
-            let call = FeedCall { joints, ..maps::call(places, 0, &maps::chain(places, 7)) };
-            (call, if joints == places as usize { 0 } else { 17 })
-        })
-    })
-}
-
-pub fn list_lengths(checker: &mut Checker) -> Verdict {
-    for (call, code) in lengths() {
-        expect(checker.feed(&call)?, code, "length of the list of joints")?;
-    }
-    for (call, code) in wrong_lengths(OTHERS) {
-        expect(checker.feed(&call.feed)?, code, "length of the list of joints beside other faults")?;
-    }
-    Ok(())
-}
-
-pub fn list_lengths_within(checker: &mut Checker) -> Verdict {
-    for (feed, code) in lengths() {
-        expect(checker.budget(&budgets::call(&feed, 9, 1))?.code, code, "length of the list of joints")?;
-    }
-    for (call, code) in wrong_lengths(OTHERS_WITHIN) {
-        expect(checker.budget(&call)?.code, code, "length of the list of joints beside other faults")?;
-    }
-    Ok(())
 }
 
 /// Every map of ways from a place to a later one, each with a span of loss 1 to `most` or with none. The places then get
