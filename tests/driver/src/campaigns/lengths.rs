@@ -67,7 +67,7 @@ impl Lent {
         })
     }
 
-    /// A call on three places with a thing of this length, and with other faults.
+    /// A call on three places with this length, and with other faults.
     fn beside(&self, length: usize, others: &[u32], way: usize) -> BudgetCall {
         let mut call = budgets::call(&maps::call(3, 0, &WORKED), 11, way);
         (self.set)(&mut call.feed, length);
