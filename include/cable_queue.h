@@ -95,8 +95,10 @@ uint32_t store_sound(const uint32_t *store, size_t store_len);
  * chain of that loss. last[p] is the lowest-numbered span that ends such a chain: of that loss, and with that many spans.
  * All three are CABLE_QUEUE_NONE where no chain leads; at the start best and joints are 0, and last is CABLE_QUEUE_NONE.
  * Going back from a place over the last span of each place that is come to, the start is met after joints[p] spans, and
- * not before. The store is made empty, used and left empty. The figures are links, cuts and spans examined, closed ones
- * among them; three zeros after a refusal. */
+ * not before. The store is made empty, used and left empty.
+ *
+ * The figures are links, cuts and spans examined; three zeros after a refusal. The spans examined are exactly those e for
+ * which best[from[e]] is not CABLE_QUEUE_NONE: every span that leaves a reached place, once, closed ones included. */
 uint32_t feed_table(uint32_t places, uint32_t start, uint32_t minute, const uint32_t *from, size_t from_len,
                     const uint32_t *to, size_t to_len, const uint32_t *loss, size_t loss_len, const uint32_t *opens,
                     size_t opens_len, const uint32_t *closes, size_t closes_len, uint32_t *best, size_t best_len,
@@ -109,9 +111,11 @@ uint32_t feed_table(uint32_t places, uint32_t start, uint32_t minute, const uint
  * When it is done, best[p], last[p] and joints[p] are those of feed_table where that loss is at most the budget, and
  * CABLE_QUEUE_NONE elsewhere, all three. The places that have a loss in best are listed by ascending loss, those of equal
  * loss by ascending number; list words beyond them stay as they were. A list longer than the number of places is fine.
- * The store is made empty, used and left empty. The figures are links, cuts, spans examined, closed ones among them, and
- * places listed; four zeros after a refusal. Links and cuts are those made until the first place waiting is beyond the
- * budget. */
+ * The store is made empty, used and left empty.
+ *
+ * The figures are links, cuts, spans examined and places listed; four zeros after a refusal. Links and cuts are those made
+ * until the first place waiting is beyond the budget. The spans examined are exactly those e for which from[e] is a listed
+ * place, closed ones included; spans of places beyond the budget are not among them. */
 uint32_t feed_budget(uint32_t places, uint32_t start, uint32_t minute, const uint32_t *from, size_t from_len,
                      const uint32_t *to, size_t to_len, const uint32_t *loss, size_t loss_len, const uint32_t *opens,
                      size_t opens_len, const uint32_t *closes, size_t closes_len, uint32_t budget, uint32_t *best,

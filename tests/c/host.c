@@ -538,6 +538,55 @@ static void try_ties(void) {
         expect("a tie within a budget", feeds_within(call_of(&ties[TIES - 1]), &better_within[i], 8, 0));
 }
 
+/* Spans examined: places 4 and 5 are reached from place 4 only, which has two spans; spans 1 and 2 are open from 360 to 720,
+ * span 4 for a minute. Place 3, which is visited last, has no span. */
+static const feed_call counted_map = { 6, 0, 0, { 0, 0, 1, 2, 2, 4, 4 }, { 1, 2, 2, 3, 0, 0, 5 }, { 7, 20, 5, 4, 1, 1, 1 },
+                                       { 0, 360, 360, 0, 0, 0, 0 }, { 1440, 720, 720, 1440, 1, 1440, 1440 },
+                                       7, 7, 7, 7, 7, 6, 6, 6, STORE(6) };
+
+/* Start, minute, budget and spans examined; with the largest budget the full call examines as many. */
+static const uint32_t counted[][4] = { { 0, 0, NONE, 3 }, { 0, 360, NONE, 5 }, { 1, 0, NONE, 1 },  { 2, 0, NONE, 5 },
+                                       { 3, 360, NONE, 0 }, { 4, 360, NONE, 7 }, { 5, 360, NONE, 0 }, { 0, 360, 0, 2 },
+                                       { 0, 360, 6, 2 },    { 0, 360, 7, 3 },    { 0, 360, 11, 3 },   { 0, 360, 12, 5 },
+                                       { 4, 360, 1, 4 } };
+
+/* The spans of the call that leave one of the places. */
+static uint32_t leaving(const feed_call *call, const uint32_t *places, size_t count) {
+    uint32_t spans = 0;
+    for (size_t e = 0; e < call->from_len; e++)
+        for (size_t i = 0; i < count; i++) spans += call->from[e] == places[i];
+    return spans;
+}
+
+/* Both calls examine so many spans, and the one with a budget those of the places that it lists. */
+static int examines(feed_call call, uint32_t budget, uint32_t examined) {
+    span_lists spans = copy_spans(&call);
+    result_lists lists = filled_results(&call);
+    words listed = filled(call.places), figures = filled(4);
+    int same = feed_budget(call.places, call.start, call.minute, LENT_SPANS(spans), budget, LENT_TABLE(lists), LENT(listed),
+                           LENT(lists.store), figures.at) == 0;
+    same &= figures.at[2] == examined && leaving(&call, listed.at, figures.at[3]) == examined;
+    if (budget == NONE) {
+        same &= feed_table(call.places, call.start, call.minute, LENT_SPANS(spans), LENT_TABLE(lists), LENT(lists.store),
+                           figures.at) == 0;
+        same &= figures.at[2] == examined;
+    }
+    free(listed.at);
+    free(figures.at);
+    free_results(lists);
+    free_spans(spans);
+    return same;
+}
+
+static void try_counts(void) {
+    for (size_t i = 0; i < sizeof counted / sizeof *counted; i++) {
+        feed_call call = counted_map;
+        call.start = counted[i][0];
+        call.minute = counted[i][1];
+        expect("spans examined", examines(call, counted[i][2], counted[i][3]));
+    }
+}
+
 /* A map is refused by the full call and by the one with a budget, and with a place list of 2 words under its own code. */
 static void expect_refused(const char *what, feed_call call, uint32_t code, uint32_t short_code) {
     expect(what, feeds(call, &worked_table, code));
@@ -704,6 +753,7 @@ int main(void) {
     try_tables();
     try_budgets();
     try_ties();
+    try_counts();
     try_refused_feeds();
     try_orders_of_codes();
     try_faulty_closed_spans();

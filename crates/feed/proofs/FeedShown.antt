@@ -1,4 +1,4 @@
--- What is printed of a feed call: its code alone, or the table and the figures.
+-- What is printed of a feed call: its code alone, or the table and the figures. F says what it answered and left.
 use Prim.Native.Nat.{ℕ, _+_, _^_, _≤_, _<_}
 use mathlib.Core.Path.{_≡_, sym, ap, _∙_}
 use mathlib.Core.Logic.{_≢_}
@@ -15,40 +15,41 @@ use Rattle.paths.specs.Table.{unlimited, Table}
 use Rattle.paths.specs.Feed.{ResultLists, Feed, feedResult}
 use Rattle.paths.proofs.FeedDone.{feedDone}
 use Rattle.finder.specs.declared.Fed.{Fed}
-use Rattle.finder.specs.Promise.{Feeds}
-use Rattle.feed.specs.Shown.{codeLine, feedText, ShowsFeed, figuresMost, Roomy, WroteRow, TableReady, TableWrote}
+use Rattle.finder.specs.Answers.{feedOf}
+use Rattle.feed.specs.Shown.{codeLine, feedText, Shows, figuresMost, Roomy, WroteRow, TableReady, TableWrote}
 use Rattle.feed.proofs.Fields.{code-within}
 
-module _ (m : Map) (lent : ResultLists) (fed : Fed) (left : ResultLists) (F : Feeds m lent fed left) where
+module _ (m : Map) (lent : ResultLists) (fed : Fed) (left : ResultLists) (F : feedOf fed left ≡ feedResult m lent) where
   abbrev w : Feed
   w = feedResult m lent
 
+  same-code : fed .code ≡ w .code
+  same-code = ap (λ (f : Feed). f .code) F
+
   pub shows-refused : fed .code ≢ 0 → fed .code < 2 ^ 32 → (out : List ℕ) → Roomy (m .places) out → (r : ℕ)
-      (out′ : List ℕ) → Wrote out 0 (field (fed .code) lineFeed) out′ r → ShowsFeed m lent out r out′
+      (out′ : List ℕ) → Wrote out 0 (field (fed .code) lineFeed) out′ r → Shows (feedText (m .places) w) out r out′
   unfolding feedText codeLine
   shows-refused z h out room r out′ v =
       record {
-        examined = 0;
-        most = omega arith;
-        wrote = rw (sym (F .code-is), ne-eqb (fed .code) 0 z) v;
+        wrote = rw (sym same-code, ne-eqb (fed .code) 0 z) v;
         within = code-within (fed .code) h (omega (arith, room)) v;
       }
 
   module _ (z : fed .code ≡ 0) where
     abbrev done : w .code ≡ 0
-    done = sym (F .code-is) ∙ z
+    done = sym same-code ∙ z
 
     abbrev table : Table unlimited m (w .left .best) (w .left .last) (w .left .joints)
     table = feedDone m lent done .table
 
     best-n : length (left .best) ≡ m .places
-    best-n = ap (λ (l : ResultLists). length (l .best)) (F .left-is) ∙ table .bestN
+    best-n = ap (λ (f : Feed). length (f .left .best)) F ∙ table .bestN
 
     last-n : length (left .last) ≡ m .places
-    last-n = ap (λ (l : ResultLists). length (l .last)) (F .left-is) ∙ table .lastN
+    last-n = ap (λ (f : Feed). length (f .left .last)) F ∙ table .lastN
 
     joints-n : length (left .joints) ≡ m .places
-    joints-n = ap (λ (l : ResultLists). length (l .joints)) (F .left-is) ∙ table .jointsN
+    joints-n = ap (λ (f : Feed). length (f .left .joints)) F ∙ table .jointsN
 
     module _ (few : m .places < 2 ^ 32) (out : List ℕ) (room : Roomy (m .places) out) where
       pub table-ready : TableReady (left .best) (left .last) (left .joints) out
@@ -66,20 +67,10 @@ module _ (m : Map) (lent : ResultLists) (fed : Fed) (left : ResultLists) (F : Fe
 
         pub shows-done : (r : ℕ) (out′ : List ℕ)
             → WroteRow figuresMost out₁ at (row (fed .links ∷ fed .cuts ∷ fed .examined ∷ [])) out′ r
-            → ShowsFeed m lent out r out′
+            → Shows (feedText (m .places) w) out r out′
         unfolding feedText
         shows-done r out′ v =
             record {
-              examined = fed .examined;
-              most = F .examined-most;
-              wrote =
-                  rw (
-                    eq-eqb (w .code) 0 done,
-                    sym (F .left-is),
-                    sym (F .links-is),
-                    sym (F .cuts-is),
-                    sym best-n,
-                  )
-                  (wrote-then (T .wrote) (v .wrote));
+              wrote = rw (eq-eqb (w .code) 0 done, sym F, sym best-n) (wrote-then (T .wrote) (v .wrote));
               within = omega (arith, v .short, figures-room, wrote-length (v .wrote));
             }

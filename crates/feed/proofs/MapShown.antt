@@ -14,10 +14,10 @@ use Rattle.mapfile.specs.declared.MapRead.{MapRead}
 use Rattle.mapfile.specs.Read.{Reading, Reads, readMap}
 use Rattle.mapfile.proofs.Fits.{ReadFits, read-fits}
 use Rattle.paths.specs.Map.{SpanLists, spanLists, Windows, windows, mapAt}
-use Rattle.paths.specs.Feed.{ResultLists, resultLists}
+use Rattle.paths.specs.Feed.{ResultLists, resultLists, feedResult}
 use Rattle.feed.specs.Shown.{
   codeLine,
-  ShowsFeed,
+  feedText,
   takeSpans,
   takeWindows,
   takeResults,
@@ -25,14 +25,9 @@ use Rattle.feed.specs.Shown.{
   fedBy,
   mostPlaces,
   mapText,
-  ShowsMap,
+  Shows,
 }
 use Rattle.feed.proofs.Fields.{code-within}
-
-length-take-most : (n : ℕ) (l : List ℕ) → length (take n l) ≤ n
-length-take-most zero l = omega arith
-length-take-most (suc n) [] = omega arith
-length-take-most (suc n) (x ∷ l) = omega (arith, length-take-most n l)
 
 -- the spans read fit the lists
 pub spans-read : (text : List ℕ) (lent : SpanLists) (lentWindows : Windows) {ans : MapRead} {left : SpanLists}
@@ -52,44 +47,40 @@ spans-read text lent lentWindows R =
 module _ (w : Reading) (ans : MapRead) (left : SpanLists) (leftWindows : Windows) (R : Reads w ans left leftWindows)
     (own : ResultLists) (out : List ℕ) (room : 11 ≤ length out) where
   pub map-refused : ans .code ≢ 0 → ans .code < 2 ^ 32 → (r : ℕ) (out′ : List ℕ)
-      → Wrote out 0 (field (ans .code) lineFeed) out′ r → ShowsMap w own out r out′
+      → Wrote out 0 (field (ans .code) lineFeed) out′ r → Shows (mapText w own) out r out′
   unfolding mapText codeLine
   map-refused z h r out′ v =
       record {
-        examined = 0;
-        most = omega arith;
         wrote = rw (sym (R .answer-is), ne-eqb (ans .code) 0 z) v;
         within = code-within (ans .code) h room v;
       }
 
   module _ (z : ans .code ≡ 0) where
     pub map-many : mostPlaces < ans .places → (r : ℕ) (out′ : List ℕ) → Wrote out 0 (field 14 lineFeed) out′ r
-        → ShowsMap w own out r out′
+        → Shows (mapText w own) out r out′
     unfolding mapText codeLine
     map-many h r out′ v =
         record {
-          examined = 0;
-          most = omega arith;
           wrote = rw (sym (R .answer-is), eq-eqb (ans .code) 0 z, lt-ltb mostPlaces (ans .places) h) v;
           within = code-within 14 (omega arith) room v;
         }
 
     pub map-fed : ans .places ≤ mostPlaces → {k : ℕ} → k ≡ storeSize (ans .places) → (r : ℕ) (out′ : List ℕ)
-        → ShowsFeed
+        → Shows
+        (feedText (ans .places)
+        (feedResult
         (mapAt (ans .places) (ans .start) (ans .minute)
         (spanLists (take (ans .spans) (left .from)) (take (ans .spans) (left .to)) (take (ans .spans) (left .loss)))
         (windows (take (ans .spans) (leftWindows .opens)) (take (ans .spans) (leftWindows .closes))))
         (resultLists (take (ans .places) (own .best)) (take (ans .places) (own .last))
-        (take (ans .places) (own .joints)) (take k (own .store))) out r out′
-        → ShowsMap w own out r out′
+        (take (ans .places) (own .joints)) (take k (own .store))))) out r out′
+        → Shows (mapText w own) out r out′
     unfolding mapText mapRead fedBy takeSpans takeWindows takeResults
     map-fed h q r out′ S =
         let few : w .answer .places ≤ mostPlaces = rw (R .answer-is) at h in
         let done : w .answer .code ≡ 0 = rw (R .answer-is) at z in
         let T = rw (q, R .answer-is, R .left-is, R .windows-are) at S in
         record {
-          examined = T .examined;
-          most = omega (arith, T .most, length-take-most (w .answer .spans) (w .left .from));
           wrote = rw (eq-eqb (w .answer .code) 0 done, le-ltb mostPlaces (w .answer .places) few) (T .wrote);
           within = T .within;
         }

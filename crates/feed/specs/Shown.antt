@@ -11,7 +11,7 @@ use Rattle.text.specs.Fields.{comma}
 use Rattle.text.specs.Lines.{lineFeed}
 use Rattle.text.specs.Decimal.{field, row}
 use Rattle.text.specs.Output.{Wrote}
-use Rattle.paths.specs.Map.{SpanLists, spanLists, Windows, windows, Map, mapAt, spans}
+use Rattle.paths.specs.Map.{SpanLists, spanLists, Windows, windows, Map, mapAt}
 use Rattle.paths.specs.Feed.{ResultLists, resultLists, Feed, feedResult}
 use Rattle.mapfile.specs.Read.{Reading, readMap}
 
@@ -33,11 +33,11 @@ entryRows best last joints (suc p) =
 unfoldable pub codeLine : ℕ → List ℕ
 codeLine code = field code lineFeed
 
--- a feed call with n places; the number of spans examined is given apart
-unfoldable pub feedText : ℕ → Feed → ℕ → List ℕ
-feedText n w examined =
+-- a feed call with n places
+unfoldable pub feedText : ℕ → Feed → List ℕ
+feedText n w =
     cond (not (eqb (w .code) 0)) (codeLine (w .code))
-    (entryRows (w .left .best) (w .left .last) (w .left .joints) n ++ row (w .links ∷ w .cuts ∷ examined ∷ []))
+    (entryRows (w .left .best) (w .left .last) (w .left .joints) n ++ row (w .links ∷ w .cuts ∷ w .examined ∷ []))
 
 -- ---- a map text
 
@@ -81,31 +81,21 @@ ownResults =
     (replicate (storeSize mostPlaces) 0)
 
 -- The reader's code is tested first, then 14 for more places than the program has room for, then the call's code.
-unfoldable pub mapText : Reading → ResultLists → ℕ → List ℕ
-mapText w own examined =
+unfoldable pub mapText : Reading → ResultLists → List ℕ
+mapText w own =
     cond (not (eqb (w .answer .code) 0)) (codeLine (w .answer .code))
-    (cond (ltb mostPlaces (w .answer .places)) (codeLine 14)
-    (feedText (w .answer .places) (fedBy w own) examined))
-
--- The number of spans examined is open up to the number of spans. The first r bytes are what is printed.
-pub record ShowsMap (w : Reading) (own : ResultLists) (out : List ℕ) (r : ℕ) (out′ : List ℕ) : Type 0 where
-  pub examined : ℕ
-  pub most : examined ≤ w .answer .spans
-  pub wrote : Wrote out 0 (mapText w own examined) out′ r
-  pub within : r ≤ length out′
+    (cond (ltb mostPlaces (w .answer .places)) (codeLine 14) (feedText (w .answer .places) (fedBy w own)))
 
 -- what the program prints of a map text
-abbrev pub ShowsText : List ℕ → List ℕ → ℕ → List ℕ → Type 0
-ShowsText text out r out′ = ShowsMap (readMap text ownSpans ownWindows) ownResults out r out′
+abbrev pub programText : List ℕ → List ℕ
+programText text = mapText (readMap text ownSpans ownWindows) ownResults
+
+-- The first r bytes are these, and they are what is printed.
+pub record Shows (bytes out : List ℕ) (r : ℕ) (out′ : List ℕ) : Type 0 where
+  pub wrote : Wrote out 0 bytes out′ r
+  pub within : r ≤ length out′
 
 -- ---- for the functions inside
-
--- the same of a feed call
-pub record ShowsFeed (m : Map) (lent : ResultLists) (out : List ℕ) (r : ℕ) (out′ : List ℕ) : Type 0 where
-  pub examined : ℕ
-  pub most : examined ≤ spans m
-  pub wrote : Wrote out 0 (feedText (m .places) (feedResult m lent) examined) out′ r
-  pub within : r ≤ length out′
 
 -- the most bytes of a place's row, which has four fields of at most eleven, and of the three figures
 abbrev pub entryMost : ℕ

@@ -5,9 +5,9 @@ ghost use lib.ListN.{length};
 ghost use Rattle.text.specs.Decimal.{row};
 ghost use Rattle.text.specs.Output.{Wrote};
 ghost use Rattle.paths.specs.Map.{spanLists, windows, mapAt};
-ghost use Rattle.paths.specs.Feed.{resultLists};
-ghost use Rattle.feed.specs.Shown.{wordField, entryRow, entryMost, figuresMost, Roomy, WroteRow};
-ghost use Rattle.feed.specs.Shown.{TableReady, TableWrote, ShowsFeed, ShowsText};
+ghost use Rattle.paths.specs.Feed.{resultLists, feedResult};
+ghost use Rattle.feed.specs.Shown.{wordField, entryRow, feedText, programText, Shows};
+ghost use Rattle.feed.specs.Shown.{entryMost, figuresMost, Roomy, WroteRow, TableReady, TableWrote};
 use libc::STDIN_FILENO;
 use libc::STDOUT_FILENO;
 use store::NONE;
@@ -85,10 +85,12 @@ fn answer_feed(
     out: &mut [u8],
 ) -> usize
     requires { ⌜ Roomy places (now out) ⌝ }
-    ensures { λ r. ⌜ ShowsFeed
+    ensures { λ r. ⌜ Shows
+        (feedText places
+        (feedResult
         (mapAt places start minute (spanLists (now (from .entry)) (now (to .entry)) (now (loss .entry)))
         (windows (now (opens .entry)) (now (closes .entry))))
-        (resultLists (now (best .entry)) (now (last .entry)) (now (joints .entry)) (now (store .entry)))
+        (resultLists (now (best .entry)) (now (last .entry)) (now (joints .entry)) (now (store .entry)))))
         (now (out .entry)) r (now (out .exit)) ⌝ }
 {
     let fed = finder::feed(
@@ -117,7 +119,7 @@ fn answer_feed(
 // 1,024 places and for the figures.
 fn answer_text(text: &[u8], out: &mut [u8]) -> usize
     requires { ⌜ 46000 ≤ length (now out) ⌝ }
-    ensures { λ r. ⌜ ShowsText (now (text .entry)) (now (out .entry)) r (now (out .exit)) ⌝ }
+    ensures { λ r. ⌜ Shows (programText (now (text .entry))) (now (out .entry)) r (now (out .exit)) ⌝ }
 {
     let mut from = [0u32; SPANS];
     let mut to = [0u32; SPANS];

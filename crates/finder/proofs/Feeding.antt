@@ -3,7 +3,6 @@ use Prim.Native.Nat.{ℕ, zero, suc}
 use mathlib.Core.Path.{_≡_, refl, sym, ap, _∙_}
 use mathlib.Core.Logic.{_≢_}
 use mathlib.Core.List.{List}
-use native.Mathlib.Omega.{arith}
 use lib.ListN.{getD}
 use lib.Seq.{ext-getD}
 use Rattle.rules.specs.Forests.{none}
@@ -15,53 +14,32 @@ use Rattle.paths.specs.Table.{Limit, unlimited}
 use Rattle.paths.specs.Search.{Search, beyond, search, find, hideWaiting, shownBest, shownLast, shownJoints}
 use Rattle.paths.specs.Codes.{feedCode}
 use Rattle.paths.specs.Feed.{ResultLists, resultLists, feedAs, codeFor, feedResult}
-use Rattle.paths.specs.Theorems.{between, Fits}
+use Rattle.paths.specs.Theorems.{Fits}
 use Rattle.finder.specs.SearchState.{BeginReady, Found}
-use Rattle.finder.specs.Answers.{refusedFed, doneFed}
-use Rattle.finder.specs.Promise.{FedAs, Feeds}
+use Rattle.finder.specs.Answers.{refusedFed, doneFed, feedOf}
 use Rattle.paths.proofs.Hiding.{length-hide, hide-at}
 use Rattle.paths.proofs.Table.{none-waits}
 use Rattle.paths.proofs.Served.{endsEmpty}
-use Rattle.paths.proofs.Examined.{examinedAtMost}
+use Rattle.paths.proofs.Examined.{examined-shown}
 use Rattle.paths.proofs.Accepts.{codeZero}
 
 -- ---- under any limit
 
 module _ (limit : Limit) (m : Map) (lent : ResultLists) where
-  pub fed-refused : (code : ℕ) → code ≢ 0 → FedAs m (feedAs code limit m lent) (refusedFed code) lent
+  pub fed-refused : (code : ℕ) → code ≢ 0 → feedOf (refusedFed code) lent ≡ feedAs code limit m lent
   unfolding feedAs
   fed-refused zero n = absurd (n refl)
-  fed-refused (suc code) n =
-      record {
-        code-is = refl;
-        links-is = refl;
-        cuts-is = refl;
-        left-is = refl;
-        examined-most = omega arith;
-        examined-refused = λ _. refl;
-      }
+  fed-refused (suc code) n = refl
 
   -- The figures are those of the search, and the lists left show the table.
   pub fed-done : Accepted m → (l : ResultLists) (r : Progress) → Found (beyond limit) m l r
       → (best last joints : List ℕ) → best ≡ shownBest (find limit m) → last ≡ shownLast (find limit m)
       → joints ≡ shownJoints (find limit m)
-      → FedAs m (feedAs 0 limit m lent) (doneFed r) (resultLists best last joints (encode (emptyQueues (m .places))))
+      → feedOf (doneFed r) (resultLists best last joints (encode (emptyQueues (m .places)))) ≡ feedAs 0 limit m lent
   unfolding feedAs search
   fed-done A l r F best last joints b e j =
       let T = F .tracks in
-      record {
-        code-is = refl;
-        links-is = T .logged .links;
-        cuts-is = T .logged .cuts;
-        left-is = rw (b, e, j);
-        examined-most =
-            omega (
-              arith,
-              T .examined-is,
-              examinedAtMost (beyond limit) m A (find limit m) (between (m .places)),
-            );
-        examined-refused = λ n. absurd (n refl);
-      }
+      rw (T .logged .links, T .logged .cuts, T .examined-is ∙ examined-shown limit m A, b, e, j)
 
 -- code 0: the map is accepted, and what was lent has the right sizes
 pub code-fits : (m : Map) (bestN lastN jointsN listedN storeN code : ℕ)
@@ -90,12 +68,12 @@ hide-none waits words n =
     (λ p _. hide-at waits words p ∙ rw (n p))
 
 module _ (m : Map) (lent : ResultLists) (code : ℕ) (is : code ≡ codeFor m lent (m .places)) where
-  pub feeds-refused : code ≢ 0 → Feeds m lent (refusedFed code) lent
+  pub feeds-refused : code ≢ 0 → feedOf (refusedFed code) lent ≡ feedResult m lent
   unfolding feedResult
   feeds-refused n = rw (sym is) (fed-refused unlimited m lent code n)
 
   pub feeds-done : code ≡ 0 → (left : ResultLists) (r : Progress) → Found (beyond unlimited) m left r
-      → Feeds m lent (doneFed r) left
+      → feedOf (doneFed r) left ≡ feedResult m lent
   unfolding feedResult
   feeds-done z left r F =
       let A = code-fits m _ _ _ (m .places) _ code is z .accepted in

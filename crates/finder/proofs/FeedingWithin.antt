@@ -11,13 +11,12 @@ use Rattle.relax.specs.declared.Progress.{Progress}
 use Rattle.paths.specs.Map.{Map, Accepted}
 use Rattle.paths.specs.Table.{upTo}
 use Rattle.paths.specs.Search.{beyond, search}
-use Rattle.paths.specs.Feed.{ResultLists, codeFor, budgetAs, budgetResult}
+use Rattle.paths.specs.Feed.{ResultLists, codeFor, feedAs, budgetAs, budgetResult}
 use Rattle.paths.specs.Theorems.{Fits}
 use Rattle.paths.proofs.Steps.{search-between}
 use Rattle.finder.specs.SearchState.{Begun, ListReady, FoundListed}
 use Rattle.finder.specs.Hidden.{Hidden}
-use Rattle.finder.specs.Answers.{refusedFed, doneFed}
-use Rattle.finder.specs.Promise.{FedAs, FeedsWithin}
+use Rattle.finder.specs.Answers.{refusedFed, doneFed, feedOf, budgetFeedOf}
 use Rattle.finder.proofs.Ready.{logged-sized}
 use Rattle.finder.proofs.Beginning.{begun-stands}
 use Rattle.finder.proofs.Feeding.{fed-refused, fed-done, code-fits}
@@ -58,35 +57,30 @@ module _
   result-is = rw (sym is)
 
   pub within-refused : code ≢ 0
-      → FeedsWithin budget m lent lentList (record { fed = refusedFed code; listed = 0 }) lent lentList
+      → budgetFeedOf (record { fed = refusedFed code; listed = 0 }) lent lentList ≡ budgetResult budget m lent lentList
   unfolding budgetAs
-  within-refused n =
-      let R = go code n in
-      record { fed-as = rw result-is (R .0); number-is = rw result-is (R .1); listed-is = rw result-is (R .2) }
+  within-refused n = go code n ∙ sym result-is
     where
-      go : (c : ℕ) → c ≢ 0 →
-          let b = budgetAs c budget m lent lentList in
-          FedAs m (b .feed) (refusedFed c) lent × (0 ≡ b .number) × (lentList ≡ b .listed)
+      go : (c : ℕ) → c ≢ 0
+          → budgetFeedOf (record { fed = refusedFed c; listed = 0 }) lent lentList ≡ budgetAs c budget m lent lentList
       go zero n = absurd (n refl)
-      go (suc c) n = (fed-refused (upTo budget) m lent (suc c) n, refl, refl)
+      go (suc c) n = rw (fed-refused (upTo budget) m lent (suc c) n)
 
   pub within-done : code ≡ 0 → (l : ResultLists) (listed : List ℕ) (r : Progress)
       → FoundListed budget m lentList l listed r → (left : ResultLists)
       → Hidden budget (l .best) (l .last) (l .joints) (left .best) (left .last) (left .joints)
       → left .store ≡ encode (emptyQueues (m .places))
-      → FeedsWithin budget m lent lentList (record { fed = doneFed r; listed = r .visited }) left listed
+      → budgetFeedOf (record { fed = doneFed r; listed = r .visited }) left listed
+      ≡ budgetResult budget m lent lentList
   unfolding budgetAs
   within-done z l listed r F left H e =
       let A = code-fits m _ _ _ (length lentList) _ code is z .accepted in
       let T = F .found .tracks in
       let w = result-is ∙ ap (λ c. budgetAs c budget m lent lentList) z in
-      record {
-        fed-as =
-            rw (w, e)
-            (fed-done (upTo budget) m lent A l r (F .found) (left .best) (left .last) (left .joints)
-            (H .best-is ∙ rw (T .best-is) (hidden-best budget m A))
-            (H .last-is ∙ rw (T .best-is, T .last-is) (hidden-last budget m A))
-            (H .joints-is ∙ rw (T .best-is, T .joints-is) (hidden-joints budget m A)));
-        number-is = rw w (F .number-is);
-        listed-is = rw w (F .listed-is);
-      }
+      let fed : feedOf (doneFed r) left ≡ feedAs 0 (upTo budget) m lent =
+      rw e
+      (fed-done (upTo budget) m lent A l r (F .found) (left .best) (left .last) (left .joints)
+      (H .best-is ∙ rw (T .best-is) (hidden-best budget m A))
+      (H .last-is ∙ rw (T .best-is, T .last-is) (hidden-last budget m A))
+      (H .joints-is ∙ rw (T .best-is, T .joints-is) (hidden-joints budget m A))) in
+      rw (w, fed, F .number-is, F .listed-is)

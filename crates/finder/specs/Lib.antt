@@ -1,4 +1,3 @@
 pub mod SearchState
 pub mod Hidden
 pub mod Answers
-pub mod Promise

@@ -6,10 +6,10 @@ ghost use lib.ListN.{length};
 ghost use lib.Dec.{ltb};
 ghost use Rattle.rules.specs.Forests.{none};
 ghost use Rattle.paths.specs.Map.{spanLists, windows, mapAt};
-ghost use Rattle.paths.specs.Feed.{resultLists};
+ghost use Rattle.paths.specs.Feed.{resultLists, budgetResult};
 ghost use Rattle.finder.specs.SearchState.{ListReady, FoundListed};
 ghost use Rattle.finder.specs.Hidden.{Hidden};
-ghost use Rattle.finder.specs.Promise.{FeedsWithin};
+ghost use Rattle.finder.specs.Answers.{budgetFeedOf};
 use super::Fed;
 use super::begin_search;
 use super::done;
@@ -115,8 +115,8 @@ fn hide_beyond(budget: u32, best: &mut [u32], last: &mut [u32], joints: &mut [u3
     }
 }
 
-// The feed table of a map within a budget, the places in it by loss, and the links, cuts and examined spans of the
-// search for them.
+// The feed table of a map within a budget, the places in it by loss, the links and cuts of the search for them, and the
+// number of spans that leave them.
 pub fn feed_within(
     places: u32,
     start: u32,
@@ -133,13 +133,14 @@ pub fn feed_within(
     listed: &mut [u32],
     store: &mut [u32],
 ) -> FedWithin
-    ensures { λ r. ⌜ FeedsWithin budget
+    ensures { λ r. ⌜ budgetFeedOf r
+        (resultLists (now (best .exit)) (now (last .exit)) (now (joints .exit)) (now (store .exit)))
+        (now (listed .exit))
+        ≡ budgetResult budget
         (mapAt places start minute (spanLists (now (from .entry)) (now (to .entry)) (now (loss .entry)))
         (windows (now (opens .entry)) (now (closes .entry))))
         (resultLists (now (best .entry)) (now (last .entry)) (now (joints .entry)) (now (store .entry)))
-        (now (listed .entry)) r
-        (resultLists (now (best .exit)) (now (last .exit)) (now (joints .exit)) (now (store .exit)))
-        (now (listed .exit)) ⌝ }
+        (now (listed .entry)) ⌝ }
 {
     let code = feed_code(
         places,

@@ -4,10 +4,9 @@ ghost use Prim.Native.Nat.{ℕ};
 ghost use lib.ListN.{length, replicate};
 ghost use Rattle.paths.specs.Map.{spanLists, windows, mapAt};
 ghost use Rattle.paths.specs.Search.{never};
-ghost use Rattle.paths.specs.Feed.{resultLists};
+ghost use Rattle.paths.specs.Feed.{resultLists, feedResult};
 ghost use Rattle.finder.specs.SearchState.{BeginReady, Begun, Stands, Found};
-ghost use Rattle.finder.specs.Answers.{refusedFed, doneFed};
-ghost use Rattle.finder.specs.Promise.{Feeds};
+ghost use Rattle.finder.specs.Answers.{refusedFed, doneFed, feedOf};
 use heap::perform::perform;
 use relax::Progress;
 use rules::Call;
@@ -151,8 +150,8 @@ fn search(
     go
 }
 
-// The feed table of a map, and the links, cuts and examined spans of the search for it. No place list is lent, so none
-// is too short.
+// The feed table of a map, the links and cuts of the search for it, and the number of spans that leave reached places. No
+// place list is lent, so none is too short.
 pub fn feed(
     places: u32,
     start: u32,
@@ -167,11 +166,12 @@ pub fn feed(
     joints: &mut [u32],
     store: &mut [u32],
 ) -> Fed
-    ensures { λ r. ⌜ Feeds
+    ensures { λ r. ⌜ feedOf r
+        (resultLists (now (best .exit)) (now (last .exit)) (now (joints .exit)) (now (store .exit)))
+        ≡ feedResult
         (mapAt places start minute (spanLists (now (from .entry)) (now (to .entry)) (now (loss .entry)))
         (windows (now (opens .entry)) (now (closes .entry))))
-        (resultLists (now (best .entry)) (now (last .entry)) (now (joints .entry)) (now (store .entry)))
-        r (resultLists (now (best .exit)) (now (last .exit)) (now (joints .exit)) (now (store .exit))) ⌝ }
+        (resultLists (now (best .entry)) (now (last .entry)) (now (joints .entry)) (now (store .entry))) ⌝ }
 {
     let code = feed_code(
         places,

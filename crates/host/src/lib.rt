@@ -2,7 +2,7 @@
 ghost use mathlib.Core.Path.{_≡_};
 ghost use Rattle.sheet.specs.Runs.{freshRun, keptRun};
 ghost use Rattle.paths.specs.Map.{spanLists, windows, mapAt};
-ghost use Rattle.paths.specs.Feed.{resultLists};
+ghost use Rattle.paths.specs.Feed.{resultLists, feedResult, budgetResult};
 ghost use Rattle.mapfile.specs.Read.{readMap};
 ghost use Rattle.host.specs.Entries.{RunReturns, soundNumber, FeedReturns, BudgetReturns, ReadReturns};
 
@@ -49,7 +49,8 @@ pub extern "C" fn store_sound(store: &[u32]) -> u32
     0
 }
 
-// The feed table of a map. Returns the code; the figures are links, cuts and spans examined.
+// The feed table of a map. Returns the code; the figures are links, cuts and the number of spans examined, which are
+// those that leave a reached place.
 #[no_mangle]
 pub extern "C" fn feed_table(
     places: u32,
@@ -67,9 +68,10 @@ pub extern "C" fn feed_table(
     figures: &mut [u32; 3],
 ) -> u32
     ensures { λ r. ⌜ FeedReturns
+        (feedResult
         (mapAt places start minute (spanLists (now (from .entry)) (now (to .entry)) (now (loss .entry)))
         (windows (now (opens .entry)) (now (closes .entry))))
-        (resultLists (now (best .entry)) (now (last .entry)) (now (joints .entry)) (now (store .entry)))
+        (resultLists (now (best .entry)) (now (last .entry)) (now (joints .entry)) (now (store .entry))))
         r (resultLists (now (best .exit)) (now (last .exit)) (now (joints .exit)) (now (store .exit)))
         (now (figures .exit)) ⌝ }
 {
@@ -92,7 +94,7 @@ pub extern "C" fn feed_table(
 }
 
 // The feed table of a map within a budget, and the places in it by loss. Returns the code; the figures are links, cuts,
-// spans examined and places listed.
+// the number of spans examined, which are those that leave a listed place, and that of places listed.
 #[no_mangle]
 pub extern "C" fn feed_budget(
     places: u32,
@@ -111,11 +113,12 @@ pub extern "C" fn feed_budget(
     store: &mut [u32],
     figures: &mut [u32; 4],
 ) -> u32
-    ensures { λ r. ⌜ BudgetReturns budget
+    ensures { λ r. ⌜ BudgetReturns
+        (budgetResult budget
         (mapAt places start minute (spanLists (now (from .entry)) (now (to .entry)) (now (loss .entry)))
         (windows (now (opens .entry)) (now (closes .entry))))
         (resultLists (now (best .entry)) (now (last .entry)) (now (joints .entry)) (now (store .entry)))
-        (now (listed .entry))
+        (now (listed .entry)))
         r (resultLists (now (best .exit)) (now (last .exit)) (now (joints .exit)) (now (store .exit)))
         (now (listed .exit)) (now (figures .exit)) ⌝ }
 {

@@ -21,7 +21,7 @@ use Rattle.paths.specs.Map.{
   fromOf,
   lastMinute,
 }
-use Rattle.paths.specs.Table.{Limit, unlimited, upTo}
+use Rattle.paths.specs.Table.{Limit, unlimited, upTo, leavingReached}
 use Rattle.paths.specs.Queue.{Stop, NextPlace, halts, takes, next}
 use Rattle.paths.specs.Search.{Search, try, tried, visit, step, begin, steps, search, beyond, find, takings}
 use Rattle.paths.specs.Codes.{supplyFault, spanCode, codeBelow, minuteFits, windowListsFit, feedCode}
@@ -109,7 +109,7 @@ module _
   -- ---- the calls
 
   same-feed : (code : ℕ) (limit : Limit) (lent : ResultLists) → feedAs code limit m lent ≡ feedAs code limit free lent
-  unfolding feedAs
+  unfolding feedAs leavingReached
   same-feed zero limit lent = rw (same-find limit)
   same-feed (suc code) limit lent = refl
 

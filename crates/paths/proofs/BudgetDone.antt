@@ -21,23 +21,26 @@ use Rattle.paths.proofs.Stopping.{stopped, next-stopped}
 use Rattle.paths.proofs.Chains.{met-small}
 use Rattle.paths.proofs.Steps.{steps-between}
 use Rattle.paths.proofs.Listing.{finderListing}
+use Rattle.paths.proofs.SpanCount.{listed-count}
 use Rattle.paths.proofs.Takings.{takings-few}
 use Rattle.paths.proofs.Accepts.{codeZero}
 use Rattle.paths.proofs.FeedDone.{done-accepted, done-right}
 
 module _ (b : ℕ) (m : Map) (lent : ResultLists) (listed : List ℕ) where
-  list-right : codeFor m lent (length listed) ≡ 0 → RightList listed (budgetAs 0 b m lent listed)
+  list-right : codeFor m lent (length listed) ≡ 0 → RightList m listed (budgetAs 0 b m lent listed)
   unfolding budgetAs feedAs search
   list-right e =
       let places : List ℕ = placesTaken (upTo b) m in
       let F =
       codeZero .only m (length (lent .best)) (length (lent .last)) (length (lent .joints)) (length listed)
       (length (lent .store)) e in
+      let taken = take-append-seam places (drop (length places) listed) in
+      let L = finderListing (upTo b) m (F .accepted) in
       record {
         within = omega (arith, takings-few (beyond (upTo b)) m (m .places), F .listed);
-        listing =
-            rw (take-append-seam places (drop (length places) listed)) (finderListing (upTo b) m (F .accepted));
+        listing = rw taken L;
         untouched = drop-append-seam places (drop (length places) listed);
+        examined = rw taken (listed-count m _ places L);
       }
 
 pub budgetDone : BudgetDone
@@ -45,7 +48,7 @@ unfolding budgetResult budgetAs feedAs
 budgetDone b m lent listed = go (codeFor m lent (length listed)) refl
   where
     go : (c : ℕ) → codeFor m lent (length listed) ≡ c → (budgetAs c b m lent listed) .feed .code ≡ 0
-        → Right (upTo b) m ((budgetAs c b m lent listed) .feed) × RightList listed (budgetAs c b m lent listed)
+        → Right (upTo b) m ((budgetAs c b m lent listed) .feed) × RightList m listed (budgetAs c b m lent listed)
     go zero e _ = (
       done-right (upTo b) m lent (done-accepted m lent (length listed) e),
       list-right b m lent listed e,

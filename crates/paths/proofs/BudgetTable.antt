@@ -1,22 +1,17 @@
--- The table under a budget beside the full one, and which places its list has.
-use Prim.Native.Nat.{ℕ, _≤_, _<_}
+-- The table under a budget beside the full one.
+use Prim.Native.Nat.{ℕ, _≤_}
 use mathlib.Core.Path.{_≡_, refl, sym, _∙_}
-use mathlib.Core.Logic.{_≢_}
 use mathlib.Core.List.{[], _∷_}
 use mathlib.Core.Bool.{Bool, true, false, cond}
 use native.Mathlib.Omega.{arith}
-use lib.ListN.{getD}
 use lib.Dec.{leb}
-use borrow.Author.Tests.{ne-eqb, leb-true, le-leb}
+use borrow.Author.Tests.{leb-true, le-leb}
 use Rattle.rules.specs.Forests.{none}
 use Rattle.paths.specs.Map.{Map}
-use Rattle.paths.specs.Table.{unlimited, upTo, Entry, atStart, reached, unreached, isReached}
-use Rattle.paths.specs.Theorems.{BudgetTable, ListedExactly}
-use Rattle.paths.proofs.Waiting.{word-in}
-use Rattle.paths.proofs.Least.{start-within, entry-chain}
-use Rattle.paths.proofs.Table.{reached-one, noneUnreached}
-
--- ---- beside the full table
+use Rattle.paths.specs.Table.{unlimited, upTo, Entry, atStart, reached, unreached}
+use Rattle.paths.specs.Theorems.{BudgetTable}
+use Rattle.paths.proofs.Least.{start-within}
+use Rattle.paths.proofs.Table.{reached-one}
 
 module _ (b : ℕ) (m : Map) (p l e h l′ e′ h′ : ℕ) where
   -- what the full entry becomes, by whether its loss is within the budget b
@@ -50,25 +45,3 @@ module _ (b : ℕ) (m : Map) (p l e h l′ e′ h′ : ℕ) where
 pub budgetTable : BudgetTable
 budgetTable b m best last joints best′ last′ joints′ T S p k =
     entry-cut b m p _ _ _ _ _ _ (T .entries p k) (S .entries p k)
-
--- ---- the places listed
-
-is-reached : (l : ℕ) → l < none → isReached l ≡ 1
-unfolding isReached
-is-reached l h = rw (ne-eqb l none (λ e. omega arith))
-
-reached-is : (l : ℕ) → 1 ≤ isReached l → l ≢ none
-unfolding isReached
-reached-is l h e = omega (arith, rw e at h)
-
-pub listedExactly : ListedExactly
-listedExactly =
-    record {
-      listed =
-          λ limit m A best last joints places T L p c h i.
-          L .once p ∙ is-reached (getD best p none) (noneUnreached limit m A best last joints T p c h i);
-      only =
-          λ limit m best last joints places T L p h.
-          let n = reached-is (getD best p none) (rw (L .once p) at h) in
-          entry-chain limit m p _ _ _ n (T .entries p (omega (arith, word-in none best p n, T .bestN)));
-    }

@@ -1,6 +1,6 @@
 -- The search makes the calls of the search with losses alone: each of its definitions commutes with `lossesOf`.
 use Prim.Native.Nat.{ℕ, zero, suc}
-use mathlib.Core.Path.{_≡_, refl, ap, _∙_}
+use mathlib.Core.Path.{_≡_, refl, sym, ap, _∙_}
 use mathlib.Core.Bool.{Bool, true, false, cond, _&&_}
 use lib.Dec.{eqb, ltb}
 use Rattle.rules.specs.Forests.{none}
@@ -47,6 +47,7 @@ use Rattle.paths.specs.LossSearch.{
   findLoss,
   CallsByLoss,
 }
+use Rattle.paths.proofs.Examined.{examined-shown}
 
 -- a tie and a worse offer change none of the losses, the queue and the calls
 offer-loss : (place loss hops span : ℕ) (s : Search)
@@ -102,10 +103,10 @@ callsByLoss =
       each = each;
       found = found;
       figures =
-          λ limit m lent.
+          λ limit m A lent.
           let e = found limit m in (
             ap (λ (s : LossSearch). linksOf (m .places) (s .calls)) e,
             ap (λ (s : LossSearch). cutsOf (m .places) (s .calls)) e,
-            ap (λ (s : LossSearch). s .examined) e,
+            sym (examined-shown limit m A) ∙ ap (λ (s : LossSearch). s .examined) e,
           );
     }

@@ -13,6 +13,7 @@ use Rattle.rules.specs.Lists.{sumTo, delta}
 use Rattle.rules.proofs.Occurs.{byItem, delta-self, delta-other}
 use Rattle.rules.proofs.SumTo.{sumTo-le, sumTo-cong, sumTo-add, sumTo-zero}
 use Rattle.paths.specs.Map.{Map, spans, fromOf, toOf, lossOf, usable, Accepted}
+use Rattle.paths.specs.Table.{Limit, leavingReached}
 use Rattle.paths.specs.Queue.{Stop, NextPlace, halts, takes, next}
 use Rattle.paths.specs.Search.{
   Search,
@@ -38,8 +39,9 @@ use Rattle.paths.specs.Search.{
   bestAt,
   lastAt,
   jointsAt,
+  shownBest,
 }
-use Rattle.paths.specs.Theorems.{between, trying, leavingReached, ExaminedExact, ExaminedAtMost}
+use Rattle.paths.specs.Theorems.{between, trying, ExaminedAtMost}
 use Rattle.paths.proofs.Waiting.{next-takes, waits-below}
 use Rattle.paths.proofs.Begin.{none-settled}
 use Rattle.paths.proofs.Tried.{tried-keeps}
@@ -54,7 +56,7 @@ use Rattle.paths.proofs.Settling.{
   update-settles,
 }
 
-ones : (n : ℕ) → sumTo n (λ _. 1) ≡ n
+pub ones : (n : ℕ) → sumTo n (λ _. 1) ≡ n
 unfolding sumTo
 ones zero = refl
 ones (suc n) = omega (arith, ones n)
@@ -174,9 +176,11 @@ module _ (stop : Stop) (m : Map) (A : Accepted m) where
       (le-trans (sumTo-le (spans m) _ (λ _. 1) (λ e _. settled-le (getD (s .queue .waits) (fromOf m e) 0) _))
       (rw ones (le-refl _)))
 
-pub examinedExact : ExaminedExact
+-- a settled place is one for which the table found shows a loss
+pub examined-shown : (limit : Limit) (m : Map) → Accepted m
+    → (find limit m) .examined ≡ leavingReached m (shownBest (find limit m))
 unfolding leavingReached search
-examinedExact limit m A =
+examined-shown limit m A =
     steps-exact (beyond limit) m A (m .places)
     ∙ sumTo-cong (spans m) _ _ (λ e _. sym (shown-settled (find limit m) (fromOf m e)))
 

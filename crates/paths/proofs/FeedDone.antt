@@ -5,13 +5,13 @@ use native.Mathlib.Omega.{arith}
 use lib.ListN.{length}
 use Rattle.paths.specs.Map.{Map, Accepted}
 use Rattle.paths.specs.Table.{Limit, unlimited}
-use Rattle.paths.specs.Search.{beyond, search, find}
+use Rattle.paths.specs.Search.{search, find, shownBest}
 use Rattle.paths.specs.Feed.{ResultLists, codeFor, feedAs, feedResult}
-use Rattle.paths.specs.Theorems.{between, Right, FeedDone}
+use Rattle.paths.specs.Theorems.{Right, FeedDone}
 use Rattle.paths.proofs.Table.{finderTable}
 use Rattle.paths.proofs.LossesAlone.{lossesAlone}
 use Rattle.paths.proofs.Tree.{tableTree}
-use Rattle.paths.proofs.Examined.{examinedExact, examinedAtMost}
+use Rattle.paths.proofs.SpanCount.{count-most}
 use Rattle.paths.proofs.Accepts.{codeZero}
 
 -- a map that gets code 0 is accepted
@@ -28,8 +28,8 @@ done-right limit m lent A =
       losses = lossesAlone .least limit m _ _ _ (finderTable limit m A);
       tree = tableTree limit m A _ _ _ (finderTable limit m A);
       store = refl;
-      examined = examinedExact limit m A;
-      atMost = examinedAtMost (beyond limit) m A (find limit m) (between (m .places));
+      examined = refl;
+      atMost = count-most m (shownBest (find limit m));
     }
 
 pub feedDone : FeedDone

@@ -1,12 +1,13 @@
 -- The feed calls on maps with chains of equal loss worked by hand, by computation.
 use mathlib.Core.Path.{refl}
-use Rattle.rules.specs.Lists.{sumBy, without}
+use Rattle.rules.specs.Lists.{sumBy, sumTo, without}
 use Rattle.rules.specs.Order.{comesBefore, leastOf, leastIn, minimum}
 use Rattle.rules.specs.Consolidate.{link, isFree, climb, linkTrees, occupied, consolidateWithin, consolidate}
 use Rattle.rules.specs.Calls.{insert, release, setFree, removeRoot, extract, perform}
 use Rattle.rules.specs.Words.{storeSize}
 use Rattle.rules.specs.Answers.{isEmpty, refusal, unlessRefused, answer, answers}
 use Rattle.paths.specs.Map.{usableAt, usableBy}
+use Rattle.paths.specs.Table.{isReached, leavingReached}
 use Rattle.paths.specs.Queue.{waiting, nextOf, next}
 use Rattle.paths.specs.Search.{
   winsTie,
@@ -62,7 +63,7 @@ unfolding nines done onThree paperMap onFour doneFour onWindows doneWindows onNi
     storeSize codeBelow spanCode previous supplyFault windowFault fault usableBy usableAt search steps begin step
     visit tried try offer update judge winsTie next nextOf waiting answers answer unlessRefused refusal isEmpty
     perform extract removeRoot setFree release insert consolidate consolidateWithin occupied linkTrees climb isFree
-    link minimum leastIn leastOf comesBefore without sumBy
+    link minimum leastIn leastOf comesBefore without sumBy leavingReached isReached sumTo
 workedJoints =
     record {
       three = refl;

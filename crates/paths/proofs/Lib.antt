@@ -1,6 +1,7 @@
 -- The proofs about the search, bottom to top.
 pub mod ByHand
 pub mod WindowsByHand
+pub mod SpanCountByHand
 pub mod JointsByHand
 pub mod Waiting
 pub mod Stopping
@@ -21,16 +22,18 @@ pub mod Settling
 pub mod Halting
 pub mod Table
 pub mod BudgetTable
+pub mod Reached
 pub mod LossesAlone
 pub mod Tree
 pub mod Ascending
-pub mod CallsByLoss
 pub mod Calls
 pub mod AllFree
 pub mod Log
 pub mod Served
 pub mod NextMinimum
 pub mod Examined
+pub mod SpanCount
+pub mod CallsByLoss
 pub mod TakenFirst
 pub mod Listing
 pub mod Costs

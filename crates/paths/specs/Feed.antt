@@ -9,7 +9,7 @@ use Rattle.rules.specs.Answers.{answers}
 use Rattle.rules.specs.Queues.{emptyQueues}
 use Rattle.rules.specs.Words.{encode}
 use Rattle.paths.specs.Map.{Map}
-use Rattle.paths.specs.Table.{Limit, unlimited, upTo}
+use Rattle.paths.specs.Table.{Limit, unlimited, upTo, leavingReached}
 use Rattle.paths.specs.Search.{find, shownBest, shownLast, shownJoints, placesTaken}
 use Rattle.paths.specs.Codes.{feedCode}
 
@@ -38,7 +38,8 @@ pub record Feed : Type 0 where
   pub examined : ℕ
   pub left : ResultLists
 
--- A refusal gives its code and three zeros, and changes nothing. A call that is done leaves the store empty.
+-- A refusal gives its code and three zeros, and changes nothing. A call that is done leaves the store empty; the spans
+-- examined are those that leave a place of its table.
 unfoldable pub feedAs : ℕ → Limit → Map → ResultLists → Feed
 feedAs zero limit m lent =
     let s = find limit m in
@@ -46,7 +47,7 @@ feedAs zero limit m lent =
       code = 0;
       links = linksOf (m .places) (s .calls);
       cuts = cutsOf (m .places) (s .calls);
-      examined = s .examined;
+      examined = leavingReached m (shownBest s);
       left = resultLists (shownBest s) (shownLast s) (shownJoints s) (encode (emptyQueues (m .places)));
     }
 feedAs (suc code) limit m lent = record { code = suc code; links = 0; cuts = 0; examined = 0; left = lent }

@@ -8,6 +8,7 @@ pub mod Codes
 pub mod Feed
 pub mod ByHand
 pub mod WindowsByHand
+pub mod SpanCountByHand
 pub mod Theorems
 pub mod LossSearch
 pub mod JointsByHand

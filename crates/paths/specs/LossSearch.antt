@@ -11,7 +11,7 @@ use Rattle.rules.specs.declared.Call.the-variants.{Insert, ExtractMin, Decrease
 use Rattle.rules.specs.declared.Line.{Line}
 use Rattle.rules.specs.declared.Line.the-variants.{Yields}
 use Rattle.rules.specs.Forests.{none}
-use Rattle.paths.specs.Map.{Map, spans, fromOf, toOf, lossOf, usable}
+use Rattle.paths.specs.Map.{Map, spans, fromOf, toOf, lossOf, usable, Accepted}
 use Rattle.paths.specs.Table.{Limit}
 use Rattle.paths.specs.Queue.{Queue, Stop, NextPlace, halts, takes, noneWait, enter, lower, leave, next}
 use Rattle.paths.specs.Search.{Search, steps, beyond, find}
@@ -104,7 +104,7 @@ findLoss limit m = stepsLoss (beyond limit) m (m .places)
 pub record CallsByLoss : Type 0 where
   pub each : (stop : Stop) (m : Map) (k : ℕ) → lossesOf (steps stop m k) ≡ stepsLoss stop m k
   pub found : (limit : Limit) (m : Map) → lossesOf (find limit m) ≡ findLoss limit m
-  pub figures : (limit : Limit) (m : Map) (lent : ResultLists) →
+  pub figures : (limit : Limit) (m : Map) → Accepted m → (lent : ResultLists) →
       let r : Feed = feedAs 0 limit m lent in
       (r .links ≡ linksOf (m .places) ((findLoss limit m) .calls))
       × (r .cuts ≡ cutsOf (m .places) ((findLoss limit m) .calls)) × (r .examined ≡ (findLoss limit m) .examined)

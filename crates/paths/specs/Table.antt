@@ -1,16 +1,16 @@
--- The feed table: what it shows at each place, and the places that it shows a loss for, listed. Nothing here says how
--- they are found.
+-- The feed table: what it shows at each place; the places that it shows a loss for, listed; and the number of spans that
+-- leave them. Nothing here says how they are found.
 use Prim.Native.Nat.{ℕ, _≤_, _<_}
 use mathlib.Core.Path.{_≡_}
 use mathlib.Core.Logic.{_≢_}
 use mathlib.Core.List.{List, [], _∷_}
 use mathlib.Core.Bool.{true, not}
 use lib.ListN.{length, getD}
-use lib.Dec.{eqb}
-use Rattle.rules.specs.Lists.{indicator, occurs}
+use lib.Dec.{eqb, ltb}
+use Rattle.rules.specs.Lists.{indicator, sumTo, occurs}
 use Rattle.rules.specs.Forests.{none}
 use Rattle.rules.specs.Order.{precedes}
-use Rattle.paths.specs.Map.{Map}
+use Rattle.paths.specs.Map.{Map, spans, fromOf}
 use Rattle.paths.specs.Chains.{Chain, chainLoss, hops, Least}
 
 -- ---- the table
@@ -64,3 +64,17 @@ Ascending best (p ∷ q ∷ places) = (precedes best p q ≡ true) × Ascending 
 pub record Listing (best listed : List ℕ) : Type 0 where
   pub once : (p : ℕ) → occurs p listed ≡ isReached (getD best p none)
   pub ascending : Ascending best listed
+
+-- ---- the count of spans
+
+-- The number of spans whose from is a reached place, one for which a table with the losses `best` shows a loss. Each span
+-- counts once, usable or not.
+unfoldable pub leavingReached : Map → List ℕ → ℕ
+leavingReached m best = sumTo (spans m) (λ e. isReached (getD best (fromOf m e) none))
+
+-- 1 for a place that is listed, and the number of spans whose from is one
+unfoldable pub isListed : List ℕ → ℕ → ℕ
+isListed listed p = indicator (ltb 0 (occurs p listed))
+
+unfoldable pub leavingListed : Map → List ℕ → ℕ
+leavingListed m listed = sumTo (spans m) (λ e. isListed listed (fromOf m e))

@@ -10,7 +10,7 @@ use lib.Dec.{leb}
 use Rattle.rules.specs.declared.Call.the-variants.{ExtractMin}
 use Rattle.rules.specs.declared.Line.the-variants.{Yields}
 use Rattle.rules.specs.declared.Answer.{Answer}
-use Rattle.rules.specs.Lists.{occurs, sumBy, sumTo}
+use Rattle.rules.specs.Lists.{occurs, sumBy}
 use Rattle.rules.specs.Forests.{Forests, none, empty}
 use Rattle.rules.specs.Answers.{answer, answers, after}
 use Rattle.rules.specs.Fibonacci.{R}
@@ -29,7 +29,17 @@ use Rattle.paths.specs.Map.{
   Accepted,
 }
 use Rattle.paths.specs.Chains.{Chain, chainLoss, Least}
-use Rattle.paths.specs.Table.{Limit, unlimited, upTo, WithinLimit, Table, isReached, Listing}
+use Rattle.paths.specs.Table.{
+  Limit,
+  unlimited,
+  upTo,
+  WithinLimit,
+  Table,
+  isReached,
+  Listing,
+  leavingReached,
+  leavingListed,
+}
 use Rattle.paths.specs.Queue.{Stop, halts, takes, next}
 use Rattle.paths.specs.Search.{
   Search,
@@ -66,6 +76,13 @@ abbrev pub NoneUnreached : Type 0
 NoneUnreached =
     (limit : Limit) (m : Map) → Accepted m → (best last joints : List ℕ) → Table limit m best last joints
     → (p : ℕ) (c : List ℕ) → Chain m c p → WithinLimit limit (chainLoss m c) → getD best p none < none
+
+-- A place counts as reached exactly if a chain within the limit leads to it.
+pub record ReachedExactly : Type 0 where
+  pub reached : (limit : Limit) (m : Map) → Accepted m → (best last joints : List ℕ) → Table limit m best last joints
+      → (p : ℕ) (c : List ℕ) → Chain m c p → WithinLimit limit (chainLoss m c) → isReached (getD best p none) ≡ 1
+  pub only : (limit : Limit) (m : Map) (best last joints : List ℕ) → Table limit m best last joints
+      → (p : ℕ) → 1 ≤ isReached (getD best p none) → (c : List ℕ) × Chain m c p × WithinLimit limit (chainLoss m c)
 
 -- The table under a budget is the full table where the loss is at most the budget, and none elsewhere.
 abbrev pub BudgetTable : Type 0
@@ -213,15 +230,16 @@ EndsEmpty = (m : Map) → Accepted m → forestsAfter m (find unlimited m) ≡ e
 
 -- ---- the counts
 
--- the spans whose from is a reached place
-unfoldable pub leavingReached : Map → List ℕ → ℕ
-leavingReached m best = sumTo (spans m) (λ e. isReached (getD best (fromOf m e) none))
+-- The search tries each span that leaves a reached place once, and no other: by any table that is right, and by any list
+-- of its places. In both, a place is there exactly if a chain within the limit leads to it (`ReachedExactly`,
+-- `ListedExactly`).
+pub record ExaminedExact : Type 0 where
+  pub reached : (limit : Limit) (m : Map) → Accepted m → (best last joints : List ℕ) → Table limit m best last joints
+      → (find limit m) .examined ≡ leavingReached m best
+  pub listed : (limit : Limit) (m : Map) → Accepted m → (best last joints listed : List ℕ)
+      → Table limit m best last joints → Listing best listed → (find limit m) .examined ≡ leavingListed m listed
 
--- A search examines each of these once, and so no more than the spans listed: at no moment does any.
-abbrev pub ExaminedExact : Type 0
-ExaminedExact =
-    (limit : Limit) (m : Map) → Accepted m → (find limit m) .examined ≡ leavingReached m (shownBest (find limit m))
-
+-- At no moment of a search are there more than the spans of the lists.
 abbrev pub ExaminedAtMost : Type 0
 ExaminedAtMost = (stop : Stop) (m : Map) → Accepted m → (s : Search) → Moment stop m s → s .examined ≤ spans m
 
@@ -257,7 +275,7 @@ pub record CodeZero : Type 0 where
       → Fits m bestN lastN jointsN listedN storeN
 
 -- What a feed call that is done leaves: the table, whose losses are the least by loss alone and whose spans are a tree,
--- an empty store, and the count of spans examined.
+-- and an empty store. It answers how many spans leave the places that its table shows a loss for.
 pub record Right (limit : Limit) (m : Map) (r : Feed) : Type 0 where
   pub table : Table limit m (r .left .best) (r .left .last) (r .left .joints)
   pub losses : (p : ℕ) → p < m .places → LeastLoss limit m p (getD (r .left .best) p none)
@@ -274,17 +292,18 @@ FeedDone =
     r .code ≡ 0 → Right unlimited m r
 
 -- What one with a budget leaves beside: the first words of the place list, as many as it answers, are the places of its
--- table, and the others are those that it was lent.
-pub record RightList (lent : List ℕ) (r : BudgetFeed) : Type 0 where
+-- table, and the others are those that it was lent. The spans that it answers are those that leave the places listed.
+pub record RightList (m : Map) (lent : List ℕ) (r : BudgetFeed) : Type 0 where
   pub within : r .number ≤ length lent
   pub listing : Listing (r .feed .left .best) (take (r .number) (r .listed))
   pub untouched : drop (r .number) (r .listed) ≡ drop (r .number) lent
+  pub examined : r .feed .examined ≡ leavingListed m (take (r .number) (r .listed))
 
 abbrev pub BudgetDone : Type 0
 BudgetDone =
     (budget : ℕ) (m : Map) (lent : ResultLists) (listed : List ℕ) →
     let r : BudgetFeed = budgetResult budget m lent listed in
-    r .feed .code ≡ 0 → Right (upTo budget) m (r .feed) × RightList listed r
+    r .feed .code ≡ 0 → Right (upTo budget) m (r .feed) × RightList m listed r
 
 -- The largest budget gives all that the full call gives, and lists every place that the full table reaches.
 abbrev pub LargestBudget : Type 0

@@ -138,7 +138,7 @@ fn fill(asked: Asked, budget: Option<u32>, lent: Lent) -> Figures {
     }
     lent.words.copy_from_slice(&store::empty(asked.places as usize));
     let (links, cuts) = moves(asked, budget);
-    // Closed spans are tried too.
+    // The spans that leave a reached place or, with a budget, a listed one. Closed spans are tried too.
     let examined = asked.spans.from.iter().filter(|&&from| shown(from as usize).is_some()).count() as u32;
     Figures { code: 0, links, cuts, examined }
 }

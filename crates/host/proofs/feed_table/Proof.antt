@@ -1,6 +1,6 @@
 -- `feed_table` meets its contract: it hands on what the finder answers.
-use mathlib.Core.Path.{refl}
 use borrow.Author.Needs.{needs}
+use Rattle.host.proofs.Returned.{feed-returns}
 use Rattle.host.proofs.feed_table.Statement.{statement}
 use Rattle.host.proofs.feed_table.Tie as tie
 
@@ -22,7 +22,7 @@ same-length-4 c = search needs
 returns : tie.Need-returns
 returns c =
     let w = c .before .before .before .before .before .before .before .before .before in
-    record { fed = _; sameCode = refl; sameFigures = refl; feeds = w .feed .ensures }
+    feed-returns _ (w .feed .ensures)
 
 pub feed-table-spec : {M : Type 1} → statement M
 feed-table-spec =

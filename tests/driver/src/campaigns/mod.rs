@@ -13,6 +13,7 @@ pub mod programs;
 pub mod raised_sheets;
 pub mod raises;
 pub mod runs;
+pub mod span_counts;
 pub mod stores;
 pub mod ties;
 pub mod windows;
@@ -31,7 +32,7 @@ const fn campaign(part: Part, name: &'static str, run: fn(&mut Checker) -> Verdi
 }
 
 /// Quick ones first, so that a wrong engine is caught soon.
-pub const ALL: [Campaign; 86] = [
+pub const ALL: [Campaign; 95] = [
     campaign(Part::Modem, "modem: worked runs and limits", codes::modem),
     campaign(Part::Modem, "modem: zeros before every number", numbers::modem),
     campaign(Part::Modem, "modem: raises", raises::modem),
@@ -69,6 +70,7 @@ pub const ALL: [Campaign; 86] = [
     campaign(Part::Feed, "feed: worked run", feeds::worked),
     campaign(Part::Feed, "feed: worked windows", windows::worked),
     campaign(Part::Feed, "feed: worked ties", ties::worked),
+    campaign(Part::Feed, "feed: worked numbers of spans", span_counts::worked),
     campaign(Part::Feed, "feed: lengths of the list of joints", lengths::joints),
     campaign(Part::Feed, "feed: lengths of the store", lengths::store),
     campaign(Part::Feed, "feed: two faulty spans, open or closed", windows::span_faults),
@@ -77,17 +79,21 @@ pub const ALL: [Campaign; 86] = [
     campaign(Part::Feed, "feed: windows open at every minute", windows::always_open),
     campaign(Part::Feed, "feed: random ties", ties::random_maps),
     campaign(Part::Feed, "feed: random ties with windows", ties::at_minutes),
+    campaign(Part::Feed, "feed: sparse maps", span_counts::sparse_maps),
+    campaign(Part::Feed, "feed: every map of three places", span_counts::every_map_of_three),
     campaign(Part::Feed, "feed: every map of four places", ties::every_map_of_four),
     campaign(Part::Feed, "feed: every map of five places", ties::every_map_of_five),
     campaign(Part::Feed, "feed: random maps with windows", windows::random_maps),
     campaign(Part::Feed, "feed: random maps", feeds::random_maps),
     campaign(Part::Feed, "feed: faulty spans", feeds::faulty_spans),
     campaign(Part::Feed, "feed: large maps", feeds::large_maps),
+    campaign(Part::Feed, "feed: large maps, numbers of spans", span_counts::large_maps),
     campaign(Part::Feed, "feed: large maps with windows", windows::large_maps),
     campaign(Part::Feed, "feed: large maps full of ties", ties::large_maps),
     campaign(Part::Budget, "budget: worked runs", budgets::worked),
     campaign(Part::Budget, "budget: worked windows", windows::worked_within),
     campaign(Part::Budget, "budget: worked ties", ties::worked_within),
+    campaign(Part::Budget, "budget: worked numbers of spans", span_counts::worked_within),
     campaign(Part::Budget, "budget: lengths of the list of joints", lengths::joints_within),
     campaign(Part::Budget, "budget: lengths of the store", lengths::store_within),
     campaign(Part::Budget, "budget: two faulty spans, open or closed", windows::span_faults_within),
@@ -96,12 +102,15 @@ pub const ALL: [Campaign; 86] = [
     campaign(Part::Budget, "budget: windows open at every minute", windows::always_open_within),
     campaign(Part::Budget, "budget: faulty spans, short lists", budgets::faulty_spans),
     campaign(Part::Budget, "budget: random ties, around every loss", ties::random_within),
+    campaign(Part::Budget, "budget: sparse maps, around every loss", span_counts::sparse_within),
+    campaign(Part::Budget, "budget: every map of three places", span_counts::every_map_of_three_within),
     campaign(Part::Budget, "budget: random ties with windows", ties::within_at_minutes),
     campaign(Part::Budget, "budget: ties on lists as found", ties::lists_as_found),
     campaign(Part::Budget, "budget: random maps with windows", windows::random_within),
     campaign(Part::Budget, "budget: random maps, around every loss", budgets::random_maps),
     campaign(Part::Budget, "budget: calls one after another", budgets::one_after_another),
     campaign(Part::Budget, "budget: large maps", budgets::large_maps),
+    campaign(Part::Budget, "budget: large maps, numbers of spans", span_counts::large_within),
     campaign(Part::Budget, "budget: large maps with windows", windows::large_within),
     campaign(Part::Budget, "budget: large maps full of ties", ties::large_within),
     campaign(Part::Map, "map: numbers of a line", map_texts::lines),
@@ -115,6 +124,7 @@ pub const ALL: [Campaign; 86] = [
     campaign(Part::QueueProgram, "queue program", programs::queue),
     campaign(Part::QueueProgram, "queue program: zeros before every number", numbers::queue_program),
     campaign(Part::FeedProgram, "feed program: windows", programs::feed_at_minutes),
+    campaign(Part::FeedProgram, "feed program: numbers of spans", span_counts::feed_program),
     campaign(Part::FeedProgram, "feed program: ties", programs::feed_with_ties),
     campaign(Part::FeedProgram, "feed program", programs::feed),
     campaign(Part::FeedProgram, "feed program: zeros before every number", numbers::feed_program),

@@ -4,6 +4,7 @@ use super::{same, same_list, Checker, Guarded, Verdict};
 use crate::engine::{BudgetLists, FeedLists};
 use reference::feed::{self, Asked, Lent, Spans};
 use reference::NONE;
+use std::collections::HashSet;
 use std::fmt::Debug;
 
 /// The input of a feed call; result lists and store are lent with these lengths.
@@ -135,6 +136,21 @@ fn leads_back<const FIGURES: usize, const LISTS: usize>(asked: Asked, fed: &Fed<
     Ok(())
 }
 
+/// The spans examined are those whose from has a loss in the table and, where places are listed, those whose from is
+/// listed: each once, open or closed. This needs no reference.
+fn counts_spans<const FIGURES: usize, const LISTS: usize>(asked: Asked, fed: &Fed<FIGURES, LISTS>) -> Verdict {
+    let reached = (0..asked.places).filter(|&place| fed.entry(place)[0] != NONE).collect();
+    let listed = fed.lists.get(4).map(|list| list.iter().copied().take(fed.figures[3] as usize).collect());
+    for (name, places) in [("reached", Some(reached)), ("listed", listed)] {
+        let Some(places): Option<HashSet<u32>> = places else { continue };
+        let leaving = asked.spans.from.iter().filter(|&from| places.contains(from)).count();
+        if leaving != fed.figures[2] as usize {
+            return Err(format!("{leaving} spans leave {name} places, but {} are examined", fed.figures[2]));
+        }
+    }
+    Ok(())
+}
+
 fn same_fed<const FIGURES: usize, const LISTS: usize>(
     name: &str,
     asked: Asked,
@@ -143,9 +159,9 @@ fn same_fed<const FIGURES: usize, const LISTS: usize>(
 ) -> Verdict {
     same(name, &engine.code, &reference.code)?;
     if engine.code == 0 {
-        leads_back(asked, engine).map_err(|fault| format!("{name}: {fault}"))?;
+        let laws = leads_back(asked, engine).and_then(|()| counts_spans(asked, engine));
+        laws.map_err(|fault| format!("{name}: {fault}"))?;
     }
-    // The paper promises "at most the spans listed"; the engine defines the count exactly.
     same(&format!("{name} figures"), &engine.figures, &reference.figures)?;
     for (number, list) in ["losses", "spans", "joints", "store", "places"].iter().take(LISTS).enumerate() {
         same_list(&format!("{name} {list}"), &engine.lists[number], &reference.lists[number])?;

@@ -36,7 +36,8 @@ impl Mock {
         self.spoil_entries(within, &mut lists);
         self.spoil_counts(within, figures);
         let BudgetLists { best, last, joints, .. } = lists;
-        self.spoil_closed(asked, best, last, &mut figures[2]);
+        self.spoil_closed(asked, best, last);
+        figures[2] = self.examined(Within { asked, ..within }, best, figures[2]);
         self.spoil_joints(within, Table { best, last, joints }, figures);
         0
     }

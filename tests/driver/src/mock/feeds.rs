@@ -34,7 +34,8 @@ impl Mock {
         }
         self.spoil_table(used, lists.again(), figures, &found);
         let FeedLists { best, last, joints, .. } = lists;
-        self.spoil_closed(asked, best, last, &mut figures[2]);
+        self.spoil_closed(asked, best, last);
+        figures[2] = self.examined(Within { asked, budget: NONE }, best, figures[2]);
         self.spoil_joints(Within { asked: used, budget: NONE }, Table { best, last, joints }, figures);
         0
     }

@@ -1,6 +1,7 @@
 //! Wrong engines: the reference with one deliberate fault each. The campaigns must catch them all.
 
 mod budgets;
+mod counts;
 mod feeds;
 mod joints;
 mod layouts;
@@ -124,10 +125,18 @@ variants! {
     // Feed calls with a budget: code 22.
     [Budget]
         PlaceListTestedAfterSpans PlaceListTestedBeforeLists LongerPlaceListRefused PlaceListNotTested;
-    // Windows: which spans are used, and which are counted. In the part of one call only that call has the fault.
+    // Windows: which spans are used. In the part of one call only that call has the fault.
     [Feed Budget FeedProgram]
         UsableAtTheClosingMinute ClosedAtTheOpeningMinute OpeningIgnored ClosingIgnored WindowsIgnored
-        ClosedSpanEndsTheTrying ClosedSpansNotCounted EveryClosedSpanCounted ClosedSpanShownOnTies;
+        ClosedSpanEndsTheTrying ClosedSpanShownOnTies;
+    // The number of spans examined.
+    [Feed Budget FeedProgram]
+        ClosedSpansNotCounted EveryClosedSpanCounted EveryOpenSpanCounted EverySpanCounted SpansIntoReachedPlacesCounted
+        OneMoreIfThePlaceVisitedLastHasNoSpan OneMoreIfTheHighestPlaceHasNoSpan PlaceVisitedLastNotCounted
+        SelfSpansNotCounted SpansIntoTheStartNotCounted ParallelSpansCountedOnce PlacesCountedForSpans
+        CountCutTo8Bits CountCutTo12Bits;
+    [Feed Budget] CountCutTo14Bits;
+    [Budget] SpansBeyondTheBudgetCounted SpansOfWaitingPlacesCounted SpansOfTheFirstWaitingPlaceCounted;
     // Windows: what is refused.
     [Feed Budget FeedProgram]
         WindowTestedBeforeOrder WindowTestedBeforePlaces WindowsTestedAfterAllSpans AlwaysOpenWindowRefused

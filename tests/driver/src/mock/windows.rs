@@ -61,23 +61,18 @@ impl Mock {
         }
     }
 
-    /// Faults in what closed spans leave in the table and in the count of examined spans.
-    pub(super) fn spoil_closed(&self, asked: Asked, best: &[u32], last: &mut [u32], examined: &mut u32) {
+    /// A fault in what closed spans leave in the table.
+    pub(super) fn spoil_closed(&self, asked: Asked, best: &[u32], last: &mut [u32]) {
+        if !self.is(ClosedSpanShownOnTies) {
+            return;
+        }
         let Asked { start, spans, .. } = asked;
-        let closed = || (0..spans.from.len()).filter(|&span| !asked.is_usable(span));
-        let is_tried = |&span: &usize| best[spans.from[span] as usize] != NONE;
-        match self.variant {
-            Some(ClosedSpansNotCounted) => *examined -= closed().filter(is_tried).count() as u32,
-            Some(EveryClosedSpanCounted) => *examined += closed().filter(|span| !is_tried(span)).count() as u32,
-            Some(ClosedSpanShownOnTies) => {
-                for span in closed().filter(is_tried) {
-                    let (from, to) = (spans.from[span] as usize, spans.to[span] as usize);
-                    if best[from] + spans.loss[span] == best[to] && spans.to[span] != start {
-                        last[to] = last[to].min(span as u32);
-                    }
-                }
+        let is_tried = |span: &usize| best[spans.from[*span] as usize] != NONE;
+        for span in (0..spans.from.len()).filter(|&span| !asked.is_usable(span)).filter(is_tried) {
+            let (from, to) = (spans.from[span] as usize, spans.to[span] as usize);
+            if best[from] + spans.loss[span] == best[to] && spans.to[span] != start {
+                last[to] = last[to].min(span as u32);
             }
-            _ => {}
         }
     }
 
