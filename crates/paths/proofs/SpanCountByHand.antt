@@ -1,12 +1,8 @@
 -- The numbers of spans examined worked by hand, by computation.
 use mathlib.Core.Path.{refl}
-use Rattle.rules.specs.Lists.{sumBy, sumTo, delta, occurs, without, setAll}
-use Rattle.rules.specs.Order.{comesBefore, leastOf, leastIn, minimum}
-use Rattle.rules.specs.Cut.{cut, nodeKind, cascadingCut, cutWithin, cutOut, cutIf}
-use Rattle.rules.specs.Consolidate.{link, isFree, climb, linkTrees, occupied, consolidateWithin, consolidate}
-use Rattle.rules.specs.Calls.{insert, release, setFree, removeRoot, extract, hasParent, decreaseKey, perform}
+use Rattle.rules.specs.Lists.{sumBy, sumTo, delta, occurs}
+use Rattle.rules.specs.Order.{comesBefore, leastOf, leastIn}
 use Rattle.rules.specs.Words.{storeSize}
-use Rattle.rules.specs.Answers.{isEmpty, refusal, refused, unlessRefused, answer, answers}
 use Rattle.paths.specs.Map.{usableAt, usableBy}
 use Rattle.paths.specs.Table.{isReached, leavingReached, isListed, leavingListed}
 use Rattle.paths.specs.Queue.{waiting, nextOf, next}
@@ -36,16 +32,13 @@ use Rattle.paths.specs.Codes.{
   windowListsFit,
   feedCode,
 }
-use Rattle.paths.specs.Feed.{linksOf, cutsOf, feedAs, feedResult, budgetAs, budgetResult}
+use Rattle.paths.specs.Feed.{feedAs, feedResult, budgetAs, budgetResult}
 use Rattle.paths.specs.ByHand.{nines}
 use Rattle.paths.specs.SpanCountByHand.{countMap, countRows, answeredBy, WorkedCounts}
 
 pub workedCounts : WorkedCounts
-unfolding countMap countRows answeredBy nines budgetResult budgetAs feedResult feedAs hideWaiting takings linksOf
-    cutsOf feedCode minuteFits windowListsFit storeSize codeBelow spanCode previous supplyFault windowFault fault
-    usableBy usableAt search steps begin step visit tried try offer update judge winsTie next nextOf waiting answers
-    answer unlessRefused refused refusal isEmpty perform decreaseKey hasParent extract removeRoot setFree release
-    insert consolidate consolidateWithin occupied linkTrees climb isFree link cutIf cutOut cutWithin cascadingCut
-    nodeKind cut minimum leastIn leastOf comesBefore setAll without sumBy leavingReached isReached sumTo leavingListed
-    isListed occurs delta
+unfolding countMap countRows answeredBy nines budgetResult budgetAs feedResult feedAs hideWaiting takings feedCode
+    minuteFits windowListsFit storeSize codeBelow spanCode previous supplyFault windowFault fault usableBy usableAt
+    search steps begin step visit tried try offer update judge winsTie next nextOf waiting leastIn leastOf comesBefore
+    leavingReached isReached sumTo leavingListed isListed occurs delta sumBy
 workedCounts = record { answered = refl; searched = refl; listed = refl }

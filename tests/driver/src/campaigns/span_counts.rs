@@ -3,7 +3,7 @@
 
 use super::budgets::{self, every_budget, holds};
 use super::feeds::expect;
-use super::windows::law;
+use super::windows::{at_their_minutes, law};
 use crate::check::{Checker, FeedCall, Verdict};
 use crate::maps;
 use crate::random::Random;
@@ -104,7 +104,7 @@ pub fn sparse(random: &mut Random) -> (FeedCall, Vec<u32>) {
 
 pub fn sparse_maps(checker: &mut Checker) -> Verdict {
     let tried = |call: &FeedCall| checker.feed(call).map(|_| ());
-    super::windows::at_their_minutes(&mut Random::new(51), 1_500, sparse, tried)
+    at_their_minutes(&mut Random::new(51), 1_500, sparse, tried)
 }
 
 pub fn sparse_within(checker: &mut Checker) -> Verdict {
@@ -117,21 +117,24 @@ pub fn sparse_within(checker: &mut Checker) -> Verdict {
     Ok(())
 }
 
-/// Full lists of spans: all of them leave reached places, then half, then none; all closed, and the last place has none.
+/// Spans from each place to several that are so much further on, as on a ring.
+fn ring<const N: usize>(places: u32, further: [u32; N]) -> Vec<[u32; 3]> {
+    (0..places).flat_map(|from| further.map(|on| [from, (from + on) % places, on])).collect()
+}
+
+/// Full lists of spans, of which all leave reached places, half do, or none; all closed; the last place without one.
 fn large_calls() -> [(FeedCall, u32); 5] {
-    let ring: Vec<[u32; 3]> = (0..4_096).flat_map(|from| [1, 2, 3, 5].map(|on| [from, (from + on) % 4_096, on])).collect();
+    let ring = ring(4_096, [1, 2, 3, 5]);
     let halves: Vec<[u32; 3]> =
         ring.iter().map(|&[from, to, loss]| [from, from / 2_048 * 2_048 + to % 2_048, loss]).collect();
     let of_the_first = vec![[0, 0, 1]; 16_384];
     let closed: Vec<[u32; 5]> = (0..16_384).map(|span| [span / 8_192, 1, 1, 0, 720]).collect();
-    let mut last_without = ring.clone();
-    last_without.truncate(16_380);
     [
         (maps::call(4_096, 7, &ring), 16_384),
         (maps::call(4_096, 7, &halves), 8_192),
         (maps::call(4_096, 4_095, &of_the_first), 0),
         (maps::call_at(2, 0, 720, &closed), 8_192),
-        (maps::call(4_096, 0, &last_without), 16_380),
+        (maps::call(4_096, 0, &ring[..16_380]), 16_380),
     ]
 }
 
@@ -158,11 +161,10 @@ pub fn feed_program(checker: &mut Checker) -> Verdict {
     for (call, ..) in worked_calls() {
         checker.feed_program(&maps::text_of(&call, false))?;
     }
-    let ring: Vec<[u32; 3]> = (0..1_024).flat_map(|from| [1, 2, 3].map(|on| [from, (from + on) % 1_024, on])).collect();
-    checker.feed_program(&maps::text(1_024, 5, &ring, false))?;
+    checker.feed_program(&maps::text(1_024, 5, &ring(1_024, [1, 2, 3]), false))?;
     for start in [0, 1] {
         checker.feed_program(&maps::text(2, start, &vec![[0, 1, 9]; 4_096], false))?;
     }
     let tried = |call: &FeedCall| checker.feed_program(&maps::text_of(call, false));
-    super::windows::at_their_minutes(&mut Random::new(53), 12, sparse, tried)
+    at_their_minutes(&mut Random::new(53), 12, sparse, tried)
 }
