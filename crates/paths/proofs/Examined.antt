@@ -79,7 +79,7 @@ update-examined tie p l h e s = refl
 update-examined worse p l h e s = refl
 
 -- the spans of u below k are counted
-tried-examined : (m : Map) (u d hu : ℕ) (s : Search) (k : ℕ)
+pub tried-examined : (m : Map) (u d hu : ℕ) (s : Search) (k : ℕ)
     → (tried m u d hu k s) .examined ≡ s .examined + sumTo k (λ e. delta u (fromOf m e))
 unfolding tried try offer sumTo delta
 tried-examined m u d hu s zero = omega arith

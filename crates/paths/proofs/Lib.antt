@@ -32,10 +32,10 @@ pub mod Log
 pub mod Served
 pub mod NextMinimum
 pub mod Examined
-pub mod SpanCount
 pub mod CallsByLoss
 pub mod TakenFirst
 pub mod Listing
+pub mod SpanCount
 pub mod Costs
 pub mod Counts
 pub mod Codes

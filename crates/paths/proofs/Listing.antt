@@ -48,7 +48,7 @@ use Rattle.paths.proofs.Examined.{one-more}
 use Rattle.paths.proofs.TakenFirst.{met-word, before-precedes, TakenFirst, taken-first}
 use Rattle.paths.proofs.Ascending.{ascending-same, ascending-more}
 
-delta-swap : (x y : ℕ) → delta x y ≡ delta y x
+pub delta-swap : (x y : ℕ) → delta x y ≡ delta y x
 delta-swap x = byItem x refl (λ y n. delta-other x y n ∙ sym (delta-other y x (λ e. n (sym e))))
 
 -- The list holds each settled place once, and no other, in ascending order.

@@ -45,6 +45,7 @@ use Rattle.paths.specs.Search.{
   Search,
   tried,
   extracted,
+  visit,
   steps,
   search,
   bestAt,
@@ -230,10 +231,11 @@ EndsEmpty = (m : Map) → Accepted m → forestsAfter m (find unlimited m) ≡ e
 
 -- ---- the counts
 
--- The search tries each span that leaves a reached place once, and no other: by any table that is right, and by any list
--- of its places. In both, a place is there exactly if a chain within the limit leads to it (`ReachedExactly`,
--- `ListedExactly`).
+-- A visit counts each span of its place once, and no other. No place is visited twice (`FinderListing`), so a search
+-- counts the spans that leave a reached place: by any table that is right, and by any list of its places. A place is in
+-- these exactly if a chain within the limit leads to it (`ReachedExactly`, `ListedExactly`).
 pub record ExaminedExact : Type 0 where
+  pub visited : (m : Map) (u : ℕ) (s : Search) → (visit m u s) .examined ≡ s .examined + leavingListed m (u ∷ [])
   pub reached : (limit : Limit) (m : Map) → Accepted m → (best last joints : List ℕ) → Table limit m best last joints
       → (find limit m) .examined ≡ leavingReached m best
   pub listed : (limit : Limit) (m : Map) → Accepted m → (best last joints listed : List ℕ)
