@@ -134,7 +134,7 @@ variants! {
         ClosedSpansNotCounted EveryClosedSpanCounted EveryOpenSpanCounted EverySpanCounted SpansIntoReachedPlacesCounted
         OneMoreIfThePlaceVisitedLastHasNoSpan OneMoreIfTheHighestPlaceHasNoSpan PlaceVisitedLastNotCounted
         SelfSpansNotCounted SpansIntoTheStartNotCounted ParallelSpansCountedOnce PlacesCountedForSpans
-        CountCutTo8Bits CountCutTo12Bits;
+        CountFromOne SpansCountedTwice CountCutTo8Bits CountCutTo12Bits;
     [Feed Budget] CountCutTo14Bits;
     [Budget] SpansBeyondTheBudgetCounted SpansOfWaitingPlacesCounted SpansOfTheFirstWaitingPlaceCounted;
     // Windows: what is refused.
