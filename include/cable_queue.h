@@ -97,8 +97,8 @@ uint32_t store_sound(const uint32_t *store, size_t store_len);
  * Going back from a place over the last span of each place that is come to, the start is met after joints[p] spans, and
  * not before. The store is made empty, used and left empty.
  *
- * The figures are links, cuts and spans examined; three zeros after a refusal. The spans examined are exactly those e for
- * which best[from[e]] is not CABLE_QUEUE_NONE: every span that leaves a reached place, once, closed ones included. */
+ * The figures are links, cuts and spans examined; three zeros after a refusal. The last is exactly the number of spans e
+ * for which best[from[e]] is not CABLE_QUEUE_NONE: every span that leaves a reached place counts once, closed ones too. */
 uint32_t feed_table(uint32_t places, uint32_t start, uint32_t minute, const uint32_t *from, size_t from_len,
                     const uint32_t *to, size_t to_len, const uint32_t *loss, size_t loss_len, const uint32_t *opens,
                     size_t opens_len, const uint32_t *closes, size_t closes_len, uint32_t *best, size_t best_len,
@@ -114,8 +114,8 @@ uint32_t feed_table(uint32_t places, uint32_t start, uint32_t minute, const uint
  * The store is made empty, used and left empty.
  *
  * The figures are links, cuts, spans examined and places listed; four zeros after a refusal. Links and cuts are those made
- * until the first place waiting is beyond the budget. The spans examined are exactly those e for which from[e] is a listed
- * place, closed ones included; spans of places beyond the budget are not among them. */
+ * until the first place waiting is beyond the budget. Spans examined is exactly the number of spans e for which from[e] is
+ * a listed place, closed ones included; a span of a place beyond the budget does not count. */
 uint32_t feed_budget(uint32_t places, uint32_t start, uint32_t minute, const uint32_t *from, size_t from_len,
                      const uint32_t *to, size_t to_len, const uint32_t *loss, size_t loss_len, const uint32_t *opens,
                      size_t opens_len, const uint32_t *closes, size_t closes_len, uint32_t budget, uint32_t *best,

@@ -3,3 +3,4 @@ pub mod Fields
 pub mod TableRows
 pub mod FeedShown
 pub mod MapShown
+pub mod PrintedCount
