@@ -4,7 +4,6 @@ use super::{same, same_list, Checker, Guarded, Verdict};
 use crate::engine::{BudgetLists, FeedLists};
 use reference::feed::{self, Asked, Lent, Spans};
 use reference::NONE;
-use std::collections::HashSet;
 use std::fmt::Debug;
 
 /// The input of a feed call; result lists and store are lent with these lengths.
@@ -139,16 +138,20 @@ fn leads_back<const FIGURES: usize, const LISTS: usize>(asked: Asked, fed: &Fed<
 /// The spans examined are those whose from has a loss in the table and, where places are listed, those whose from is
 /// listed: each once, open or closed. This needs no reference.
 fn counts_spans<const FIGURES: usize, const LISTS: usize>(asked: Asked, fed: &Fed<FIGURES, LISTS>) -> Verdict {
-    let reached = (0..asked.places).filter(|&place| fed.entry(place)[0] != NONE).collect();
-    let listed = fed.lists.get(4).map(|list| list.iter().copied().take(fed.figures[3] as usize).collect());
-    for (name, places) in [("reached", Some(reached)), ("listed", listed)] {
-        let Some(places): Option<HashSet<u32>> = places else { continue };
-        let leaving = asked.spans.from.iter().filter(|&from| places.contains(from)).count();
-        if leaving != fed.figures[2] as usize {
-            return Err(format!("{leaving} spans leave {name} places, but {} are examined", fed.figures[2]));
+    let counted = |name: &str, places: &mut dyn Iterator<Item = u32>| {
+        let mut is_there = vec![false; asked.places as usize];
+        places.filter(|&place| place < asked.places).for_each(|place| is_there[place as usize] = true);
+        let leaving = asked.spans.from.iter().filter(|&&from| is_there[from as usize]).count();
+        match leaving == fed.figures[2] as usize {
+            true => Ok(()),
+            false => Err(format!("{leaving} spans leave {name} places, but {} are examined", fed.figures[2])),
         }
+    };
+    counted("reached", &mut (0..asked.places).filter(|&place| fed.losses()[place as usize] != NONE))?;
+    match fed.lists.get(4) {
+        Some(listed) => counted("listed", &mut listed.iter().copied().take(fed.figures[3] as usize)),
+        None => Ok(()),
     }
-    Ok(())
 }
 
 fn same_fed<const FIGURES: usize, const LISTS: usize>(
