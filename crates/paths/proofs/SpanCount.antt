@@ -40,15 +40,16 @@ count-most m best =
     le-trans (sumTo-le (spans m) _ (λ _. 1) (λ e _. indicator-le (not (eqb (getD best (fromOf m e) none) none))))
     (rw ones (le-refl _))
 
--- what counts once at most is there or not
-there : (t : Bool) → indicator (ltb 0 (indicator t)) ≡ indicator t
-there true = refl
-there false = refl
+-- an indicator is above 0 exactly if it is 1
+indicator-positive : (t : Bool) → indicator (ltb 0 (indicator t)) ≡ indicator t
+indicator-positive true = refl
+indicator-positive false = refl
 
 -- a place is in the list exactly if it is reached
 listed-reached : (best listed : List ℕ) → Listing best listed → (p : ℕ) → isListed listed p ≡ isReached (getD best p none)
 unfolding isListed isReached
-listed-reached best listed L p = ap (λ n. indicator (ltb 0 n)) (L .once p) ∙ there (not (eqb (getD best p none) none))
+listed-reached best listed L p =
+    ap (λ n. indicator (ltb 0 n)) (L .once p) ∙ indicator-positive (not (eqb (getD best p none) none))
 
 -- so both counts are the same
 pub listed-count : (m : Map) (best listed : List ℕ) → Listing best listed
@@ -60,7 +61,7 @@ listed-count m best listed L =
 -- a list of one place has its spans
 one-listed : (u p : ℕ) → delta u p ≡ isListed (u ∷ []) p
 unfolding isListed delta
-one-listed u p = rw (occurs-one p u, delta-swap p u) (sym (there (eqb p u)))
+one-listed u p = rw (occurs-one p u, delta-swap p u) (sym (indicator-positive (eqb p u)))
 
 by-visit : (m : Map) (u : ℕ) (s : Search) → (visit m u s) .examined ≡ s .examined + leavingListed m (u ∷ [])
 unfolding visit leavingListed

@@ -60,7 +60,7 @@ pub fn worked_within(checker: &mut Checker) -> Verdict {
 }
 
 /// Every map of three places with no span, an open or a closed one from each place to each, itself among them; a span is
-/// the dearer the further on it leads.
+/// the dearer the higher the number of the place that it leads to.
 fn every_map() -> impl Iterator<Item = Vec<[u32; 5]>> {
     let window = |kind: u32| if kind == 1 { [0, 720] } else { [720, 1_440] };
     let span = move |way: u32, kind: u32| {
@@ -91,8 +91,9 @@ pub fn every_map_of_three_within(checker: &mut Checker) -> Verdict {
     Ok(())
 }
 
-/// Maps with about as many spans as places, so that many places are not reached and many have no span.
-pub fn sparse(random: &mut Random) -> (FeedCall, Vec<u32>) {
+/// A map with few spans and with windows, so that many places are not reached and many have no span; and the minutes around
+/// the ends of the windows.
+fn sparse(random: &mut Random) -> (FeedCall, Vec<u32>) {
     let places = 2 + random.below(40) as u32;
     let start = random.below(u64::from(places)) as u32;
     let count = random.size(2 * places as usize);

@@ -50,7 +50,7 @@ impl Leaving<'_> {
         reached.max_by_key(|&place| (self.best[place as usize], place)).expect("the start is reached")
     }
 
-    /// The ways of which a counted span is one.
+    /// How many pairs of from and to the counted spans have.
     fn ways(&self) -> u32 {
         let counted = (0..self.within.asked.spans.from.len()).filter(|&span| self.counts(span));
         counted.map(|span| (self.from(span), self.to(span))).collect::<BTreeSet<_>>().len() as u32
