@@ -1,10 +1,12 @@
-/* The check of a kept store, as a kept run of an empty sheet; its time should grow in line with the items. */
+/* The check of a kept store, as a kept run of an empty sheet, and turn_store beside it; their times should grow in line
+   with the items. */
 #include "bench.h"
 #include "cable_queue.h"
 #include "measure.h"
 #include "store.h"
 
 #include <stdio.h>
+#include <string.h>
 
 #ifndef HAVE_HOST
 
@@ -12,9 +14,12 @@ void bench_check(void) {}
 
 #else
 
-enum { KEYS = 1000000, STIRS = 32 };
+enum { KEYS = 1000000, STIRS = 32, MAX_WORDS = HEAP_WORDS + ITEM_WORDS * MAX_ITEMS };
 
-static uint32_t words[HEAP_WORDS + ITEM_WORDS * MAX_ITEMS];
+enum { CHECK, TURN, SIDES };
+
+/* The words of the full store, the same in the old order, and what these are turned into. */
+static uint32_t words[MAX_WORDS], old[MAX_WORDS], turned[MAX_WORDS];
 static store full;
 static uint8_t out[LINE_ROOM * MAX_LINES];
 static char sheet[MAX_BYTES];
@@ -59,40 +64,95 @@ static void print_shape(void)
 {
     uint32_t trees = 0, marked = 0, highest = 0;
     for (uint32_t item = 0; item < full.items; item++) {
-        if (full.state[item] == 0)
+        const item_words *held = &full.item[item];
+        if (held->state == 0)
             fail("an item of the full store is free", "check");
         marked += is_marked(&full, item);
-        trees += full.parent[item] == NONE;
-        if (full.rank[item] > highest)
-            highest = full.rank[item];
+        trees += held->parent == NONE;
+        if (held->rank > highest)
+            highest = held->rank;
     }
     if (trees < 4 || highest < 4 || marked == 0)
         fail("the full store has too few trees, ranks or marks", "check");
     printf("  %4u items: %2u trees, ranks to %2u, %3u marked", full.items, trees, highest, marked);
 }
 
-static void check_store(int side)
+static void make_full(uint32_t items)
 {
-    (void)side;
-    run_kept(0);
+    full = store_at(words, items);
+    start_draws(22);
+    insert_all();
+    for (int i = 0; i < STIRS; i++)
+        stir();
 }
 
-void bench_check(void)
+static void turn(void)
+{
+    if (turn_store(old, words_len(), turned, words_len()) != 0)
+        fail("an old store is refused", "product");
+}
+
+/* The words of the full store in the old order: those of each kind side by side. */
+static void make_old(void)
+{
+    memcpy(old, words, HEAP_WORDS * sizeof *words);
+    for (uint32_t item = 0; item < full.items; item++)
+        for (uint32_t kind = 0; kind < ITEM_WORDS; kind++)
+            old[HEAP_WORDS + kind * full.items + item] = words[HEAP_WORDS + ITEM_WORDS * item + kind];
+}
+
+/* Turned, the old words have to be those that they were made from. */
+static void expect_turned(void)
+{
+    memset(turned, 0, sizeof turned);
+    turn();
+    if (memcmp(turned, words, words_len() * sizeof *words) != 0)
+        fail("a turned store differs from the full store", "product");
+}
+
+static void run_side(int side)
+{
+    if (side == CHECK)
+        run_kept(0);
+    else
+        turn();
+}
+
+static void print_time(double ns) { printf(" %8.1f us %6.1f ns an item", ns / 1e3, ns / full.items); }
+
+static void bench_kept(void)
 {
     double ns;
     printf("kept_run of an empty sheet on a full store\n");
     for (uint32_t items = 256; items <= MAX_ITEMS; items *= 2) {
-        full = store_at(words, items);
-        start_draws(22);
-        insert_all();
-        for (int i = 0; i < STIRS; i++)
-            stir();
+        make_full(items);
         print_shape();
-        measure(1, check_store, &ns);
-        printf(" %8.1f us %6.1f ns an item", ns / 1e3, ns / items);
+        measure(1, run_side, &ns);
+        print_time(ns);
         print_mark("below 40 ns", ns / items < 40);
         printf("\n");
     }
+}
+
+static void bench_turn(void)
+{
+    double ns[SIDES];
+    printf("turn_store on a full store in the old order\n");
+    for (uint32_t items = 256; items <= MAX_ITEMS; items *= 4) {
+        make_full(items);
+        make_old();
+        expect_turned();
+        measure(SIDES, run_side, ns);
+        printf("  %4u items:", items);
+        print_time(ns[TURN]);
+        printf("   %.2f of kept_run, %.1f ns an item\n", ns[TURN] / ns[CHECK], ns[CHECK] / items);
+    }
+}
+
+void bench_check(void)
+{
+    bench_kept();
+    bench_turn();
 }
 
 #endif

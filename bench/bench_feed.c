@@ -12,8 +12,7 @@
 
 enum { PLACES = MAX_PLACES, SPANS = MAX_SPANS, WORDS = HEAP_WORDS + ITEM_WORDS * PLACES, NOON = MINUTES / 2 };
 
-/* Plain C and product work in the same buffers: where they lie decides which of their words share a cache set, and that
-   alone can change the time by half. */
+/* Plain C and product work in the same buffers: where they lie decides which of their words share a cache set. */
 typedef struct {
     uint32_t best[PLACES], last[PLACES], joints[PLACES], words[WORDS], figures[3], code;
 } feed_result;

@@ -11,63 +11,61 @@ static void make_empty(const store *s)
 {
     for (int h = 0; h < HEAPS; h++)
         s->heap[h] = empty_heap;
-    memset(s->key, 0, (size_t)s->items * ITEM_WORDS * sizeof *s->key);
+    memset(s->item, 0, s->items * sizeof *s->item);
 }
 
-static inline void free_item(const store *s, uint32_t item)
-{
-    s->key[item] = s->parent[item] = s->first_child[item] = s->last_child[item] = 0;
-    s->next[item] = s->previous[item] = s->rank[item] = s->state[item] = 0;
-}
+static inline void free_item(const store *s, uint32_t item) { s->item[item] = (item_words){ 0 }; }
 
 /* Puts a tree at the end of a row, unmarked. */
-static inline void append_root(const store *s, uint32_t h, uint32_t item)
+static inline void append_root(const store *s, uint32_t h, uint32_t tree)
 {
     heap_words *heap = &s->heap[h];
-    s->parent[item] = NONE;
-    s->next[item] = NONE;
-    s->previous[item] = heap->last;
-    s->state[item] = unmarked(h);
+    item_words *root = &s->item[tree];
+    root->parent = NONE;
+    root->next = NONE;
+    root->previous = heap->last;
+    root->state = unmarked(h);
     if (heap->last == NONE)
-        heap->first = item;
+        heap->first = tree;
     else
-        s->next[heap->last] = item;
-    heap->last = item;
+        s->item[heap->last].next = tree;
+    heap->last = tree;
 }
 
 /* Takes an item out of its sibling list, whose ends are given. */
 static inline void unlink_sibling(const store *s, uint32_t item, uint32_t *first, uint32_t *last)
 {
-    uint32_t next = s->next[item], previous = s->previous[item];
+    uint32_t next = s->item[item].next, previous = s->item[item].previous;
     if (previous == NONE)
         *first = next;
     else
-        s->next[previous] = next;
+        s->item[previous].next = next;
     if (next == NONE)
         *last = previous;
     else
-        s->previous[next] = previous;
+        s->item[next].previous = previous;
 }
 
 /* Makes loser the last child of winner; the links of rows are not kept up meanwhile. */
 static inline void link_under(const store *s, uint32_t loser, uint32_t winner)
 {
-    uint32_t last = s->last_child[winner];
-    s->parent[loser] = winner;
-    s->previous[loser] = last;
-    s->next[loser] = NONE;
+    item_words *child = &s->item[loser], *parent = &s->item[winner];
+    uint32_t last = parent->last_child;
+    child->parent = winner;
+    child->previous = last;
+    child->next = NONE;
     if (last == NONE)
-        s->first_child[winner] = loser;
+        parent->first_child = loser;
     else
-        s->next[last] = loser;
-    s->last_child[winner] = loser;
-    s->rank[winner]++;
+        s->item[last].next = loser;
+    parent->last_child = loser;
+    parent->rank++;
 }
 
 /* Gives a tree a place of its rank, linking it with each holder on the way. */
 static inline uint32_t climb(const store *s, uint32_t amount, uint32_t place[RANKS], uint32_t tree)
 {
-    uint32_t links = 0, rank = s->rank[tree];
+    uint32_t links = 0, rank = s->item[tree].rank;
     while (place[rank] != NONE) {
         uint32_t holder = place[rank];
         place[rank] = NONE;
@@ -94,18 +92,18 @@ static inline void row_from_places(const store *s, uint32_t h, const uint32_t pl
         uint32_t tree = place[rank];
         if (tree == NONE)
             continue;
-        s->parent[tree] = NONE;
-        s->previous[tree] = last;
+        s->item[tree].parent = NONE;
+        s->item[tree].previous = last;
         if (last == NONE)
             heap->first = tree;
         else
-            s->next[last] = tree;
+            s->item[last].next = tree;
         last = tree;
         if (minimum == NONE || precedes(s, heap->amount, tree, minimum))
             minimum = tree;
     }
     if (last != NONE)
-        s->next[last] = NONE;
+        s->item[last].next = NONE;
     heap->last = last;
     heap->minimum = minimum;
 }
@@ -118,13 +116,13 @@ static uint32_t extract_min(const store *s, uint32_t h)
     for (int rank = 0; rank < RANKS; rank++)
         place[rank] = NONE;
     for (uint32_t tree = heap->first; tree != NONE; tree = next) {
-        next = s->next[tree];
+        next = s->item[tree].next;
         if (tree != taken)
             links += climb(s, amount, place, tree);
     }
-    for (uint32_t tree = s->first_child[taken]; tree != NONE; tree = next) {
-        next = s->next[tree];
-        s->state[tree] = unmarked(h);
+    for (uint32_t tree = s->item[taken].first_child; tree != NONE; tree = next) {
+        next = s->item[tree].next;
+        s->item[tree].state = unmarked(h);
         links += climb(s, amount, place, tree);
     }
     row_from_places(s, h, place);
@@ -137,9 +135,10 @@ static uint32_t extract_min(const store *s, uint32_t h)
 static inline void insert(const store *s, uint32_t h, uint32_t item, uint32_t key)
 {
     heap_words *heap = &s->heap[h];
-    s->key[item] = key - heap->amount;
-    s->first_child[item] = s->last_child[item] = NONE;
-    s->rank[item] = 0;
+    item_words *leaf = &s->item[item];
+    leaf->key = key - heap->amount;
+    leaf->first_child = leaf->last_child = NONE;
+    leaf->rank = 0;
     append_root(s, h, item);
     if (heap->minimum == NONE || precedes(s, heap->amount, item, heap->minimum))
         heap->minimum = item;
@@ -149,17 +148,17 @@ static inline void insert(const store *s, uint32_t h, uint32_t item, uint32_t ke
 /* Cuts an item from its parent, then every marked ancestor in turn. */
 static inline uint32_t cascading_cut(const store *s, uint32_t h, uint32_t item)
 {
-    uint32_t cuts = 0, parent = s->parent[item];
+    uint32_t cuts = 0, parent = s->item[item].parent;
     for (;;) {
-        unlink_sibling(s, item, &s->first_child[parent], &s->last_child[parent]);
-        s->rank[parent]--;
+        unlink_sibling(s, item, &s->item[parent].first_child, &s->item[parent].last_child);
+        s->item[parent].rank--;
         append_root(s, h, item);
         cuts++;
-        uint32_t above = s->parent[parent];
+        uint32_t above = s->item[parent].parent;
         if (above == NONE)
             return cuts;
         if (!is_marked(s, parent)) {
-            s->state[parent]++;
+            s->item[parent].state++;
             return cuts;
         }
         item = parent;
@@ -169,8 +168,8 @@ static inline uint32_t cascading_cut(const store *s, uint32_t h, uint32_t item)
 
 static inline uint32_t decrease_key(const store *s, uint32_t item, uint32_t key)
 {
-    uint32_t h = heap_of(s, item), amount = s->heap[h].amount, parent = s->parent[item], cuts = 0;
-    s->key[item] = key - amount;
+    uint32_t h = heap_of(s, item), amount = s->heap[h].amount, parent = s->item[item].parent, cuts = 0;
+    s->item[item].key = key - amount;
     if (parent != NONE && precedes(s, amount, item, parent))
         cuts = cascading_cut(s, h, item);
     if (precedes(s, amount, item, s->heap[h].minimum))
@@ -183,11 +182,11 @@ static uint32_t delete_other(const store *s, uint32_t h, uint32_t item)
 {
     heap_words *heap = &s->heap[h];
     uint32_t cuts = 0, next;
-    if (s->parent[item] != NONE)
+    if (s->item[item].parent != NONE)
         cuts = cascading_cut(s, h, item);
     unlink_sibling(s, item, &heap->first, &heap->last);
-    for (uint32_t child = s->first_child[item]; child != NONE; child = next) {
-        next = s->next[child];
+    for (uint32_t child = s->item[item].first_child; child != NONE; child = next) {
+        next = s->item[child].next;
         append_root(s, h, child);
     }
     heap->count--;
@@ -204,15 +203,15 @@ static void meld(const store *s, uint32_t into, uint32_t from)
     uint32_t turn = 2 * into - 2 * from, more = b->amount - a->amount;
     for (uint32_t item = 0; item < s->items; item++)
         if (is_in(s, from, item)) {
-            s->state[item] += turn;
-            s->key[item] += more;
+            s->item[item].state += turn;
+            s->item[item].key += more;
         }
     if (a->count == 0) {
         *a = *b;
         a->amount = 0;
     } else {
-        s->next[a->last] = b->first;
-        s->previous[b->first] = a->last;
+        s->item[a->last].next = b->first;
+        s->item[b->first].previous = a->last;
         a->last = b->last;
         if (precedes(s, a->amount, b->minimum, a->minimum))
             a->minimum = b->minimum;
@@ -240,7 +239,7 @@ static inline answer call_insert(const store *s, uint32_t h, uint32_t item, uint
         return refused(7);
     if (item >= s->items)
         return refused(8);
-    if (s->state[item] != 0)
+    if (s->item[item].state != 0)
         return refused(9);
     insert(s, h, item, key);
     return done(item, key, 0, 0);
@@ -268,7 +267,7 @@ static inline answer call_decrease_key(const store *s, uint32_t item, uint32_t k
 {
     if (item >= s->items)
         return refused(8);
-    if (s->state[item] == 0)
+    if (s->item[item].state == 0)
         return refused(10);
     if (key > key_of(s, s->heap[heap_of(s, item)].amount, item))
         return refused(11);
@@ -279,7 +278,7 @@ static inline answer call_delete(const store *s, uint32_t item)
 {
     if (item >= s->items)
         return refused(8);
-    if (s->state[item] == 0)
+    if (s->item[item].state == 0)
         return refused(10);
     uint32_t h = heap_of(s, item);
     answer a = done(item, key_of(s, s->heap[h].amount, item), 0, 0);

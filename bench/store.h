@@ -14,23 +14,25 @@ typedef struct {
     uint32_t first, last, minimum, count, amount;
 } heap_words;
 
-/* The blocks of a store. */
+/* The eight words of an item, side by side, so that a visit to an item touches one cache line, or two at most. */
+typedef struct {
+    uint32_t key, parent, first_child, last_child, next, previous, rank, state;
+} item_words;
+
+/* The two parts of a store. */
 typedef struct {
     uint32_t items;
     heap_words *heap;
-    uint32_t *key, *parent, *first_child, *last_child, *next, *previous, *rank, *state;
+    item_words *item;
 } store;
 
 static inline store store_at(uint32_t *words, uint32_t items)
 {
-    uint32_t *block = words + HEAP_WORDS;
-    return (store){ items, (heap_words *)words,
-                    block, block + items, block + 2 * items, block + 3 * items,
-                    block + 4 * items, block + 5 * items, block + 6 * items, block + 7 * items };
+    return (store){ items, (heap_words *)words, (item_words *)(words + HEAP_WORDS) };
 }
 
 /* The key of an item in a heap of the amount. */
-static inline uint32_t key_of(const store *s, uint32_t amount, uint32_t item) { return s->key[item] + amount; }
+static inline uint32_t key_of(const store *s, uint32_t amount, uint32_t item) { return s->item[item].key + amount; }
 
 /* Item order in a heap of the amount: the smaller key, then the smaller number, in one comparison. */
 static inline bool precedes(const store *s, uint32_t amount, uint32_t a, uint32_t b)
@@ -40,8 +42,8 @@ static inline bool precedes(const store *s, uint32_t amount, uint32_t a, uint32_
 }
 
 static inline uint32_t unmarked(uint32_t heap) { return 1 + 2 * heap; }
-static inline uint32_t heap_of(const store *s, uint32_t item) { return (s->state[item] - 1) >> 1; }
-static inline bool is_marked(const store *s, uint32_t item) { return (s->state[item] & 1) == 0; }
+static inline uint32_t heap_of(const store *s, uint32_t item) { return (s->item[item].state - 1) >> 1; }
+static inline bool is_marked(const store *s, uint32_t item) { return (s->item[item].state & 1) == 0; }
 
 /* What heap_of gives for a free item is no heap. */
 static inline bool is_in(const store *s, uint32_t heap, uint32_t item) { return heap_of(s, item) == heap; }
