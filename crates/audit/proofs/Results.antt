@@ -9,9 +9,11 @@ use native.Mathlib.Omega.{arith}
 use lib.ListN.{length}
 use lib.Dec.{eqb, ltb, eqb·zero-suc, eqb·suc-suc}
 use borrow.Author.Tests.{ne-eqb, le-leb}
+use Rattle.rules.specs.declared.Layout.{Layout}
 use Rattle.rules.specs.declared.Field.the-variants.{FirstTree, LastTree, Count, Amount, Key, Rank, State}
 use Rattle.rules.specs.Forests.{none}
-use Rattle.rules.specs.Words.{itemsIn, isStore, look}
+use Rattle.rules.specs.Words.{itemsIn, isStore, lookIn}
+use Rattle.store.specs.Says.{Values}
 use Rattle.rules.proofs.Occurs.{and-true, and-false}
 use Rattle.soundness.specs.Check.{
   allTo,
@@ -28,7 +30,7 @@ use Rattle.soundness.specs.Check.{
   amountRight,
   heapOk,
   allOk,
-  soundWords,
+  soundWordsIn,
 }
 use Rattle.audit.specs.Promises.{RowInside, AtMost, ifOk, siblingsOk, lengthIfOk, heapIfOk}
 use Rattle.soundness.proofs.Passed.{byZero}
@@ -59,74 +61,75 @@ joined true true false k rank = eqb·zero-suc rank ∙ sym (and-false (eqb k ran
 joined true false b k rank = eqb·zero-suc rank
 joined false a b k rank = refl
 
-module _ (n : ℕ) (w : List ℕ) (i : ℕ) where
+module _ (n : ℕ) (v : Values) (i : ℕ) where
   -- what is tested of an item in a heap besides its state and key, whose parent's test is p
   abbrev tests : Bool → ℕ → Bool
   tests p rank =
-      p && listOk n w (childrenAt n w i) && eqb (length (listAt n w (childrenAt n w i))) rank
-      && childRanksOk n w 1 (listAt n w (childrenAt n w i))
+      p && listOk n v (childrenAt n v i) && eqb (length (listAt n v (childrenAt n v i))) rank
+      && childRanksOk n v 1 (listAt n v (childrenAt n v i))
 
   pub children-tests : (p : Bool) (rank : ℕ) → i < n → n ≤ 4096
-      → (p && eqb (lengthIfOk n w (childrenAt n w i)) (rank + 1)) ≡ tests p rank
+      → (p && eqb (lengthIfOk n v (childrenAt n v i)) (rank + 1)) ≡ tests p rank
   unfolding siblingsOk
   children-tests p rank k small =
-      rw (add-one, ne-eqb i none (λ e. omega arith)) (joined p (listOk n w (childrenAt n w i)) _ _ rank)
+      rw (add-one, ne-eqb i none (λ e. omega arith)) (joined p (listOk n v (childrenAt n v i)) _ _ rank)
 
-  pub member-tests : look n w State i ≢ 0 → look n w State i ≤ 16 → look n w Key i ≤ 4294967295
-      → tests (parentOk n w i) (look n w Rank i) ≡ itemOk n w i
+  pub member-tests : v State i ≢ 0 → v State i ≤ 16 → v Key i ≤ 4294967295
+      → tests (parentOk n v i) (v Rank i) ≡ itemOk n v i
   unfolding itemOk memberOk
   member-tests m s k =
-      rw (ne-eqb (look n w State i) 0 m, le-leb (look n w State i) 16 s, le-leb (look n w Key i) 4294967295 k)
+      rw (ne-eqb (v State i) 0 m, le-leb (v State i) 16 s, le-leb (v Key i) 4294967295 k)
 
 -- ---- a heap
 
-module _ (n : ℕ) (w : List ℕ) (h : ℕ) where
+module _ (n : ℕ) (v : Values) (h : ℕ) where
   -- the answer on its row
   abbrev pub rowIfOk : ℕ
-  rowIfOk = ifOk (listOk n w (rowAt n w h)) (length (listAt n w (rowAt n w h)))
+  rowIfOk = ifOk (listOk n v (rowAt n v h)) (length (listAt n v (rowAt n v h)))
 
-  pub row-answer : (heap first last r : ℕ) → heap ≡ h + 1 → first ≡ look n w FirstTree h → last ≡ look n w LastTree h
-      → r ≡ lengthIfOk n w (record { heap = heap; parent = none; first = first; last = last }) → r ≡ rowIfOk
+  pub row-answer : (heap first last r : ℕ) → heap ≡ h + 1 → first ≡ v FirstTree h → last ≡ v LastTree h
+      → r ≡ lengthIfOk n v (record { heap = heap; parent = none; first = first; last = last }) → r ≡ rowIfOk
   unfolding siblingsOk
   row-answer heap first last r e f g q = q ∙ rw (e, f, g, add-one h, and-true)
 
-  pub row-wrong : (r : ℕ) → r ≡ rowIfOk → r ≡ 0 → 0 ≡ heapIfOk n w h
+  pub row-wrong : (r : ℕ) → r ≡ rowIfOk → r ≡ 0 → 0 ≡ heapIfOk n v h
   unfolding heapOk
-  row-wrong r e z = rw (ok-zero (listOk n w (rowAt n w h)) (length (listAt n w (rowAt n w h))) r e z)
+  row-wrong r e z = rw (ok-zero (listOk n v (rowAt n v h)) (length (listAt n v (rowAt n v h))) r e z)
 
   -- what is tested besides, and the answer then
-  pub heap-tests : (r : ℕ) → r ≡ rowIfOk → r ≢ 0 → {v : ℕ} → AtMost (look n w Amount h) 4294967295 v → (t : Bool)
-      → (minimumRight n w h && countRight n w h && (ltb 0 (look n w Count h) || eqb (look n w Amount h) 0)) ≡ t
-      → cond t r 0 ≡ heapIfOk n w h
+  pub heap-tests : (r : ℕ) → r ≡ rowIfOk → r ≢ 0 → {x : ℕ} → AtMost (v Amount h) 4294967295 x → (t : Bool)
+      → (minimumRight n v h && countRight n v h && (ltb 0 (v Count h) || eqb (v Amount h) 0)) ≡ t
+      → cond t r 0 ≡ heapIfOk n v h
   unfolding heapOk amountRight
   heap-tests r e m a t q =
-      let l : listOk n w (rowAt n w h) ≡ true =
-      ok-more (listOk n w (rowAt n w h)) (length (listAt n w (rowAt n w h))) r e m .0 in
-      rw (e, l, le-leb (look n w Amount h) 4294967295 (omega (arith, a .is, a .most)), q)
+      let l : listOk n v (rowAt n v h) ≡ true =
+      ok-more (listOk n v (rowAt n v h)) (length (listAt n v (rowAt n v h))) r e m .0 in
+      rw (e, l, le-leb (v Amount h) 4294967295 (omega (arith, a .is, a .most)), q)
 
-  pub row-inside : h < 8 → (r : ℕ) → r ≡ rowIfOk → r ≢ 0 → RowInside n w h
+  pub row-inside : h < 8 → (r : ℕ) → r ≡ rowIfOk → r ≢ 0 → RowInside n v h
   row-inside k r e m =
       record {
         heap = k;
         inside = λ x i.
             let o =
-            is-listed n w (rowAt n w h)
-            (ok-more (listOk n w (rowAt n w h)) (length (listAt n w (rowAt n w h))) r e m .0) .own x i in
+            is-listed n v (rowAt n v h)
+            (ok-more (listOk n v (rowAt n v h)) (length (listAt n v (rowAt n v h))) r e m .0) .own x i in
             (o .inside, o .heap);
       }
 
 -- ---- the store
 
 -- right items have the states of eight heaps
-pub states-low : (n : ℕ) (w : List ℕ) → allTo n (itemOk n w) ≡ true → (i : ℕ) → i < n → look n w State i ≤ 16
-states-low n w e i k =
-    byZero (look n w State i) (λ z. omega arith) (λ m. is-member n w i (allTo-at n (itemOk n w) e i k) m .state)
+pub states-low : (n : ℕ) (v : Values) → allTo n (itemOk n v) ≡ true → (i : ℕ) → i < n → v State i ≤ 16
+states-low n v e i k =
+    byZero (v State i) (λ z. omega arith) (λ m. is-member n v i (allTo-at n (itemOk n v) e i k) m .state)
 
 -- no store, and a store
-pub sound-wrong : (w : List ℕ) → isStore w ≡ false → false ≡ soundWords w
-unfolding soundWords
-sound-wrong w e = rw e
+pub sound-wrong : (o : Layout) (w : List ℕ) → isStore w ≡ false → false ≡ soundWordsIn o w
+unfolding soundWordsIn
+sound-wrong o w e = rw e
 
-pub sound-all : (w : List ℕ) → isStore w ≡ true → (n : ℕ) → n ≡ itemsIn w → allOk n w ≡ soundWords w
-unfolding soundWords
-sound-all w e n q = rw (e, q)
+pub sound-all : (o : Layout) (w : List ℕ) → isStore w ≡ true → (n : ℕ) → n ≡ itemsIn w
+    → allOk n (lookIn o n w) ≡ soundWordsIn o w
+unfolding soundWordsIn
+sound-all o w e n q = rw (e, q)

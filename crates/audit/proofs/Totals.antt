@@ -11,9 +11,11 @@ use lib.ListN.{length, getD, set, replicate, length-set, length-replicate}
 use lib.Seq.{getD-set-same, getD-set-other}
 use lib.Dec.{eqb}
 use borrow.Author.Tests.{eqb-true, eqb-false}
+use Rattle.rules.specs.declared.Layout.{Layout}
 use Rattle.rules.specs.declared.Field.the-variants.{State}
 use Rattle.rules.specs.Lists.{indicator, sumTo}
-use Rattle.rules.specs.Words.{look, stateHeap}
+use Rattle.rules.specs.Words.{lookIn, stateHeap}
+use Rattle.store.specs.Says.{Values}
 use Rattle.soundness.specs.Check.{allTo, heapAt}
 use Rattle.audit.specs.Promises.{StatesLow}
 use Rattle.soundness.proofs.Booleans.{allTo-at}
@@ -49,47 +51,47 @@ zeros zero v = refl
 zeros (suc k) zero = refl
 zeros (suc k) (suc v) = zeros k v
 
-module _ (n : ℕ) (w : List ℕ) where
+module _ (n : ℕ) (v : Values) where
   -- ---- the counts of the heaps
 
   -- among the first i items
   abbrev pub countTo : ℕ → ℕ → ℕ
-  countTo i v = sumTo i (λ j. indicator (eqb (heapAt n w j) v))
+  countTo i g = sumTo i (λ j. indicator (eqb (heapAt n v j) g))
 
   pub record CountsTo (i : ℕ) (counts : List ℕ) : Type 0 where
     pub size : length counts ≡ 9
-    pub each : (v : ℕ) → v < 9 → getD counts v 0 ≡ countTo i v
+    pub each : (g : ℕ) → g < 9 → getD counts g 0 ≡ countTo i g
 
   pub counts-start : CountsTo 0 (replicate {A = ℕ} 9 0)
   unfolding sumTo
   counts-start = record { size = length-replicate {A = ℕ} 9 0; each = λ v _. zeros 9 v }
 
-  pub counts-more : (i heap : ℕ) (counts : List ℕ) → heap ≡ heapAt n w i → heap < 9 → CountsTo i counts
+  pub counts-more : (i heap : ℕ) (counts : List ℕ) → heap ≡ heapAt n v i → heap < 9 → CountsTo i counts
       → CountsTo (i + 1) (set counts heap (getD counts heap 0 + 1))
   counts-more i heap counts e k C =
-      record { size = rw length-set (C .size); each = λ v h. go v h (eqb heap v) refl }
+      record { size = rw length-set (C .size); each = λ g h. go g h (eqb heap g) refl }
     where
-      next : (v : ℕ) → countTo (i + 1) v ≡ countTo i v + indicator (eqb heap v)
-      next v = rw e (sumTo-more i (λ j. indicator (eqb (heapAt n w j) v)))
+      next : (g : ℕ) → countTo (i + 1) g ≡ countTo i g + indicator (eqb heap g)
+      next g = rw e (sumTo-more i (λ j. indicator (eqb (heapAt n v j) g)))
 
-      go : (v : ℕ) → v < 9 → (t : Bool) → eqb heap v ≡ t
-          → getD (set counts heap (getD counts heap 0 + 1)) v 0 ≡ countTo (i + 1) v
-      go v h true q =
-          let p : heap ≡ v = eqb-true heap v q in
-          let one : indicator (eqb heap v) ≡ 1 = rw q in
-          subst (λ u. getD (set counts heap (getD counts heap 0 + 1)) u 0 ≡ countTo i v + 1) p
+      go : (g : ℕ) → g < 9 → (t : Bool) → eqb heap g ≡ t
+          → getD (set counts heap (getD counts heap 0 + 1)) g 0 ≡ countTo (i + 1) g
+      go g h true q =
+          let p : heap ≡ g = eqb-true heap g q in
+          let one : indicator (eqb heap g) ≡ 1 = rw q in
+          subst (λ u. getD (set counts heap (getD counts heap 0 + 1)) u 0 ≡ countTo i g + 1) p
           (getD-set-same counts heap (getD counts heap 0 + 1) 0 (omega (arith, C .size))
           ∙ omega (arith, C .each heap k, ap (countTo i) p))
-          ∙ omega (arith, next v)
-      go v h false q =
-          let m : heap ≢ v = eqb-false heap v q in
-          let one : indicator (eqb heap v) ≡ 0 = rw q in
-          getD-set-other counts heap v (getD counts heap 0 + 1) 0 (λ p. m (sym p))
-          ∙ omega (arith, next v, C .each v h)
+          ∙ omega (arith, next g)
+      go g h false q =
+          let m : heap ≢ g = eqb-false heap g q in
+          let one : indicator (eqb heap g) ≡ 0 = rw q in
+          getD-set-other counts heap g (getD counts heap 0 + 1) 0 (λ p. m (sym p))
+          ∙ omega (arith, next g, C .each g h)
 
-  -- the heap that a state word names is a place among the counts
-  pub heap-index : StatesLow n w → (i state heap : ℕ) → i < n → state ≡ look n w State i → heap ≡ stateHeap state
-      → heap < 9
-  heap-index L i state heap k e f =
-      let a : state ≤ 16 = omega (arith, L .low i k) in
-      omega (arith, heap-low state a)
+-- the heap that a state word names is a place among the counts
+pub heap-index : (o : Layout) (n : ℕ) (w : List ℕ) → StatesLow o n w → (i state heap : ℕ) → i < n
+    → state ≡ lookIn o n w State i → heap ≡ stateHeap state → heap < 9
+heap-index o n w L i state heap k e f =
+    let a : state ≤ 16 = omega (arith, L .low i k) in
+    omega (arith, heap-low state a)

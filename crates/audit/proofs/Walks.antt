@@ -12,8 +12,9 @@ use lib.Dec.{eqb, leb}
 use borrow.Author.Tests.{leb-true, leb-false, le-leb, lt-leb, eq-eqb, ne-eqb}
 use Rattle.rules.specs.declared.Field.the-variants.{Next}
 use Rattle.rules.specs.Forests.{none}
-use Rattle.rules.specs.Words.{look, headOr, lastOr, follow, listFrom}
+use Rattle.rules.specs.Words.{headOr, lastOr, follow, listFrom}
 use Rattle.rules.proofs.Occurs.{and-split, and-true, and-false, eqb-self}
+use Rattle.store.specs.Says.{Values}
 use Rattle.soundness.specs.declared.Siblings.{Siblings}
 use Rattle.soundness.specs.Check.{namesOwner, linksOk, listOk, childRankOk, childRanksOk}
 use Rattle.soundness.proofs.Lists.{is-owned}
@@ -44,9 +45,9 @@ tests-hold true true c d f false false q z = absurd (true≢false (sym z))
 tests-hold true false c d f p r q z = absurd (true≢false (sym z))
 tests-hold false b c d f p r q z = absurd (true≢false (sym z))
 
-module _ (n : ℕ) (w : List ℕ) where
+module _ (n : ℕ) (v : Values) where
   abbrev pub next : ℕ → ℕ
-  next = look n w Next
+  next = v Next
 
   -- what is left of a list after j items: nothing where it has ended or is too long, else one item and the rest
   pub nothing-left : (j x : ℕ) → ((n ≤ j) ⊎ (x ≡ none)) → follow (n - j) next x ≡ []
@@ -62,39 +63,39 @@ module _ (n : ℕ) (w : List ℕ) where
   unfolding follow
   one-more j x h m = let e : n - j ≡ suc (n - (j + 1)) = omega arith in rw (e, ne-eqb x none m)
 
-module _ (n : ℕ) (w : List ℕ) (l : Siblings) where
+module _ (n : ℕ) (v : Values) (l : Siblings) where
   -- the tests of the rest of a list, which starts with item x, the i-th, and has prev before it
   unfoldable pub restOk : ℕ → ℕ → ℕ → List ℕ → Bool
   restOk prev i x xs =
-      linksOk n w l prev xs && eqb x (headOr none xs) && eqb (l .last) (lastOr prev xs)
-      && (eqb (l .parent) none || childRanksOk n w i xs)
+      linksOk n v l prev xs && eqb x (headOr none xs) && eqb (l .last) (lastOr prev xs)
+      && (eqb (l .parent) none || childRanksOk n v i xs)
 
   -- the answer, if j items are passed
   unfoldable pub lengthFrom : ℕ → ℕ → ℕ → ℕ
   lengthFrom j prev x =
-      ifOk (restOk prev (suc j) x (follow (n - j) (next n w) x)) (j + length (follow (n - j) (next n w) x))
+      ifOk (restOk prev (suc j) x (follow (n - j) (next n v) x)) (j + length (follow (n - j) (next n v) x))
 
-  pub link-inside : (prev i x : ℕ) → linkOk n w l prev i x ≡ true → x < n
+  pub link-inside : (prev i x : ℕ) → linkOk n v l prev i x ≡ true → x < n
   unfolding linkOk
-  link-inside prev i x e = is-owned n w l x (and-split _ _ (and-split _ _ e .0) .0) .inside
+  link-inside prev i x e = is-owned n v l x (and-split _ _ (and-split _ _ e .0) .0) .inside
 
-  pub walk-start : lengthFrom 0 none (l .first) ≡ lengthIfOk n w l
+  pub walk-start : lengthFrom 0 none (l .first) ≡ lengthIfOk n v l
   unfolding lengthFrom restOk siblingsOk listOk listFrom
   walk-start = let e : n - 0 ≡ n = omega arith in rw (e, zero-add)
 
-  rest-fails : (prev i x : ℕ) (xs : List ℕ) → linkOk n w l prev i x ≡ false → restOk prev i x (x ∷ xs) ≡ false
+  rest-fails : (prev i x : ℕ) (xs : List ℕ) → linkOk n v l prev i x ≡ false → restOk prev i x (x ∷ xs) ≡ false
   unfolding restOk linkOk linksOk childRanksOk
   rest-fails prev i x xs e =
-      tests-fail (namesOwner n w l x) _ _ _ _ _ (eqb (l .parent) none) (childRankOk n w i x)
-      (childRanksOk n w (suc i) xs) e
+      tests-fail (namesOwner n v l x) _ _ _ _ _ (eqb (l .parent) none) (childRankOk n v i x)
+      (childRanksOk n v (suc i) xs) e
 
-  rest-goes-on : (prev i x : ℕ) (xs : List ℕ) → linkOk n w l prev i x ≡ true
-      → restOk prev i x (x ∷ xs) ≡ restOk x (suc i) (next n w x) xs
+  rest-goes-on : (prev i x : ℕ) (xs : List ℕ) → linkOk n v l prev i x ≡ true
+      → restOk prev i x (x ∷ xs) ≡ restOk x (suc i) (next n v x) xs
   unfolding restOk linkOk linksOk headOr lastOr childRanksOk
   rest-goes-on prev i x xs e =
       rw (eqb-self x)
-      (tests-hold (namesOwner n w l x) _ _ _ _ (eqb (l .parent) none) (childRankOk n w i x)
-      (childRanksOk n w (suc i) xs) e)
+      (tests-hold (namesOwner n v l x) _ _ _ _ (eqb (l .parent) none) (childRankOk n v i x)
+      (childRanksOk n v (suc i) xs) e)
 
   -- nothing is left of a list that has ended, or is too long
   rest-ended : (prev i x : ℕ) → restOk prev i x [] ≡ (eqb x none && eqb (l .last) prev)
@@ -102,24 +103,24 @@ module _ (n : ℕ) (w : List ℕ) (l : Siblings) where
   rest-ended prev i x = rw (or-true, and-true)
 
   -- the ways out of the walk, whose answer is a
-  pub walk-refused : (j prev x a : ℕ) → j < n → x ≢ none → linkOk n w l prev (j + 1) x ≡ false
+  pub walk-refused : (j prev x a : ℕ) → j < n → x ≢ none → linkOk n v l prev (j + 1) x ≡ false
       → lengthFrom j prev x ≡ a → 0 ≡ a
   unfolding lengthFrom
   walk-refused j prev x a h m e i =
-      sym (rw (one-more n w j x h m, rest-fails prev (suc j) x _ (rw add-one at e))) ∙ i
+      sym (rw (one-more n v j x h m, rest-fails prev (suc j) x _ (rw add-one at e))) ∙ i
 
   pub walk-ended : (j prev x a : ℕ) → ((n ≤ j) ⊎ (x ≡ none)) → lengthFrom j prev x ≡ a
       → ifOk (eqb x none && eqb (l .last) prev) j ≡ a
   unfolding lengthFrom
   walk-ended j prev x a o i =
       let z : j + 0 ≡ j = omega arith in
-      sym (rw (nothing-left n w j x o, rest-ended prev (suc j) x, z)) ∙ i
+      sym (rw (nothing-left n v j x o, rest-ended prev (suc j) x, z)) ∙ i
 
   -- one step
-  pub walk-more : (j prev x : ℕ) → j < n → x ≢ none → linkOk n w l prev (j + 1) x ≡ true
-      → lengthFrom (j + 1) x (next n w x) ≡ lengthFrom j prev x
+  pub walk-more : (j prev x : ℕ) → j < n → x ≢ none → linkOk n v l prev (j + 1) x ≡ true
+      → lengthFrom (j + 1) x (next n v x) ≡ lengthFrom j prev x
   unfolding lengthFrom
   walk-more j prev x h m e =
-      let xs = follow (n - (j + 1)) (next n w) (next n w x) in
+      let xs = follow (n - (j + 1)) (next n v) (next n v x) in
       let k : j + suc (length xs) ≡ j + 1 + length xs = omega arith in
-      rw (one-more n w j x h m, rest-goes-on prev (suc j) x xs (rw add-one at e), k, add-one j)
+      rw (one-more n v j x h m, rest-goes-on prev (suc j) x xs (rw add-one at e), k, add-one j)

@@ -18,7 +18,7 @@ use Rattle.rules.specs.Lists.{occurs}
 use Rattle.rules.specs.Order.{minimum}
 use Rattle.rules.specs.Queues.{Queues, afterCall, amountOf, amountsAfterCall, amountsLeft}
 use Rattle.rules.specs.WellFormed.{KeysFit, WellFormed, WellFormedQueues}
-use Rattle.rules.specs.Words.{decode, encode, itemsIn, look, word, wordsWith}
+use Rattle.rules.specs.Words.{decode, encode, encodeIn, itemsIn, look, word, wordsWith}
 use Rattle.rules.proofs.CallsKeep.{perform-kept}
 use Rattle.rules.proofs.CountAfter.{extract-count}
 use Rattle.rules.proofs.Excused.{to-formed, well-formed}
@@ -52,7 +52,7 @@ cond-own a h g = go (eqb h g) refl
 
 module _ {n h links : ℕ} {w : List ℕ} (P : ExtractReady n w h links) where
   abbrev q : Queues
-  q = decode n w
+  q = decode n (look n w)
 
   abbrev t : Forests
   t = q .forests
@@ -86,7 +86,7 @@ module _ {n h links : ℕ} {w : List ℕ} (P : ExtractReady n w h links) where
 
   -- a sound store holds its forests
   pub sound-rowed : Rowed n h (minimum t h) w (amountOf q) t
-  unfolding encode
+  unfolding encodeIn wordsWith
   sound-rowed =
       holds-rowed (amountOf q) t (formed .disjoint) h
       (rw size at (encode-holds (amountOf q) t (formed .disjoint) w words))
@@ -183,7 +183,7 @@ module _ {n h links : ℕ} {w : List ℕ} (P : ExtractReady n w h links) where
 
         pub extract-performs : {k : ℕ} (w₃ : List ℕ) → k ≡ itemKey h (look n w) x → Changes n w₂ (amountSettled h) w₃
             → Performs w₃ links x k links′ q h
-        unfolding perform extract encode
+        unfolding perform extract encodeIn wordsWith
         extract-performs {k} w₃ ek c =
             record {
               items = is-least;

@@ -7,13 +7,13 @@ use Rattle.rules.specs.declared.Call.the-variants.{ExtractMin}
 use Rattle.rules.specs.Answers.{refusal}
 use Rattle.rules.specs.Calls.{perform}
 use Rattle.rules.specs.Queues.{Queues, afterCall}
-use Rattle.rules.specs.Words.{Sound, decodeForests, encode, storeSize}
+use Rattle.rules.specs.Words.{Sound, decodeForests, encode, look, storeSize}
 
 -- the call is not refused, and the tally has room for its links
 pub record ExtractReady (n : ℕ) (w : List ℕ) (h links : ℕ) : Type 0 where
   pub sound : Sound w
   pub size : length w ≡ storeSize n
-  pub done : refusal (decodeForests n w) (ExtractMin h) ≡ 0
+  pub done : refusal (decodeForests n (look n w)) (ExtractMin h) ≡ 0
   pub fits : links + 4096 ≤ 4294967295
 
 -- Item, key and links are those that the rules answer, the links as an addition to a tally; the words are those of the

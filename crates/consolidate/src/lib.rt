@@ -198,7 +198,7 @@ pub struct Extracted {
 pub fn extract_min(s: &mut [u32], n: usize, h: u32, tally: Tally) -> Extracted
     requires { ⌜ ExtractReady n (now s) h (tally .links) ⌝ }
     ensures { λ r. ⌜ Performs (now (s .exit)) (tally .links) (r .item) (r .key) (r .tally .links)
-        (decode n (now (s .entry))) h ⌝ }
+        (decode n (look n (now (s .entry)))) h ⌝ }
     ensures { λ r. ⌜ r .tally .cuts ≡ tally .cuts ⌝ }
 {
     let x = get(s, n, Field::Minimum, h);

@@ -22,7 +22,7 @@ use Rattle.rules.specs.Queues.{amountOf, amountsAfterCall}
 use Rattle.rules.specs.SetWord.{setWord}
 use Rattle.rules.specs.Theorems.{InRange, IsMinimum}
 use Rattle.rules.specs.WellFormed.{KeysFit, WellFormed}
-use Rattle.rules.specs.Words.{encode, forestsOf, look, queuesOf, wordsWith}
+use Rattle.rules.specs.Words.{encodeIn, forestsOf, look, queuesOf, wordsWith}
 use Rattle.rules.proofs.Excused.{Formed, FormedBut, exact, to-formed}
 use Rattle.rules.proofs.KeepsWellFormed.{fits-set, keepsWellFormed}
 use Rattle.rules.proofs.KeyKeeps.{key-formed}
@@ -178,7 +178,7 @@ module _ {w : List ℕ} {n i k : ℕ} {tally : Tally} (P : MayMove w n (Decrease
 
         pub decrease-moves : {u : Tally} → u .links ≡ tally .links → u .cuts ≡ tally .cuts + r
             → Moves (queuesOf w) (DecreaseKey i k) tally u w₃
-        unfolding perform decreaseKey amountsAfterCall encode
+        unfolding perform decreaseKey amountsAfterCall encodeIn wordsWith
         decrease-moves el ec =
             record { words = words; links = omega (arith, el); cuts = omega (arith, ec, cutted .cuts) }
 

@@ -20,7 +20,7 @@ use Rattle.rules.specs.Order.{minimum}
 use Rattle.rules.specs.Queues.{amountOf, amountsAfterCall, amountsLeft}
 use Rattle.rules.specs.Theorems.{InRange}
 use Rattle.rules.specs.WellFormed.{WellFormed}
-use Rattle.rules.specs.Words.{encode, forestsOf, queuesOf, wordsWith}
+use Rattle.rules.specs.Words.{encodeIn, forestsOf, queuesOf, wordsWith}
 use Rattle.rules.proofs.CallsKeep.{cut-child-formed, has-none}
 use Rattle.rules.proofs.CountAfter.{not-minimum-two}
 use Rattle.rules.proofs.Cutting.{cutIf-heap, cutIf-key, cutOut-root}
@@ -147,7 +147,7 @@ module _ {w : List ℕ} {n h i : ℕ} {tally : Tally} (P : DeleteOther w n h i t
 
       pub other-moves : {u : Tally} → u .links ≡ tally .links → u .cuts ≡ tally .cuts + r
           → Moves (queuesOf w) (Delete i) tally u w₂
-      unfolding perform delete deleteAs encode amountsAfterCall amountsLeft
+      unfolding perform delete deleteAs encodeIn wordsWith amountsAfterCall amountsLeft
       other-moves el ec =
           record {
             words = rw amounts-stay (rowed-words (amountOf (queuesOf w)) last (last-formed .disjoint) last-rowed

@@ -6,14 +6,14 @@ use native.Mathlib.Omega.{arith}
 use Rattle.rules.specs.declared.Call.the-variants.{ExtractMin}
 use Rattle.rules.specs.declared.Tally.{Tally}
 use Rattle.rules.specs.Calls.{extract, perform}
-use Rattle.rules.specs.Words.{decode, queuesOf}
+use Rattle.rules.specs.Words.{decode, look, queuesOf}
 use Rattle.consolidate.specs.Extract.{ExtractReady, Performs}
 use Rattle.heap.specs.Allowed.{MayMove, Moves}
 use Rattle.heap.proofs.SoundStore.{sound-says}
 
 module _ {w : List ℕ} {n h : ℕ} {tally : Tally} (P : MayMove w n (ExtractMin h) tally) where
-  same-queues : decode n w ≡ queuesOf w
-  same-queues = ap (λ k. decode k w) (P .allowed .store .items)
+  same-queues : decode n (look n w) ≡ queuesOf w
+  same-queues = ap (λ k. decode k (look k w)) (P .allowed .store .items)
 
   pub extract-ready : ExtractReady n w h (tally .links)
   extract-ready =
@@ -25,7 +25,7 @@ module _ {w : List ℕ} {n h : ℕ} {tally : Tally} (P : MayMove w n (ExtractMin
       }
 
   pub extract-moves : {w′ : List ℕ} {item key : ℕ} {u : Tally}
-      → Performs w′ (tally .links) item key (u .links) (decode n w) h → u .cuts ≡ tally .cuts
+      → Performs w′ (tally .links) item key (u .links) (decode n (look n w)) h → u .cuts ≡ tally .cuts
       → Moves (queuesOf w) (ExtractMin h) tally u w′
   unfolding perform extract
   extract-moves p e =

@@ -16,7 +16,7 @@ use Rattle.rules.specs.Order.{minimum}
 use Rattle.rules.specs.Queues.{afterCall, amountOf, amountsAfterCall}
 use Rattle.rules.specs.Theorems.{InRange}
 use Rattle.rules.specs.WellFormed.{Disjoint, WellFormed}
-use Rattle.rules.specs.Words.{encode, forestsOf, queuesOf}
+use Rattle.rules.specs.Words.{encode, encodeIn, forestsOf, queuesOf, wordsWith}
 use Rattle.rules.proofs.KeepsWellFormed.{keepsWellFormed}
 use Rattle.rules.proofs.RankSixteen.{count-table}
 use Rattle.rules.proofs.Refusals.{insert-ok}
@@ -96,7 +96,7 @@ module _ {w : List ℕ} {n h i k : ℕ} (A : Allowed w n (Insert h i k)) where
 
       pub insert-words : {w₃ : List ℕ} → k < 4294967296 → Changes n w₂ (itemCounted h i) w₃
           → w₃ ≡ encode (afterCall (queuesOf w) (Insert h i k))
-      unfolding insert perform amountsAfterCall encode
+      unfolding insert perform amountsAfterCall encodeIn wordsWith
       insert-words {w₃} l c₃ =
           says-words (amountOf (queuesOf w)) (insert h i k t) (length-set (t .heap) i (suc h) ∙ e)
           (says-as n w₃ _ _ (c₃ .says _ inserted)

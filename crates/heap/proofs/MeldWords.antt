@@ -13,7 +13,7 @@ use Rattle.rules.specs.Calls.{meld, moveHeap, perform}
 use Rattle.rules.specs.Forests.{Forests, tableSize}
 use Rattle.rules.specs.Queues.{Queues, afterCall, amountOf, amountsAfterCall}
 use Rattle.rules.specs.WellFormed.{Disjoint}
-use Rattle.rules.specs.Words.{encode, forestsOf, look, queuesOf, word}
+use Rattle.rules.specs.Words.{encode, encodeIn, forestsOf, look, queuesOf, word, wordsWith}
 use Rattle.rules.proofs.RankSixteen.{count-table}
 use Rattle.rules.proofs.Refusals.{meld-ok}
 use Rattle.store.specs.Says.{Changes, Says}
@@ -108,7 +108,7 @@ module _ {w : List ℕ} {n a b : ℕ} (A : Allowed w n (Meld a b)) where
         }
 
     pub meld-words : {w₂ : List ℕ} → Changes n w₁ (heapsJoined a b) w₂ → w₂ ≡ encode next
-    unfolding encode perform meld
+    unfolding encodeIn wordsWith perform meld
     meld-words {w₂} c₂ =
         says-words (amountOf next) (meld a b t) (length-map (t .heap) (moveHeap a b) ∙ e)
         (says-as n w₂ _ _ (c₂ .says _ S₁)

@@ -16,7 +16,7 @@ use Rattle.rules.specs.Kinds.{Apart}
 use Rattle.rules.specs.Queues.{Queues, afterCall, amountOf, amountsAfterCall, keyWord}
 use Rattle.rules.specs.SetWord.{setWord}
 use Rattle.rules.specs.WellFormed.{Disjoint}
-use Rattle.rules.specs.Words.{encode, fieldSize, forestsOf, look, queuesOf, unlessFree, word}
+use Rattle.rules.specs.Words.{encode, encodeIn, fieldSize, forestsOf, look, queuesOf, unlessFree, word, wordsWith}
 use Rattle.rules.proofs.AmountWords.{word-but-amounts}
 use Rattle.rules.proofs.ByKind.{apart-some, by-kinds, by-others}
 use Rattle.rules.proofs.KeyWords.{keyWords}
@@ -107,7 +107,7 @@ module _ {w : List ℕ} {n h d : ℕ} (A : Allowed w n (Raise h d)) where
   -- r is the count that was read, y the amount, and x is stored for it
   pub raise-words : {r x y : ℕ} {w′ : List ℕ} → r ≡ look n w Count h → r ≢ 0 → y ≡ look n w Amount h
       → x ≡ (y + d) % 4294967296 → Changes n w (setWord Amount h x) w′ → w′ ≡ encode next
-  unfolding encode perform
+  unfolding encodeIn wordsWith perform
   raise-words {r} {x} {y} {w′} er m ey ex c =
       amount-stored amounts (amountOf next) t (raise h d t) size h x
       (λ g _. later g ∙ rw stored)
@@ -123,7 +123,7 @@ module _ {w : List ℕ} {n h d : ℕ} (A : Allowed w n (Raise h d)) where
       stored = ap (λ y. (y + d) % 4294967296) (sym (ey ∙ amount-at (A .store) raise-heap)) ∙ sym ex
 
   pub raise-none : {r : ℕ} → r ≡ look n w Count h → r ≡ 0 → w ≡ encode next
-  unfolding encode perform word count
+  unfolding encodeIn wordsWith perform word count
   raise-none {r} er z =
       says-words (amountOf next) (raise h d t) size
       (says-as n w _ _ S

@@ -3,12 +3,13 @@ use Prim.Native.Nat.{ℕ, suc, _≤_, _<_}
 use mathlib.Core.Path.{_≡_, sym, ap, _∙_, subst}
 use mathlib.Core.List.{List}
 use native.Mathlib.Omega.{arith}
+use Rattle.rules.specs.declared.Layout.the-variants.{ByItem}
 use Rattle.rules.specs.declared.Field.the-variants.{Amount, Count, FirstTree, Minimum, State}
 use Rattle.rules.specs.Forests.{Forests, count, heapOf, keyOf, markOf, none, rowOf, tableSize}
 use Rattle.rules.specs.Order.{minimum}
 use Rattle.rules.specs.Queues.{amountOf}
 use Rattle.rules.specs.WellFormed.{KeysFit, WellFormed, WellFormedQueues}
-use Rattle.rules.specs.Words.{encode, forestsOf, headOr, itemsIn, look, queuesOf, stateOf, word, wordsOf, wordsWith}
+use Rattle.rules.specs.Words.{encodeIn, forestsOf, headOr, itemsIn, look, queuesOf, stateOf, word, wordsOf, wordsWith}
 use Rattle.rules.proofs.Members.{heap-in}
 use Rattle.rules.proofs.SoundWords.{items-encode, sound-queues, sound-words}
 use Rattle.rules.proofs.Words.{words-equal}
@@ -24,7 +25,7 @@ pub says-words : {n : ℕ} {w : List ℕ} (amounts : ℕ → ℕ) (t : Forests) 
     → w ≡ wordsWith amounts t
 unfolding wordsWith
 says-words {n} {w} amounts t e s =
-    words-equal n (word amounts t) w (s .sized .size) (s .says) ∙ ap (λ k. wordsOf k (word amounts t)) (sym e)
+    words-equal ByItem n (word amounts t) w (s .sized .size) (s .says) ∙ ap (λ k. wordsOf k (word amounts t)) (sym e)
 
 module _ {w : List ℕ} {n : ℕ} (S : Store w n) where
   pub queues : WellFormedQueues (queuesOf w)
@@ -37,14 +38,14 @@ module _ {w : List ℕ} {n : ℕ} (S : Store w n) where
   items-size = sym (items-encode (queuesOf w)) ∙ sym (ap itemsIn (sound-words w (S .sound))) ∙ sym (S .items)
 
   pub sound-says : Says n w (word (amountOf (queuesOf w)) (forestsOf w))
-  unfolding encode
+  unfolding encodeIn wordsWith
   sound-says =
       words-say (amountOf (queuesOf w)) (forestsOf w) n w items-size
       (subst (λ m. m ≤ 4096) items-size (formed .disjoint .small)) (sound-words w (S .sound))
 
   -- the same in the form that the moves on lists use
   pub sound-holds : Holds n w (amountOf (queuesOf w)) (count (forestsOf w)) (minimum (forestsOf w)) (forestsOf w) none
-  unfolding encode
+  unfolding encodeIn wordsWith
   sound-holds =
       subst
       (λ m. Holds m w (amountOf (queuesOf w)) (count (forestsOf w)) (minimum (forestsOf w)) (forestsOf w) none)

@@ -7,6 +7,7 @@ use mathlib.Core.Bool.{Bool, true, false, true≢false, cond}
 use native.Mathlib.Omega.{arith}
 use lib.Dec.{eqb}
 use borrow.Author.Tests.{eqb-false}
+use Rattle.rules.specs.declared.Layout.the-variants.{ByItem}
 use Rattle.rules.specs.declared.Field.{Field}
 use Rattle.rules.specs.declared.Field.the-variants.{
   FirstTree,
@@ -29,7 +30,7 @@ use Rattle.rules.specs.Queues.{keyWord}
 use Rattle.rules.specs.WellFormed.{Disjoint}
 use Rattle.rules.specs.Words.{fieldSize, unlessFree, word, wordsWith}
 use Rattle.rules.proofs.ByKind.{by-kinds}
-use Rattle.rules.proofs.Words.{length-wordsOf, look-wordsOf, words-equal}
+use Rattle.rules.proofs.Words.{length-wordsIn, look-wordsIn, words-equal}
 
 module _ (a b : ℕ → ℕ) (s : Forests) where
   pub word-but-amounts : (f : Field) → Apart (Amount ∷ Key ∷ []) f → (i : ℕ) → word a s f i ≡ word b s f i
@@ -63,8 +64,9 @@ module _ (a b : ℕ → ℕ) (s : Forests) where
   pub words-by-amounts : Disjoint s → ((h : ℕ) → h < 8 → a h ≡ b h) → wordsWith a s ≡ wordsWith b s
   unfolding wordsWith word
   words-by-amounts D e =
-      words-equal (tableSize s) (word b s) (wordsWith a s) (length-wordsOf (tableSize s) (word a s)) (λ f i k.
-      look-wordsOf (tableSize s) (word a s) f i k ∙ same f i k)
+      words-equal ByItem (tableSize s) (word b s) (wordsWith a s)
+      (length-wordsIn ByItem (tableSize s) (word a s)) (λ f i k.
+      look-wordsIn ByItem (tableSize s) (word a s) f i k ∙ same f i k)
     where
       same : (f : Field) (i : ℕ) → i < fieldSize (tableSize s) f → word a s f i ≡ word b s f i
       same =

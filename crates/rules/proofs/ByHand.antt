@@ -98,14 +98,13 @@ use Rattle.rules.specs.Lists.{setAll, sumBy, tabulateFrom, without}
 use Rattle.rules.specs.Order.{comesBefore, leastIn, leastOf, minimum}
 use Rattle.rules.specs.Queues.{amountsAfter, amountsAfterCall, amountsAfterLine, amountsLeft, keyWord}
 use Rattle.rules.specs.Words.{
-  encode,
+  encodeIn,
   storeField,
   storeFields,
   storeSize,
   unlessFree,
   word,
-  wordsOf,
-  wordsWith,
+  wordsIn,
 }
 
 pub workedRuns : WorkedRuns
@@ -118,5 +117,5 @@ unfolding workedTable runB runC runD runE runF1 runF2 runF runG runH runTie runR
     deleteAs decreaseKey hasParent extract removeRoot setFree release insert consolidate consolidateWithin occupied
     linkTrees climb isFree link cutIf cutOut cutWithin cascadingCut nodeKind cut minimum leastIn leastOf comesBefore
     potential marks trees count setAll without sumBy tabulateFrom amountsAfter amountsAfterLine amountsAfterCall
-    amountsLeft keyWord encode wordsWith wordsOf storeFields storeField storeSize word unlessFree
+    amountsLeft keyWord encodeIn wordsIn storeFields storeField storeSize word unlessFree
 workedRuns = refl

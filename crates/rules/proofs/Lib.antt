@@ -37,6 +37,8 @@ pub mod Lists
 pub mod Counts
 pub mod CountAfter
 pub mod KeepsSound
+pub mod Turn
+pub mod TurnByHand
 pub mod ItemsBalance
 pub mod KeepsWellFormed
 pub mod KeepsQueues

@@ -8,13 +8,14 @@ use lib.Seq.{set-getD}
 use lib.Dec.{eqb}
 use Rattle.rules.specs.declared.Call.{Call}
 use Rattle.rules.specs.declared.Call.the-variants.{DecreaseKey, Delete, ExtractMin, FindMin, Insert, Meld, Raise}
+use Rattle.rules.specs.declared.Layout.the-variants.{ByKind}
 use Rattle.rules.specs.declared.Line.{Line}
 use Rattle.rules.specs.declared.Line.the-variants.{NoCall, Yields}
 use Rattle.rules.specs.Answers.{after, answer, refusal}
 use Rattle.rules.specs.Forests.{Forests, count, heapNumber}
 use Rattle.rules.specs.Queues.{amountsAfter, amountsAfterCall, amountsAfterLine, amountsLeft}
 use Rattle.rules.specs.Unraised.{KeepsUnraised, UnraisedRun, WithoutRaise, isRaise}
-use Rattle.rules.specs.Words.{encode}
+use Rattle.rules.specs.Words.{encodeIn}
 use Rattle.rules.proofs.Answers.{after-well-formed}
 use Rattle.rules.proofs.UnraisedWords.{unraisedWords, zero-at}
 
@@ -61,4 +62,4 @@ keepsUnraised s ls r = ap (λ l. record { forests = after s ls; amounts = l }) (
 
 pub unraisedRun : UnraisedRun
 unraisedRun s W ls f r =
-    ap encode (keepsUnraised s ls r) ∙ unraisedWords .words (after s ls) (after-well-formed s W ls f)
+    ap (encodeIn ByKind) (keepsUnraised s ls r) ∙ unraisedWords .words (after s ls) (after-well-formed s W ls f)

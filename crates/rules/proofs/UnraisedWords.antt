@@ -9,6 +9,7 @@ use lib.ListN.{length, getD, replicate, length-append, List·getD-append}
 use lib.Seq.{getD-append-add}
 use lib.Dec.{eqb}
 use borrow.Author.Tests.{ne-eqb}
+use Rattle.rules.specs.declared.Layout.the-variants.{ByKind}
 use Rattle.rules.specs.declared.Field.{Field}
 use Rattle.rules.specs.declared.Field.the-variants.{
   FirstTree,
@@ -30,7 +31,7 @@ use Rattle.rules.specs.Lists.{tabulate}
 use Rattle.rules.specs.Queues.{amountOf, keyWord, unraised}
 use Rattle.rules.specs.Unraised.{UnraisedWords, baseWords, column, columns, fourWords, itemWords, withZeros}
 use Rattle.rules.specs.WellFormed.{KeysFit, WellFormed, WellFormedQueues}
-use Rattle.rules.specs.Words.{encode, fieldSize, look, storeSize, unlessFree, word, wordsWith}
+use Rattle.rules.specs.Words.{encodeIn, fieldSize, lookIn, storeSize, unlessFree, word}
 use Rattle.rules.proofs.Flatten.{EachLong, each-map, each-tabulate, getD-flatten, length-flatten}
 use Rattle.rules.proofs.KeyWords.{keyWords}
 use Rattle.rules.proofs.Tabulate.{getD-tabulate, length-tabulate}
@@ -121,7 +122,7 @@ module _ (s : Forests) where
           (sym (keyWords .zeroWord (keyOf s i) (W .keys i)))
 
   words-are : WellFormed s → (f : Field) (i : ℕ) → i < fieldSize n f
-      → look n (withZeros s) f i ≡ word (amountOf (unraised s)) s f i
+      → lookIn ByKind n (withZeros s) f i ≡ word (amountOf (unraised s)) s f i
   unfolding word
   words-are W FirstTree i k = of-heap 0 _ i _ k (omega arith) (omega arith) refl
   words-are W LastTree i k = of-heap 1 _ i _ k (omega arith) (omega arith) refl
@@ -137,9 +138,9 @@ module _ (s : Forests) where
   words-are W Rank i k = of-item 6 _ i _ k (omega arith) (omega arith) refl
   words-are W State i k = of-item 7 _ i _ k (omega arith) (omega arith) refl
 
-  words-zero : WellFormed s → encode (unraised s) ≡ withZeros s
-  unfolding encode wordsWith storeSize
-  words-zero W = sym (words-equal n (word (amountOf (unraised s)) s) (withZeros s) zeros-length (words-are W))
+  words-zero : WellFormed s → encodeIn ByKind (unraised s) ≡ withZeros s
+  unfolding encodeIn storeSize
+  words-zero W = sym (words-equal ByKind n (word (amountOf (unraised s)) s) (withZeros s) zeros-length (words-are W))
 
 pub unraisedWords : UnraisedWords
 unraisedWords = record { words = words-zero; base = base-length; longer = zeros-length }

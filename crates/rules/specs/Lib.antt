@@ -17,4 +17,6 @@ pub mod SetWord
 pub mod Kinds
 pub mod Theorems
 pub mod Unraised
+pub mod Turn
+pub mod TurnByHand
 pub mod BaseAnswers

@@ -8,6 +8,7 @@ use mathlib.Core.Bool.{true}
 use lib.ListN.{length}
 use Rattle.rules.specs.declared.Call.{Call}
 use Rattle.rules.specs.declared.Call.the-variants.{Insert, FindMin, ExtractMin, DecreaseKey, Delete, Meld, Raise}
+use Rattle.rules.specs.declared.Layout.{Layout}
 use Rattle.rules.specs.declared.Line.{Line}
 use Rattle.rules.specs.declared.Line.the-variants.{Yields, NoCall}
 use Rattle.rules.specs.Lists.{sumTo}
@@ -31,7 +32,7 @@ use Rattle.rules.specs.Fibonacci.{F, R}
 use Rattle.rules.specs.Queues.{Queues, keyFrom, keyWord, afterLine}
 use Rattle.rules.specs.WellFormed.{WellFormed, WellFormedQueues, isRootOf}
 use Rattle.rules.specs.Ledger.{ifDone}
-use Rattle.rules.specs.Words.{encode, decode, queuesOf, forestsOf, storeSize, Sound}
+use Rattle.rules.specs.Words.{lookIn, encodeIn, encode, decode, queuesOf, forestsOf, storeSize, Sound}
 
 -- The empty forests of a fresh run are well-formed.
 abbrev pub EmptyWellFormed : Type 0
@@ -161,15 +162,19 @@ pub record KeyWords : Type 0 where
   pub wraps : (a w : ℕ) → a < 4294967296 → w < 4294967296 → 4294967296 ≤ w + a → keyFrom a w + 4294967296 ≡ w + a
   pub raised : (a d k : ℕ) → keyWord ((a + d) % 4294967296) (k + d) ≡ keyWord a k
 
--- The words determine the queues.
+-- The words determine the queues, in either order.
 abbrev pub EncodeLength : Type 0
-EncodeLength = (q : Queues) → length (encode q) ≡ storeSize (tableSize (q .forests))
+EncodeLength = (o : Layout) (q : Queues) → length (encodeIn o q) ≡ storeSize (tableSize (q .forests))
 
 abbrev pub DecodeEncode : Type 0
-DecodeEncode = (q : Queues) → WellFormedQueues q → decode (tableSize (q .forests)) (encode q) ≡ q
+DecodeEncode =
+    (o : Layout) (q : Queues) → WellFormedQueues q →
+    let n : ℕ = tableSize (q .forests) in
+    decode n (lookIn o n (encodeIn o q)) ≡ q
 
 abbrev pub EncodeInjective : Type 0
-EncodeInjective = (q r : Queues) → WellFormedQueues q → WellFormedQueues r → encode q ≡ encode r → q ≡ r
+EncodeInjective =
+    (o : Layout) (q r : Queues) → WellFormedQueues q → WellFormedQueues r → encodeIn o q ≡ encodeIn o r → q ≡ r
 
 -- So of words: every line, done or refused, leaves a sound store sound, and a refused one leaves every word of it.
 abbrev pub KeepsSound : Type 0

@@ -1,11 +1,13 @@
--- Where no heap is raised nothing else has changed. The words are those of the base, before change request 6, with a 0
--- after each heap's four; and lines without A keep all amounts 0. That they are answered as before is `SameAsBase`.
+-- Where no heap is raised nothing else has changed. By kind, which is their order in the base, the words are those of
+-- the base with a 0 after each heap's four; and lines without A keep all amounts 0. That they are answered as before is
+-- `SameAsBase`.
 use Prim.Native.Nat.{ℕ, _+_, _*_}
 use mathlib.Core.Path.{_≡_}
 use mathlib.Core.List.{List, [], _∷_, _++_, map, flatten}
 use mathlib.Core.Bool.{Bool, true, false}
 use lib.ListN.{length}
 use Rattle.rules.specs.declared.Call.the-variants.{Insert, FindMin, ExtractMin, DecreaseKey, Delete, Meld, Raise}
+use Rattle.rules.specs.declared.Layout.the-variants.{ByKind}
 use Rattle.rules.specs.declared.Line.{Line}
 use Rattle.rules.specs.declared.Line.the-variants.{Yields, NoCall}
 use Rattle.rules.specs.Lists.{tabulate}
@@ -27,7 +29,7 @@ use Rattle.rules.specs.Answers.{after}
 use Rattle.rules.specs.Queues.{unraised, afterLines}
 use Rattle.rules.specs.WellFormed.{WellFormed}
 use Rattle.rules.specs.Theorems.{AllInRange}
-use Rattle.rules.specs.Words.{encode, headOr, lastOr, nextIn, prevIn, siblings, stateOf, unlessFree}
+use Rattle.rules.specs.Words.{encodeIn, headOr, lastOr, nextIn, prevIn, siblings, stateOf, unlessFree}
 
 -- ---- the words of the base, one after the other
 
@@ -63,7 +65,7 @@ unfoldable pub withZeros : Forests → List ℕ
 withZeros s = flatten (tabulate 8 (λ h. fourWords s h ++ 0 ∷ [])) ++ flatten (columns s)
 
 pub record UnraisedWords : Type 0 where
-  pub words : (s : Forests) → WellFormed s → encode (unraised s) ≡ withZeros s
+  pub words : (s : Forests) → WellFormed s → encodeIn ByKind (unraised s) ≡ withZeros s
   pub base : (s : Forests) → length (baseWords s) ≡ 32 + 8 * tableSize s
   pub longer : (s : Forests) → length (withZeros s) ≡ 40 + 8 * tableSize s
 
@@ -92,4 +94,4 @@ KeepsUnraised =
 abbrev pub UnraisedRun : Type 0
 UnraisedRun =
     (s : Forests) → WellFormed s → (ls : List Line) → AllInRange ls → WithoutRaise ls
-    → encode (afterLines (unraised s) ls) ≡ withZeros (after s ls)
+    → encodeIn ByKind (afterLines (unraised s) ls) ≡ withZeros (after s ls)

@@ -6,6 +6,8 @@ use mathlib.Core.List.{List, [], _∷_}
 use mathlib.Core.Bool.{Bool, cond, _&&_}
 use lib.ListN.{length, getD, set, replicate}
 use lib.Dec.{eqb, leb}
+use Rattle.rules.specs.declared.Layout.{Layout}
+use Rattle.rules.specs.declared.Layout.the-variants.{ByItem, ByKind}
 use Rattle.rules.specs.declared.Field.{Field}
 use Rattle.rules.specs.declared.Field.the-variants.{
   FirstTree,
@@ -71,25 +73,38 @@ fieldSize n Prev = n
 fieldSize n Rank = n
 fieldSize n State = n
 
--- the place of word i of a kind
-abbrev pub at : ℕ → Field → ℕ → ℕ
-at n FirstTree i = 5 * i
-at n LastTree i = 5 * i + 1
-at n Minimum i = 5 * i + 2
-at n Count i = 5 * i + 3
-at n Amount i = 5 * i + 4
-at n Key i = 40 + i
-at n Parent i = 40 + n + i
-at n FirstChild i = 40 + 2 * n + i
-at n LastChild i = 40 + 3 * n + i
-at n Next i = 40 + 4 * n + i
-at n Prev i = 40 + 5 * n + i
-at n Rank i = 40 + 6 * n + i
-at n State i = 40 + 7 * n + i
+-- Word c of item i, after the words of the heaps: beside the other words of the item (an array of structures), or
+-- beside the words c of the other items (a structure of arrays), which was the order before change request 8.
+abbrev pub itemPlace : Layout → ℕ → ℕ → ℕ → ℕ
+itemPlace ByItem n c i = 8 * i + c
+itemPlace ByKind n c i = c * n + i
+
+-- the place of word i of a kind: a table for each of the two orders
+abbrev pub placeIn : Layout → ℕ → Field → ℕ → ℕ
+placeIn o n FirstTree i = 5 * i
+placeIn o n LastTree i = 5 * i + 1
+placeIn o n Minimum i = 5 * i + 2
+placeIn o n Count i = 5 * i + 3
+placeIn o n Amount i = 5 * i + 4
+placeIn o n Key i = 40 + itemPlace o n 0 i
+placeIn o n Parent i = 40 + itemPlace o n 1 i
+placeIn o n FirstChild i = 40 + itemPlace o n 2 i
+placeIn o n LastChild i = 40 + itemPlace o n 3 i
+placeIn o n Next i = 40 + itemPlace o n 4 i
+placeIn o n Prev i = 40 + itemPlace o n 5 i
+placeIn o n Rank i = 40 + itemPlace o n 6 i
+placeIn o n State i = 40 + itemPlace o n 7 i
 
 -- word i of a kind in a store for n items
+abbrev pub lookIn : Layout → ℕ → List ℕ → Field → ℕ → ℕ
+lookIn o n w f i = getD w (placeIn o n f i) 0
+
+-- the order of every store that is run, checked or lent to a feed call: an item's words side by side
+abbrev pub at : ℕ → Field → ℕ → ℕ
+at = placeIn ByItem
+
 abbrev pub look : ℕ → List ℕ → Field → ℕ → ℕ
-look n w f i = getD w (at n f i) 0
+look = lookIn ByItem
 
 -- ---- the words of queues
 
@@ -160,60 +175,71 @@ storeField place v zero w = w
 storeField place v (suc k) w = set (storeField place v k w) (place k) (v k)
 
 -- w with every word of these kinds stored, at its place, as v says it
-unfoldable pub storeFields : ℕ → (Field → ℕ → ℕ) → List Field → List ℕ → List ℕ
-storeFields n v [] w = w
-storeFields n v (f ∷ fs) w = storeFields n v fs (storeField (at n f) (v f) (fieldSize n f) w)
+unfoldable pub storeFields : Layout → ℕ → (Field → ℕ → ℕ) → List Field → List ℕ → List ℕ
+storeFields o n v [] w = w
+storeFields o n v (f ∷ fs) w = storeFields o n v fs (storeField (placeIn o n f) (v f) (fieldSize n f) w)
 
 -- the words that say v: those of all kinds, stored where each lies
-unfoldable pub wordsOf : ℕ → (Field → ℕ → ℕ) → List ℕ
-wordsOf n v = storeFields n v fields (replicate (storeSize n) 0)
+unfoldable pub wordsIn : Layout → ℕ → (Field → ℕ → ℕ) → List ℕ
+wordsIn o n v = storeFields o n v fields (replicate (storeSize n) 0)
 
--- the words of forests with these amounts, and those of queues
+abbrev pub wordsOf : ℕ → (Field → ℕ → ℕ) → List ℕ
+wordsOf = wordsIn ByItem
+
+-- the words of queues
+unfoldable pub encodeIn : Layout → Queues → List ℕ
+encodeIn o q = wordsIn o (tableSize (q .forests)) (word (amountOf q) (q .forests))
+
+abbrev pub encode : Queues → List ℕ
+encode = encodeIn ByItem
+
+-- the words of forests with these amounts
 unfoldable pub wordsWith : (ℕ → ℕ) → Forests → List ℕ
 wordsWith amounts s = wordsOf (tableSize s) (word amounts s)
 
-unfoldable pub encode : Queues → List ℕ
-encode q = wordsWith (amountOf q) (q .forests)
-
--- ---- the queues of words
+-- ---- the queues of words, where v f i is what word i of kind f says
 
 -- the list that starts with y and goes on by the next words, at most d of it
 unfoldable pub follow : ℕ → (ℕ → ℕ) → ℕ → List ℕ
 follow zero next y = []
 follow (suc d) next y = cond (eqb y none) [] (y ∷ follow d next (next y))
 
-unfoldable pub listFrom : ℕ → List ℕ → ℕ → List ℕ
-listFrom n w y = follow n (look n w Next) y
+unfoldable pub listFrom : ℕ → (Field → ℕ → ℕ) → ℕ → List ℕ
+listFrom n v y = follow n (v Next) y
 
 -- the key of item i, by the amount of its heap; 0 for a free item
-unfoldable pub readKey : ℕ → List ℕ → ℕ → ℕ
-readKey n w i =
-    let state = look n w State i in
-    cond (eqb state 0) 0 (keyFrom (look n w Amount (stateHeap state - 1)) (look n w Key i))
+unfoldable pub readKey : (Field → ℕ → ℕ) → ℕ → ℕ
+readKey v i = let state = v State i in cond (eqb state 0) 0 (keyFrom (v Amount (stateHeap state - 1)) (v Key i))
 
-unfoldable pub decodeForests : ℕ → List ℕ → Forests
-decodeForests n w =
+unfoldable pub decodeForests : ℕ → (Field → ℕ → ℕ) → Forests
+decodeForests n v =
     record {
-      rows = tabulate 8 (λ h. listFrom n w (look n w FirstTree h));
-      children = tabulate n (λ i. cond (eqb (look n w State i) 0) [] (listFrom n w (look n w FirstChild i)));
-      parent = tabulate n (look n w Parent);
-      key = tabulate n (readKey n w);
-      mark = tabulate n (λ i. stateMark (look n w State i));
-      heap = tabulate n (λ i. stateHeap (look n w State i));
+      rows = tabulate 8 (λ h. listFrom n v (v FirstTree h));
+      children = tabulate n (λ i. cond (eqb (v State i) 0) [] (listFrom n v (v FirstChild i)));
+      parent = tabulate n (v Parent);
+      key = tabulate n (readKey v);
+      mark = tabulate n (λ i. stateMark (v State i));
+      heap = tabulate n (λ i. stateHeap (v State i));
     }
 
-abbrev pub decode : ℕ → List ℕ → Queues
-decode n w = record { forests = decodeForests n w; amounts = tabulate 8 (look n w Amount) }
+abbrev pub decode : ℕ → (Field → ℕ → ℕ) → Queues
+decode n v = record { forests = decodeForests n v; amounts = tabulate 8 (v Amount) }
 
 -- the queues, and the forests, that the words of a store stand for
+abbrev pub queuesIn : Layout → List ℕ → Queues
+queuesIn o w = decode (itemsIn w) (lookIn o (itemsIn w) w)
+
 abbrev pub queuesOf : List ℕ → Queues
-queuesOf w = decode (itemsIn w) w
+queuesOf = queuesIn ByItem
 
 abbrev pub forestsOf : List ℕ → Forests
 forestsOf w = (queuesOf w) .forests
 
 -- Sound: the words are exactly those of well-formed queues.
-pub record Sound (w : List ℕ) : Type 0 where
+pub record SoundIn (o : Layout) (w : List ℕ) : Type 0 where
   pub queues : Queues
   pub wellFormed : WellFormedQueues queues
-  pub words : w ≡ encode queues
+  pub words : w ≡ encodeIn o queues
+
+abbrev pub Sound : List ℕ → Type 0
+Sound = SoundIn ByItem

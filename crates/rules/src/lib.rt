@@ -45,6 +45,13 @@ pub enum Field {
     State,
 }
 
+// The order of the items' words in a store: each item's eight side by side, or those of each kind, which is the order
+// of old stores.
+pub enum Layout {
+    ByItem,
+    ByKind,
+}
+
 // The links and cuts that calls made, passed from call to call.
 pub struct Tally {
     pub links: u32,

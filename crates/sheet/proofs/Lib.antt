@@ -4,6 +4,7 @@ pub mod RanLines
 pub mod Limits
 pub mod Queues
 pub mod Runs
+pub mod KeptTurned
 pub mod Leaves
 pub mod FreshRuns
 pub mod Bounds

@@ -5,12 +5,14 @@ use mathlib.Core.List.{List, _++_}
 use mathlib.Core.Bool.{true}
 use lib.ListN.{length, take, drop}
 use Rattle.rules.specs.declared.Answer.{Answer}
+use Rattle.rules.specs.declared.Layout.the-variants.{ByKind}
 use Rattle.rules.specs.declared.Line.{Line}
 use Rattle.rules.specs.Forests.{Forests, empty, potential}
 use Rattle.rules.specs.Answers.{answers}
 use Rattle.rules.specs.Ledger.{allowed, movesIn}
 use Rattle.rules.specs.Queues.{emptyQueues}
-use Rattle.rules.specs.Words.{Sound, encode, itemsIn, forestsOf}
+use Rattle.rules.specs.Turn.{turn, repliesOn, wordsOn}
+use Rattle.rules.specs.Words.{Sound, SoundIn, encode, itemsIn, forestsOf}
 use Rattle.text.specs.Lines.{closed}
 use Rattle.lines.specs.Parse.{linesOf}
 use Rattle.lines.specs.Print.{printed}
@@ -64,6 +66,18 @@ FreshIsKept =
     (store sheet out : List ℕ) → limitCode store sheet out ≡ 0
     → Sound (encode (emptyQueues (itemsIn store)))
     × (freshRun store sheet out ≡ keptRun (encode (emptyQueues (itemsIn store))) sheet out)
+
+-- A kept run on the turn of a sound old store: it prints the replies of its lines on the old words, and leaves the turn
+-- of the words that they leave there.
+pub record RunTurned (old : List ℕ) (ls : List Line) (run : Run) : Type 0 where
+  pub done : run .code ≡ 0
+  pub shows : take (run .bytes) (run .out) ≡ printed (repliesOn ByKind old ls)
+  pub store : run .store ≡ turn (wordsOn ByKind old ls)
+
+abbrev pub KeptTurned : Type 0
+KeptTurned =
+    (old sheet out : List ℕ) → SoundIn ByKind old → limitCode (turn old) sheet out ≡ 0
+    → RunTurned old (linesOf sheet) (keptRun (turn old) sheet out)
 
 -- Demand 3, said of what was written. The lines ls were answered from the forests `start` on, and the runs that
 -- answered them wrote the bytes `written`.

@@ -20,9 +20,8 @@ use Rattle.rules.specs.Words.{
   word,
   storeField,
   storeFields,
-  wordsOf,
-  wordsWith,
-  encode,
+  wordsIn,
+  encodeIn,
   follow,
   listFrom,
   readKey,
@@ -53,13 +52,14 @@ use Rattle.soundness.specs.Check.{
   treesAt,
   ranksAt,
   allOk,
-  soundWords,
+  soundWordsIn,
 }
 use Rattle.soundness.specs.Examples.{
   byCheck,
   but,
   sample,
   full,
+  oldFull,
   raised,
   small,
   ownParent,
@@ -69,10 +69,10 @@ use Rattle.soundness.specs.Examples.{
 }
 
 pub examplesHold : ExamplesHold
-unfolding ExamplesHold examples byCheck but sample full raised small ownParent threeTrees soundWords isStore itemsIn
-    storeSize allOk ranksAt treesAt heapOk countRight amountRight itemOk memberOk freeZero childRanksOk childRankOk
-    minimumRight parentOk inHeapOrder parentInHeap rootUnmarked listOk linksOk namesOwner listFrom follow readKey
-    decodeForests keyFrom countAt itemKey markAt heapAt allTo encode wordsWith keyWord wordsOf storeFields storeField
-    word stateMark stateHeap stateOf unlessFree siblings prevIn nextIn lastOr headOr minimum leastIn leastOf
-    comesBefore sumTo sumBy tabulateFrom count
+unfolding ExamplesHold examples byCheck but sample full oldFull raised small ownParent threeTrees soundWordsIn
+    isStore itemsIn storeSize allOk ranksAt treesAt heapOk countRight amountRight itemOk memberOk freeZero
+    childRanksOk childRankOk minimumRight parentOk inHeapOrder parentInHeap rootUnmarked listOk linksOk namesOwner
+    listFrom follow readKey decodeForests keyFrom countAt itemKey markAt heapAt allTo encodeIn keyWord wordsIn
+    storeFields storeField word stateMark stateHeap stateOf unlessFree siblings prevIn nextIn lastOr headOr minimum
+    leastIn leastOf comesBefore sumTo sumBy tabulateFrom count
 examplesHold = refl

@@ -9,28 +9,28 @@ use Rattle.rules.specs.declared.Field.the-variants.{Rank}
 use Rattle.rules.specs.Lists.{sumBy, occurs}
 use Rattle.rules.specs.Forests.{Forests, markOf, rankOf}
 use Rattle.rules.specs.WellFormed.{ChildRanks}
-use Rattle.rules.specs.Words.{look}
 use Rattle.rules.proofs.Occurs.{and-split, delta-self}
+use Rattle.store.specs.Says.{Values}
 use Rattle.soundness.specs.Check.{markAt, childRankOk, childRanksOk}
 
-module _ (n : ℕ) (w : List ℕ) (s : Forests) where
+module _ (n : ℕ) (v : Values) (s : Forests) where
   pub record SameRank (c : ℕ) : Type 0 where
-    pub rank : look n w Rank c ≡ rankOf s c
-    pub mark : markAt n w c ≡ markOf s c
+    pub rank : v Rank c ≡ rankOf s c
+    pub mark : markAt n v c ≡ markOf s c
 
-  pub ranks-rule : (i : ℕ) (l : List ℕ) → ((c : ℕ) → 1 ≤ occurs c l → SameRank c) → childRanksOk n w i l ≡ true
+  pub ranks-rule : (i : ℕ) (l : List ℕ) → ((c : ℕ) → 1 ≤ occurs c l → SameRank c) → childRanksOk n v i l ≡ true
       → ChildRanks s i l
   unfolding childRanksOk childRankOk occurs sumBy
   ranks-rule i [] f e = tt
   ranks-rule i (c ∷ l) f e =
       let a = and-split _ _ e in
       let g = f c (omega (arith, delta-self c)) in (
-        rw (g .rank, g .mark) at (leb-true (i - (1 + markAt n w c)) (look n w Rank c) (a .0)),
+        rw (g .rank, g .mark) at (leb-true (i - (1 + markAt n v c)) (v Rank c) (a .0)),
         ranks-rule (suc i) l (λ d k. f d (omega arith)) (a .1),
       )
 
   pub rule-ranks : (i : ℕ) (l : List ℕ) → ((c : ℕ) → 1 ≤ occurs c l → SameRank c) → ChildRanks s i l
-      → childRanksOk n w i l ≡ true
+      → childRanksOk n v i l ≡ true
   unfolding childRanksOk childRankOk occurs sumBy
   rule-ranks i [] f t = refl
   rule-ranks i (c ∷ l) f t =

@@ -6,6 +6,8 @@ use mathlib.Core.List.{List, [], _∷_}
 use mathlib.Core.Bool.{Bool, true, cond, _&&_, _||_}
 use lib.ListN.{length}
 use lib.Dec.{eqb, ltb, leb}
+use Rattle.rules.specs.declared.Layout.{Layout}
+use Rattle.rules.specs.declared.Layout.the-variants.{ByItem}
 use Rattle.rules.specs.declared.Field.the-variants.{
   FirstTree,
   LastTree,
@@ -25,7 +27,7 @@ use Rattle.soundness.specs.declared.Siblings.{Siblings}
 use Rattle.rules.specs.Lists.{indicator, sumTo}
 use Rattle.rules.specs.Forests.{none}
 use Rattle.rules.specs.Order.{comesBefore, minimum}
-use Rattle.rules.specs.Words.{itemsIn, isStore, look, headOr, lastOr, stateHeap, stateMark, listFrom, decodeForests}
+use Rattle.rules.specs.Words.{itemsIn, isStore, lookIn, headOr, lastOr, stateHeap, stateMark, listFrom, decodeForests}
 use Rattle.store.specs.ItemOrder.{itemKey}
 use Rattle.store.specs.Says.{Values}
 
@@ -34,12 +36,9 @@ unfoldable pub allTo : ℕ → (ℕ → Bool) → Bool
 allTo zero f = true
 allTo (suc n) f = allTo n f && f n
 
-module _ (n : ℕ) (w : List ℕ) where
-  -- ---- what the words of a store for n items say
-
-  -- v f i: word i of kind f
-  abbrev v : Values
-  v = look n w
+-- v f i: what word i of kind f says, in a store for n items
+module _ (n : ℕ) (v : Values) where
+  -- ---- items and lists
 
   -- the heap of an item, 1 + its number (0 for a free item), and its mark
   unfoldable pub heapAt : ℕ → ℕ
@@ -61,7 +60,7 @@ module _ (n : ℕ) (w : List ℕ) where
 
   -- the items of such a list, followed from the first for n items at most, as `decode` does
   abbrev pub listAt : Siblings → List ℕ
-  listAt l = listFrom n w (l .first)
+  listAt l = listFrom n v (l .first)
 
   -- ---- lists: an item stands in no list but the one that its words name, and there once
 
@@ -127,7 +126,7 @@ module _ (n : ℕ) (w : List ℕ) where
 
   -- its minimum is the least root, as in the forests that are read from the words
   unfoldable pub minimumRight : ℕ → Bool
-  minimumRight h = eqb (v Minimum h) (minimum (decodeForests n w) h)
+  minimumRight h = eqb (v Minimum h) (minimum (decodeForests n v) h)
 
   -- its count is the number of its items
   unfoldable pub countRight : ℕ → Bool
@@ -153,6 +152,9 @@ module _ (n : ℕ) (w : List ℕ) where
   unfoldable pub allOk : Bool
   allOk = allTo n itemOk && allTo 8 heapOk && eqb (treesAt + ranksAt + countAt 0) n
 
--- The check, for any words.
-unfoldable pub soundWords : List ℕ → Bool
-soundWords w = isStore w && allOk (itemsIn w) w
+-- The check, for any words, in either order.
+unfoldable pub soundWordsIn : Layout → List ℕ → Bool
+soundWordsIn o w = isStore w && allOk (itemsIn w) (lookIn o (itemsIn w) w)
+
+abbrev pub soundWords : List ℕ → Bool
+soundWords = soundWordsIn ByItem

@@ -5,6 +5,7 @@ use mathlib.Core.Path.{_≡_}
 use mathlib.Core.List.{List, [], _∷_, _++_, map}
 use mathlib.Core.Bool.{cond}
 use lib.ListN.{set, replicate}
+use Rattle.rules.specs.declared.Layout.the-variants.{ByKind}
 use Rattle.rules.specs.declared.Field.{Field}
 use Rattle.rules.specs.declared.Field.the-variants.{
   FirstTree,
@@ -20,17 +21,22 @@ use Rattle.rules.specs.declared.Field.the-variants.{
 }
 use Rattle.rules.specs.Forests.{Forests, none}
 use Rattle.rules.specs.Queues.{unraised, emptyQueues}
-use Rattle.rules.specs.Words.{at, encode}
-use Rattle.soundness.specs.Check.{soundWords}
+use Rattle.rules.specs.Words.{placeIn, at, encode, encodeIn}
+use Rattle.soundness.specs.Check.{soundWords, soundWordsIn}
 
 pub data Example : Type 0 where
   passes : List ℕ → Example
   fails : List ℕ → Example
+  -- as words that stand by kind
+  oldPasses : List ℕ → Example
+  oldFails : List ℕ → Example
 
 -- an example as the check has it
 unfoldable pub byCheck : Example → Example
 byCheck (passes w) = cond (soundWords w) (passes w) (fails w)
 byCheck (fails w) = cond (soundWords w) (passes w) (fails w)
+byCheck (oldPasses w) = cond (soundWordsIn ByKind w) (oldPasses w) (oldFails w)
+byCheck (oldFails w) = cond (soundWordsIn ByKind w) (oldPasses w) (oldFails w)
 
 -- a store for six items with another value for word i of a kind
 unfoldable pub but : Field → ℕ → ℕ → List ℕ → List ℕ
@@ -52,6 +58,10 @@ sample under2 parent3 key3 heap3 =
 -- 3 under 2
 unfoldable pub full : List ℕ
 full = encode (unraised (sample (3 ∷ []) 2 40 1))
+
+-- and by kind
+unfoldable pub oldFull : List ℕ
+oldFull = encodeIn ByKind (unraised (sample (3 ∷ []) 2 40 1))
 
 -- the same keys in a heap of amount 35: their words are less by it, and those of keys below 35 wrap
 unfoldable pub raised : List ℕ
@@ -140,6 +150,13 @@ examples =
     -- trees 1 and 2 in a circle that the row does not reach
     ∷ passes (encode (unraised threeTrees))
     ∷ fails (but LastTree 0 0 (but Next 0 none (but Prev 1 2 (but Next 2 1 (encode (unraised threeTrees))))))
+    -- by kind: the sample, and a rank too small; words of either order by the check of the other; those of the empty
+    -- store are the same in both
+    ∷ oldPasses oldFull
+    ∷ oldFails (set oldFull (placeIn ByKind 6 Rank 2) 0)
+    ∷ oldFails full
+    ∷ fails oldFull
+    ∷ oldPasses (encode (emptyQueues 6))
     ∷ []
 
 unfoldable pub ExamplesHold : Type 0

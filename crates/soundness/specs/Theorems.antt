@@ -5,27 +5,35 @@ use mathlib.Core.Path.{_≡_}
 use mathlib.Core.Logic.{_↔_, _≢_}
 use mathlib.Core.List.{List}
 use mathlib.Core.Bool.{true, false}
+use Rattle.rules.specs.declared.Layout.{Layout}
+use Rattle.rules.specs.declared.Layout.the-variants.{ByKind}
 use Rattle.rules.specs.Queues.{Queues}
 use Rattle.rules.specs.WellFormed.{WellFormedQueues}
-use Rattle.rules.specs.Words.{Sound, encode, queuesOf}
-use Rattle.soundness.specs.Check.{soundWords}
+use Rattle.rules.specs.Turn.{turn}
+use Rattle.rules.specs.Words.{SoundIn, encodeIn, isStore, queuesIn}
+use Rattle.soundness.specs.Check.{soundWords, soundWordsIn}
 
--- The check says yes of the words of well-formed queues, and of no others.
+-- In either order the check says yes of the words of well-formed queues, and of no others.
 unfoldable pub SoundExact : Type 0
-SoundExact = (w : List ℕ) → (soundWords w ≡ true) ↔ Sound w
+SoundExact = (o : Layout) (w : List ℕ) → (soundWordsIn o w ≡ true) ↔ SoundIn o w
 
 -- What passes is the words of the queues that are read from it.
-pub record Decoded (w : List ℕ) : Type 0 where
-  pub wellFormed : WellFormedQueues (queuesOf w)
-  pub words : w ≡ encode (queuesOf w)
+pub record Decoded (o : Layout) (w : List ℕ) : Type 0 where
+  pub wellFormed : WellFormedQueues (queuesIn o w)
+  pub words : w ≡ encodeIn o (queuesIn o w)
 
 unfoldable pub SoundDecoded : Type 0
-SoundDecoded = (w : List ℕ) → soundWords w ≡ true → Decoded w
+SoundDecoded = (o : Layout) (w : List ℕ) → soundWordsIn o w ≡ true → Decoded o w
 
 -- What is refused is the words of no well-formed queues.
 unfoldable pub RefusedUnsound : Type 0
-RefusedUnsound = (w : List ℕ) → soundWords w ≡ false → (q : Queues) → WellFormedQueues q → w ≢ encode q
+RefusedUnsound =
+    (o : Layout) (w : List ℕ) → soundWordsIn o w ≡ false → (q : Queues) → WellFormedQueues q → w ≢ encodeIn o q
 
 -- The words of well-formed queues pass.
 unfoldable pub EncodedAccepted : Type 0
-EncodedAccepted = (q : Queues) → WellFormedQueues q → soundWords (encode q) ≡ true
+EncodedAccepted = (o : Layout) (q : Queues) → WellFormedQueues q → soundWordsIn o (encodeIn o q) ≡ true
+
+-- Words pass by kind exactly if their turn passes.
+unfoldable pub TurnChecked : Type 0
+TurnChecked = (w : List ℕ) → isStore w ≡ true → soundWordsIn ByKind w ≡ soundWords (turn w)

@@ -7,6 +7,7 @@ use mathlib.Core.Bool.{Bool, true, false, cond}
 use native.Mathlib.Omega.{arith}
 use lib.Dec.{eqb}
 use borrow.Author.Tests.{eqb-true, ne-eqb}
+use Rattle.rules.specs.declared.Layout.the-variants.{ByItem}
 use Rattle.rules.specs.declared.Field.{Field}
 use Rattle.rules.specs.declared.Field.the-variants.{Amount, Key}
 use Rattle.rules.specs.Forests.{Forests, heapOf, heapNumber, tableSize, count}
@@ -26,7 +27,7 @@ module _ {n : ℕ} {w : List ℕ} (a b : ℕ → ℕ) (s t : Forests) (N : table
       → Says n w (setWord Amount h x (word a s)) → w ≡ wordsWith b t
   unfolding wordsWith word
   amount-stored e same S =
-      words-equal n (word b t) w (S .sized .size) (λ f i k. S .says f i k ∙ each f i k)
+      words-equal ByItem n (word b t) w (S .sized .size) (λ f i k. S .says f i k ∙ each f i k)
       ∙ ap (λ k. wordsOf k (word b t)) (sym N)
     where
       each : (f : Field) (i : ℕ) → i < fieldSize n f → setWord Amount h x (word a s) f i ≡ word b t f i

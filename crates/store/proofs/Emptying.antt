@@ -7,6 +7,7 @@ use native.Mathlib.Omega.{arith}
 use lib.ListN.{length, replicate, length-replicate}
 use lib.Dec.{eqb, ltb, eqb·zero-suc}
 use borrow.Author.Tests.{eqb-true, eqb-false, ltb-true, ltb-false, lt-ltb, le-ltb}
+use Rattle.rules.specs.declared.Layout.the-variants.{ByItem}
 use Rattle.rules.specs.declared.Field.{Field}
 use Rattle.rules.specs.declared.Field.the-variants.{
   FirstTree,
@@ -28,7 +29,7 @@ use Rattle.rules.specs.Lists.{sumBy}
 use Rattle.rules.specs.Forests.{none, empty, count}
 use Rattle.rules.specs.Order.{leastIn, minimum}
 use Rattle.rules.specs.Queues.{amountOf, emptyQueues}
-use Rattle.rules.specs.Words.{fieldSize, at, headOr, lastOr, stateOf, unlessFree, word, wordsOf, wordsWith, encode}
+use Rattle.rules.specs.Words.{fieldSize, at, headOr, lastOr, stateOf, unlessFree, word, wordsOf, encode, encodeIn}
 use Rattle.rules.proofs.ByKind.{apart-from, by-kinds}
 use Rattle.rules.proofs.EmptyForests.{getD-all}
 use Rattle.rules.proofs.Words.{words-equal}
@@ -116,9 +117,9 @@ more-emptied {n} {w} {w′} h s c =
     says-as n w′ (emptyHeap h (emptied h)) (emptied (h + 1)) (c .says (emptied h) s) (λ f i _. emptied-more h f i)
 
 eight-emptied : (n : ℕ) (w : List ℕ) → Says n w (emptied 8) → w ≡ encode (emptyQueues n)
-unfolding encode wordsWith
+unfolding encodeIn
 eight-emptied n w s =
-    words-equal n (word (amountOf (emptyQueues n)) (empty n)) w (s .sized .size)
+    words-equal ByItem n (word (amountOf (emptyQueues n)) (empty n)) w (s .sized .size)
     (λ f i k. s .says f i k ∙ emptied-all n f i k)
     ∙ ap (λ k. wordsOf k (word (amountOf (emptyQueues n)) (empty n))) (sym (length-replicate n 0))
 

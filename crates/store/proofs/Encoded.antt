@@ -6,6 +6,7 @@ use mathlib.Core.Logic.{_≢_}
 use mathlib.Core.List.{List, [], _∷_}
 use native.Mathlib.Omega.{arith}
 use borrow.Author.Tests.{ne-eqb}
+use Rattle.rules.specs.declared.Layout.the-variants.{ByItem}
 use Rattle.rules.specs.declared.Field.{Field}
 use Rattle.rules.specs.declared.Field.the-variants.{Minimum, Count}
 use Rattle.rules.specs.Forests.{Forests, none, heapOf, tableSize, count}
@@ -16,7 +17,7 @@ use Rattle.rules.specs.Words.{word, wordsOf, wordsWith}
 use Rattle.rules.proofs.ByKind.{apart-from, by-kinds, by-others}
 use Rattle.rules.proofs.Members.{heap-in, not-none, row-root, child-parent}
 use Rattle.rules.proofs.SiblingLists.{once-row, once-children}
-use Rattle.rules.proofs.Words.{length-wordsOf, look-wordsOf, words-equal}
+use Rattle.rules.proofs.Words.{length-wordsIn, look-wordsIn, words-equal}
 use Rattle.store.specs.declared.Owner.the-variants.{Row, Children}
 use Rattle.store.specs.Says.{Agree, Says}
 use Rattle.store.specs.Families.{listOf, ownerOf, wordBut, Shape, Family, Holds}
@@ -81,8 +82,8 @@ unfolding wordsWith
 words-say amounts t n w N small e =
     subst (λ k. Says k w (word amounts t)) N
     (rw e (record {
-      sized = record { size = length-wordsOf (tableSize t) (word amounts t); small = omega arith };
-      says = λ f i k. look-wordsOf (tableSize t) (word amounts t) f i k;
+      sized = record { size = length-wordsIn ByItem (tableSize t) (word amounts t); small = omega arith };
+      says = λ f i k. look-wordsIn ByItem (tableSize t) (word amounts t) f i k;
     }))
 
 -- words and the forests that they are of
@@ -91,9 +92,9 @@ pub encode-holds : (amounts : ℕ → ℕ) (s : Forests) → Disjoint s → (w :
 unfolding wordsWith
 encode-holds amounts s D w e =
     rw e (says-holds (disjoint-shape s D) (record {
-      sized = record { size = length-wordsOf (tableSize s) (word amounts s); small = D .small };
+      sized = record { size = length-wordsIn ByItem (tableSize s) (word amounts s); small = D .small };
       says = λ f i k.
-          look-wordsOf (tableSize s) (word amounts s) f i k
+          look-wordsIn ByItem (tableSize s) (word amounts s) f i k
           ∙ sym (but-word (tableSize s) amounts (count s) (minimum s) s (λ _ _. refl) (λ _ _. refl) f i k);
     }))
 
@@ -103,6 +104,6 @@ pub holds-encode : {n : ℕ} {w : List ℕ} {amounts counts minima : ℕ → ℕ
 unfolding wordsWith
 holds-encode {n} {w} {amounts} {counts} {minima} {t} H c m =
     let s = holds-says H in
-    words-equal n (word amounts t) w (s .sized .size)
+    words-equal ByItem n (word amounts t) w (s .sized .size)
     (λ f i k. s .says f i k ∙ but-word n amounts counts minima t c m f i k)
     ∙ ap (λ k. wordsOf k (word amounts t)) (sym (H .shape .heapN))

@@ -1,7 +1,6 @@
 -- What words say of forests, by heaps and by the kinds of an item: nobody above lists the kinds of a heap.
 use Prim.Native.Nat.{ℕ, _<_}
 use mathlib.Core.Path.{_≡_}
-use mathlib.Core.List.{List}
 use Rattle.rules.specs.declared.Field.{Field}
 use Rattle.rules.specs.declared.Field.the-variants.{
   FirstTree,
@@ -20,21 +19,21 @@ use Rattle.rules.specs.declared.Field.the-variants.{
 }
 use Rattle.rules.specs.Forests.{Forests, none, rowOf, count}
 use Rattle.rules.specs.Order.{minimum}
-use Rattle.rules.specs.Words.{look, headOr, lastOr, word}
-use Rattle.store.specs.Says.{Agree}
+use Rattle.rules.specs.Words.{headOr, lastOr, word}
+use Rattle.store.specs.Says.{Agree, Values}
 
-module _ (n : ℕ) (w : List ℕ) (amounts : ℕ → ℕ) (s : Forests) where
+module _ (n : ℕ) (v : Values) (amounts : ℕ → ℕ) (s : Forests) where
   -- the words of heap h name the ends of its row, its minimum, how many items it has and its amount
   pub record HeapWords (h : ℕ) : Type 0 where
-    pub first : look n w FirstTree h ≡ headOr none (rowOf s h)
-    pub last : look n w LastTree h ≡ lastOr none (rowOf s h)
-    pub least : look n w Minimum h ≡ minimum s h
-    pub items : look n w Count h ≡ count s h
-    pub amount : look n w Amount h ≡ amounts h
+    pub first : v FirstTree h ≡ headOr none (rowOf s h)
+    pub last : v LastTree h ≡ lastOr none (rowOf s h)
+    pub least : v Minimum h ≡ minimum s h
+    pub items : v Count h ≡ count s h
+    pub amount : v Amount h ≡ amounts h
 
   -- of a kind, the words are those of the forests with these amounts
   abbrev Same : Field → Type 0
-  Same f = Agree n (look n w) amounts s f
+  Same f = Agree n v amounts s f
 
   -- Nothing else is said of a heap: these settle its words, and with the kinds of an item all words.
   pub by-heaps : ((h : ℕ) → h < 8 → HeapWords h) → Same Key → Same Parent → Same FirstChild → Same LastChild

@@ -6,10 +6,12 @@ use mathlib.Core.List.{List}
 use native.Mathlib.Omega.{arith}
 use lib.ListN.{length, set, length-set}
 use lib.Dec.{eqb}
+use Rattle.rules.specs.declared.Layout.{Layout}
+use Rattle.rules.specs.declared.Layout.the-variants.{ByItem}
 use Rattle.rules.specs.declared.Field.{Field}
 use Rattle.rules.specs.SetWord.{fieldNumber, setWord}
-use Rattle.rules.specs.Words.{fieldSize, at, look}
-use Rattle.rules.proofs.Places.{fieldSize-small, at-bound}
+use Rattle.rules.specs.Words.{fieldSize, placeIn, at, look}
+use Rattle.rules.proofs.Places.{fieldSize-small, place-bound}
 use Rattle.rules.proofs.Words.{look-set}
 use Rattle.store.specs.Says.{Sized, Within, Values, Says, Changes}
 
@@ -26,8 +28,8 @@ says-as n w u v s e = record { sized = s .sized; says = λ f i h. s .says f i h 
 pub within-small : {n : ℕ} {w : List ℕ} {f : Field} {i : ℕ} → Within n w f i → i ≤ 4096
 within-small {n} {w} {f} {i} h = omega (arith, h .inside, fieldSize-small n f (h .sized .small))
 
-pub within-slice : {n : ℕ} {w : List ℕ} {f : Field} {i : ℕ} → Within n w f i → at n f i < length w
-within-slice {n} {w} {f} {i} h = omega (arith, h .sized .size, at-bound n f i (h .inside))
+pub within-slice : (o : Layout) {n : ℕ} {w : List ℕ} {f : Field} {i : ℕ} → Within n w f i → placeIn o n f i < length w
+within-slice o {n} {w} {f} {i} h = omega (arith, h .sized .size, place-bound o n f i (h .inside))
 
 -- ---- changes
 
@@ -50,7 +52,7 @@ set-changes n w f i x h =
     at-word : (v : Values) → Says n w v → (g : Field) (j : ℕ) → j < fieldSize n g
         → look n (set w (at n f i) x) g j ≡ setWord f i x v g j
     at-word v s g j k =
-        look-set n w f i x g j (h .sized .size) (h .inside) k
+        look-set ByItem n w f i x g j (h .sized .size) (h .inside) k
         ∙ go (eqb (fieldNumber f) (fieldNumber g)) (eqb i j)
       where
         go : (p q : Bool) → cond p (cond q x (look n w g j)) (look n w g j) ≡ cond p (cond q x (v g j)) (v g j)

@@ -3,13 +3,15 @@ ghost use mathlib.Core.Path.{_≡_};
 ghost use Prim.Native.Nat.{_<_};
 ghost use Rattle.rules.specs.declared.Field.the-variants.{Key};
 ghost use Rattle.rules.specs.Queues.{keyFrom, keyWord};
-ghost use Rattle.rules.specs.Words.{look};
+ghost use Rattle.rules.specs.Words.{lookIn, look};
 ghost use Rattle.store.specs.Empty.{amountSettled};
 ghost use Rattle.store.specs.ItemOrder.{itemKey, keyStored};
 ghost use Rattle.store.specs.Says.{Sized, Within, Changes};
 use super::get;
+use super::get_in;
 use super::put;
 use rules::Field;
+use rules::Layout;
 
 // The key that an amount and a key word make.
 pub fn key_from(amount: u32, word: u32) -> u32
@@ -25,14 +27,23 @@ pub fn key_word(amount: u32, key: u32) -> u32
     (((key as u64) + (4294967296 - (amount as u64))) % 4294967296) as u32
 }
 
-// The key of an item of heap h.
+// The key of an item of heap h, in either order.
+pub fn key_in(s: &[u32], layout: Layout, n: usize, h: u32, i: u32) -> u32
+    requires { ⌜ Within n (now s) Key i ⌝ }
+    requires { ⌜ h < 8 ⌝ }
+    ensures { λ r. ⌜ r ≡ itemKey h (lookIn layout n (now (s .entry))) i ⌝ }
+{
+    let amount = get_in(s, layout, n, Field::Amount, h);
+    key_from(amount, get_in(s, layout, n, Field::Key, i))
+}
+
+// The same in the order in use.
 pub fn key_of(s: &[u32], n: usize, h: u32, i: u32) -> u32
     requires { ⌜ Within n (now s) Key i ⌝ }
     requires { ⌜ h < 8 ⌝ }
     ensures { λ r. ⌜ r ≡ itemKey h (look n (now (s .entry))) i ⌝ }
 {
-    let amount = get(s, n, Field::Amount, h);
-    key_from(amount, get(s, n, Field::Key, i))
+    key_in(s, Layout::ByItem, n, h, i)
 }
 
 // The key of an item of heap h stored.

@@ -5,7 +5,7 @@ ghost use Prim.Native.Nat.{_<_, _≤_};
 ghost use lib.ListN.{length, replicate};
 ghost use Rattle.rules.specs.Queues.{emptyQueues};
 ghost use Rattle.rules.specs.SetWord.{setWord};
-ghost use Rattle.rules.specs.Words.{storeSize, itemsIn, isStore, at, look, encode};
+ghost use Rattle.rules.specs.Words.{storeSize, itemsIn, isStore, itemPlace, placeIn, lookIn, look, encode};
 ghost use Rattle.store.specs.Says.{Sized, Within, Changes};
 ghost use Rattle.store.specs.Empty.{emptyHeap, freeItem};
 ghost use Rattle.store.specs.Siblings.{
@@ -37,6 +37,7 @@ pub mod keys;
 pub mod order;
 
 use rules::Field;
+use rules::Layout;
 
 // No item.
 pub const NONE: u32 = 4294967295;
@@ -84,11 +85,24 @@ pub fn is_store(s: &[u32]) -> bool
     s.len() == size_for(n)
 }
 
+// Where word c of item i lies, after the words of the heaps.
+fn item_place(layout: Layout, n: usize, c: usize, i: usize) -> usize
+    requires { ⌜ n ≤ 4096 ⌝ }
+    requires { ⌜ c < 8 ⌝ }
+    requires { ⌜ i ≤ 4096 ⌝ }
+    ensures { λ r. ⌜ r ≡ itemPlace layout n c i ⌝ }
+{
+    match layout {
+        Layout::ByItem => ITEM_WORDS * i + c,
+        Layout::ByKind => c * n + i,
+    }
+}
+
 // Where word i of a kind lies in a store for n items.
-fn place(n: usize, f: Field, i: usize) -> usize
+fn place(layout: Layout, n: usize, f: Field, i: usize) -> usize
     requires { ⌜ n ≤ 4096 ⌝ }
     requires { ⌜ i ≤ 4096 ⌝ }
-    ensures { λ r. ⌜ r ≡ at n f i ⌝ }
+    ensures { λ r. ⌜ r ≡ placeIn layout n f i ⌝ }
 {
     match f {
         Field::FirstTree => 5 * i,
@@ -96,26 +110,34 @@ fn place(n: usize, f: Field, i: usize) -> usize
         Field::Minimum => 5 * i + 2,
         Field::Count => 5 * i + 3,
         Field::Amount => 5 * i + 4,
-        Field::Key => HEAP_WORDS + i,
-        Field::Parent => HEAP_WORDS + n + i,
-        Field::FirstChild => HEAP_WORDS + 2 * n + i,
-        Field::LastChild => HEAP_WORDS + 3 * n + i,
-        Field::Next => HEAP_WORDS + 4 * n + i,
-        Field::Prev => HEAP_WORDS + 5 * n + i,
-        Field::Rank => HEAP_WORDS + 6 * n + i,
-        Field::State => HEAP_WORDS + 7 * n + i,
+        Field::Key => HEAP_WORDS + item_place(layout, n, 0, i),
+        Field::Parent => HEAP_WORDS + item_place(layout, n, 1, i),
+        Field::FirstChild => HEAP_WORDS + item_place(layout, n, 2, i),
+        Field::LastChild => HEAP_WORDS + item_place(layout, n, 3, i),
+        Field::Next => HEAP_WORDS + item_place(layout, n, 4, i),
+        Field::Prev => HEAP_WORDS + item_place(layout, n, 5, i),
+        Field::Rank => HEAP_WORDS + item_place(layout, n, 6, i),
+        Field::State => HEAP_WORDS + item_place(layout, n, 7, i),
     }
 }
 
 // ---- words
 
-// Word i of a kind.
+// Word i of a kind, in either order.
+pub fn get_in(s: &[u32], layout: Layout, n: usize, f: Field, i: u32) -> u32
+    requires { ⌜ Within n (now s) f i ⌝ }
+    ensures { λ r. ⌜ r ≡ lookIn layout n (now (s .entry)) f i ⌝ }
+{
+    let at = place(layout, n, f, i as usize);
+    s[at]
+}
+
+// The same in the order in use.
 pub fn get(s: &[u32], n: usize, f: Field, i: u32) -> u32
     requires { ⌜ Within n (now s) f i ⌝ }
     ensures { λ r. ⌜ r ≡ look n (now (s .entry)) f i ⌝ }
 {
-    let at = place(n, f, i as usize);
-    s[at]
+    get_in(s, Layout::ByItem, n, f, i)
 }
 
 // Word i of a kind stored.
@@ -123,7 +145,7 @@ pub fn put(s: &mut [u32], n: usize, f: Field, i: u32, x: u32)
     requires { ⌜ Within n (now s) f i ⌝ }
     ensures { λ r. ⌜ Changes n (now (s .entry)) (setWord f i x) (now (s .exit)) ⌝ }
 {
-    let at = place(n, f, i as usize);
+    let at = place(Layout::ByItem, n, f, i as usize);
     s[at] = x;
 }
 

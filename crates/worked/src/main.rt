@@ -1,8 +1,8 @@
 // The scope paper's runs (b) to (h) on the words of a store for nine items. Of each run: its name, the answers of its
-// lines, the row of heap 0, and all words: a line for each heap, then a line for each kind of an item's words.
-ghost use mathlib.Core.Path.{_≡_};
-ghost use Rattle.rules.specs.Words.{fieldSize};
-ghost use Rattle.store.specs.Says.{Sized, Within};
+// lines, the row of heap 0, and all words as they lie: a line for each heap, then a line for each item.
+ghost use Prim.Native.Nat.{_+_, _≤_};
+ghost use Rattle.rules.specs.Words.{storeSize};
+ghost use Rattle.store.specs.Says.{Sized};
 use libc::STDOUT_FILENO;
 use rules::Field;
 use sheet::Ran;
@@ -34,11 +34,19 @@ fn show_row(s: &[u32])
     io::write_all(STDOUT_FILENO, b"\n");
 }
 
-// Word i of a kind, and a byte after it.
-fn show_word(s: &[u32], f: Field, i: u32, end: u8)
-    requires { ⌜ Within 9 (now s) f i ⌝ }
+// So many words from a place on, as they lie, on a line.
+fn show_line(s: &[u32], from: usize, words: usize)
+    requires { ⌜ Sized 9 (now s) ⌝ }
+    requires { ⌜ 1 ≤ words ⌝ }
+    requires { ⌜ from + words ≤ storeSize 9 ⌝ }
 {
-    print(get(s, 9, f, i), end);
+    let last = from + words - 1;
+    let mut p = from;
+    while p < last {
+        print(s[p], b' ');
+        p += 1;
+    }
+    print(s[last], b'\n');
 }
 
 // The five words of each heap, a line for each.
@@ -46,38 +54,21 @@ fn show_heaps(s: &[u32])
     requires { ⌜ Sized 9 (now s) ⌝ }
 {
     for h in 0..8 {
-        show_word(s, Field::FirstTree, h, b' ');
-        show_word(s, Field::LastTree, h, b' ');
-        show_word(s, Field::Minimum, h, b' ');
-        show_word(s, Field::Count, h, b' ');
-        show_word(s, Field::Amount, h, b'\n');
+        show_line(s, 5 * h, 5);
     }
 }
 
-// The words of one kind of the nine items, on a line.
-fn show_kind(s: &[u32], f: Field)
+// The eight words of each item, a line for each.
+fn show_items(s: &[u32])
     requires { ⌜ Sized 9 (now s) ⌝ }
-    requires { ⌜ fieldSize 9 f ≡ 9 ⌝ }
 {
-    for i in 0..8 {
-        show_word(s, f, i, b' ');
+    for i in 0..9 {
+        show_line(
+            s,
+            store::HEAP_WORDS + store::ITEM_WORDS * i,
+            store::ITEM_WORDS,
+        );
     }
-    show_word(s, f, 8, b'\n');
-}
-
-// All words: those of the heaps, then those of the items by kind.
-fn show_words(s: &[u32])
-    requires { ⌜ Sized 9 (now s) ⌝ }
-{
-    show_heaps(s);
-    show_kind(s, Field::Key);
-    show_kind(s, Field::Parent);
-    show_kind(s, Field::FirstChild);
-    show_kind(s, Field::LastChild);
-    show_kind(s, Field::Next);
-    show_kind(s, Field::Prev);
-    show_kind(s, Field::Rank);
-    show_kind(s, Field::State);
 }
 
 // What a run answered and left, under its name.
@@ -91,7 +82,8 @@ fn show(name: u8, ran: Ran, store: &[u32], out: &[u8])
         io::write_all(STDOUT_FILENO, &out[..bytes]);
     }
     show_row(store);
-    show_words(store);
+    show_heaps(store);
+    show_items(store);
 }
 
 fn show_fresh(name: u8, sheet: &[u8], store: &mut [u32], out: &mut [u8])

@@ -2,6 +2,7 @@
 use borrow.Author.Needs.{needs}
 use lib.Dec.{eqb}
 use native.Mathlib.Omega.{arith}
+use Rattle.rules.specs.Words.{lookIn}
 use Rattle.rules.proofs.Occurs.{and-false}
 use Rattle.audit.proofs.Results.{ok-zero, ok-more, states-low}
 use Rattle.audit.proofs.Totals.{indicators-bound}
@@ -16,17 +17,19 @@ returns : tie.Need-returns
 unfolding allOk
 returns c =
     let a = c .before .before .before .args in
-    rw (ok-zero (allTo (a .n) (itemOk (a .n) (a .store .now))) (ranksAt (a .n) (a .store .now))
+    let v = lookIn (a .layout) (a .n) (a .store .now) in
+    rw (ok-zero (allTo (a .n) (itemOk (a .n) v)) (ranksAt (a .n) v)
     (c .before .ranks .result)
     (c .before .ranks .ensures .is) (c .if1 .taken))
 
 counts-requires : tie.Need-counts-requires
 counts-requires c κs =
     let a = c .before .before .before .args in
+    let v = lookIn (a .layout) (a .n) (a .store .now) in
     let r =
-    ok-more (allTo (a .n) (itemOk (a .n) (a .store .now))) (ranksAt (a .n) (a .store .now)) (c .before .ranks .result)
+    ok-more (allTo (a .n) (itemOk (a .n) v)) (ranksAt (a .n) v) (c .before .ranks .result)
     (c .before .ranks .ensures .is) (c .if1 .left) in
-    record { sized = c .before .before .before .pre; low = states-low (a .n) (a .store .now) (r .0) }
+    record { sized = c .before .before .before .pre; low = states-low (a .n) v (r .0) }
 
 trees-requires : tie.Need-trees-requires
 trees-requires c κs = search needs
@@ -35,8 +38,9 @@ returns-2 : tie.Need-returns-2
 unfolding allOk
 returns-2 c =
     let a = c .before .before .before .before .before .before .args in
+    let v = lookIn (a .layout) (a .n) (a .store .now) in
     rw (
-      ok-zero (allTo 8 (heapOk (a .n) (a .store .now))) (treesAt (a .n) (a .store .now)) (c .before .trees .result)
+      ok-zero (allTo 8 (heapOk (a .n) v)) (treesAt (a .n) v) (c .before .trees .result)
           (c .before .trees .ensures .is) (c .if2 .taken),
       and-false,
     )
@@ -57,22 +61,24 @@ add-result-2 : tie.Need-add-result-2
 unfolding countAt
 add-result-2 c =
     let a = c .before .before .before .before .before .before .args in
+    let v = lookIn (a .layout) (a .n) (a .store .now) in
     omega (
       arith,
       c .before .before .counts .ensures .each 0 (omega arith),
-      indicators-bound (a .n) (λ i. eqb (heapAt (a .n) (a .store .now) i) 0),
+      indicators-bound (a .n) (λ i. eqb (heapAt (a .n) v i) 0),
     )
 
 returns-3 : tie.Need-returns-3
 unfolding allOk
 returns-3 c =
     let a = c .before .before .before .before .before .before .args in
+    let v = lookIn (a .layout) (a .n) (a .store .now) in
     let r =
-    ok-more (allTo (a .n) (itemOk (a .n) (a .store .now))) (ranksAt (a .n) (a .store .now))
+    ok-more (allTo (a .n) (itemOk (a .n) v)) (ranksAt (a .n) v)
     (c .before .before .before .before .ranks .result)
     (c .before .before .before .before .ranks .ensures .is) (c .before .before .before .if1 .left) in
     let t =
-    ok-more (allTo 8 (heapOk (a .n) (a .store .now))) (treesAt (a .n) (a .store .now)) (c .before .trees .result)
+    ok-more (allTo 8 (heapOk (a .n) v)) (treesAt (a .n) v) (c .before .trees .result)
     (c .before .trees .ensures .is) (c .if2 .left) in
     rw (r .0, t .0, r .1, t .1, c .before .before .counts .ensures .each 0 (omega arith))
 

@@ -3,6 +3,7 @@ use borrow.Author.Needs.{needs}
 use mathlib.Core.Bool.{true, false}
 use mathlib.Core.Path.{refl}
 use native.Mathlib.Omega.{arith}
+use Rattle.rules.specs.Words.{lookIn}
 use Rattle.soundness.specs.Check.{minimumRight, countRight}
 use Rattle.audit.proofs.Results.{row-answer, row-wrong, row-inside, heap-tests}
 use Rattle.audit.proofs.heap_length.Statement.{statement}
@@ -12,20 +13,22 @@ returns : tie.Need-returns
 returns c =
     let list = c .before in
     let a = list .before .before .before .before .args in
+    let v = lookIn (a .layout) (a .n) (a .store .now) in
     let f =
-    row-answer (a .n) (a .store .now) (a .h) _ _ _ _ refl (list .before .before .word-at .ensures .is)
+    row-answer (a .n) v (a .h) _ _ _ _ refl (list .before .before .word-at .ensures .is)
     (list .before .word-at2 .ensures .is) (list .list-length .ensures .is) in
-    record { is = row-wrong (a .n) (a .store .now) (a .h) _ f (c .if1 .taken); most = omega arith }
+    record { is = row-wrong (a .n) v (a .h) _ f (c .if1 .taken); most = omega arith }
 
 least-root-requires : tie.Need-least-root-requires
 least-root-requires c κs =
     let list = c .before .before in
     let s = list .before .before .before .before in
     let a = s .args in
+    let v = lookIn (a .layout) (a .n) (a .store .now) in
     let f =
-    row-answer (a .n) (a .store .now) (a .h) _ _ _ _ refl (list .before .before .word-at .ensures .is)
+    row-answer (a .n) v (a .h) _ _ _ _ refl (list .before .before .word-at .ensures .is)
     (list .before .word-at2 .ensures .is) (list .list-length .ensures .is) in
-    (s .pre .0, row-inside (a .n) (a .store .now) (a .h) (s .pre .1 .0) _ f (c .before .if1 .left))
+    (s .pre .0, row-inside (a .n) v (a .h) (s .pre .1 .0) _ f (c .before .if1 .left))
 
 returns-2 : tie.Need-returns-2
 unfolding minimumRight countRight
@@ -34,14 +37,15 @@ returns-2 c =
     let list = least .before .before in
     let s = list .before .before .before .before in
     let a = s .args in
+    let v = lookIn (a .layout) (a .n) (a .store .now) in
     let f =
-    row-answer (a .n) (a .store .now) (a .h) _ _ _ _ refl (list .before .before .word-at .ensures .is)
+    row-answer (a .n) v (a .h) _ _ _ _ refl (list .before .before .word-at .ensures .is)
     (list .before .word-at2 .ensures .is) (list .list-length .ensures .is) in
     record {
       is =
-          heap-tests (a .n) (a .store .now) (a .h) _ f (least .before .if1 .left) (c .before .word-at4 .ensures) true
+          heap-tests (a .n) v (a .h) _ f (least .before .if1 .left) (c .before .word-at4 .ensures) true
           (rw (
-            ← least .get .ensures,
+            ← least .get-in .ensures,
             ← c .before .before .before .least-root .ensures,
             ← c .before .before .word-at3 .ensures .is,
             ← c .before .word-at4 .ensures .is,
@@ -57,14 +61,15 @@ returns-3 c =
     let list = least .before .before in
     let s = list .before .before .before .before in
     let a = s .args in
+    let v = lookIn (a .layout) (a .n) (a .store .now) in
     let f =
-    row-answer (a .n) (a .store .now) (a .h) _ _ _ _ refl (list .before .before .word-at .ensures .is)
+    row-answer (a .n) v (a .h) _ _ _ _ refl (list .before .before .word-at .ensures .is)
     (list .before .word-at2 .ensures .is) (list .list-length .ensures .is) in
     record {
       is =
-          heap-tests (a .n) (a .store .now) (a .h) _ f (least .before .if1 .left) (c .before .word-at4 .ensures) false
+          heap-tests (a .n) v (a .h) _ f (least .before .if1 .left) (c .before .word-at4 .ensures) false
           (rw (
-            ← least .get .ensures,
+            ← least .get-in .ensures,
             ← c .before .before .before .least-root .ensures,
             ← c .before .before .word-at3 .ensures .is,
             ← c .before .word-at4 .ensures .is,

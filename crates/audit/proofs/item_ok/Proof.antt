@@ -4,7 +4,7 @@ use mathlib.Core.Path.{_≡_, _∙_}
 use borrow.Author.Needs.{needs}
 use borrow.Author.Tests.{eq-eqb, ne-eqb, lt-leb}
 use native.Mathlib.Omega.{arith}
-use Rattle.rules.specs.Words.{at, look}
+use Rattle.rules.specs.Words.{lookIn, placeIn}
 use Rattle.rules.specs.declared.Field.the-variants.{Key, Rank}
 use Rattle.soundness.specs.Check.{heapAt, childrenAt, parentOk, memberOk, itemOk}
 use Rattle.audit.specs.Promises.{lengthIfOk}
@@ -61,19 +61,19 @@ returns-3 c =
     let s = p .before .before .before .before .before in
     let a = s .args in
     let n = a .n in
-    let w = a .store .now in
-    let e : lists .list-length .result ≡ lengthIfOk n w (childrenAt n w (a .i)) =
+    let v = lookIn (a .layout) n (a .store .now) in
+    let e : lists .list-length .result ≡ lengthIfOk n v (childrenAt n v (a .i)) =
     rw (
       ← state .ensures .is,
       ← lists .before .before .before .heap-of .ensures .is,
       ← lists .before .before .word-at2 .ensures .is,
       ← lists .before .word-at3 .ensures .is,
     ) (lists .list-length .ensures .is) in
-    let k : look n w Key (a .i) ≤ 4294967295 =
-    omega (arith, p .before .before .before .before .shared-slice-known .given (at n Key (a .i))) in
+    let k : v Key (a .i) ≤ 4294967295 =
+    omega (arith, p .before .before .before .before .shared-slice-known .given (placeIn (a .layout) n Key (a .i))) in
     rw (e, p .parent-ok .ensures, c .word-at4 .ensures .is)
-    (children-tests n w (a .i) (parentOk n w (a .i)) (look n w Rank (a .i)) (s .pre .inside) (s .pre .sized .small)
-    ∙ member-tests n w (a .i) (λ z. p .before .before .if1 .left (state .ensures .is ∙ z))
+    (children-tests n v (a .i) (parentOk n v (a .i)) (v Rank (a .i)) (s .pre .inside) (s .pre .sized .small)
+    ∙ member-tests n v (a .i) (λ z. p .before .before .if1 .left (state .ensures .is ∙ z))
     (omega (arith, state .ensures .is, p .before .if2 .left)) k)
 
 pub item-ok-spec : {M : Type 1} → statement M

@@ -2,56 +2,60 @@
 use Prim.Native.Nat.{_-_, _≤_}
 use mathlib.Core.Logic.{inl, inr}
 use native.Mathlib.Omega.{arith}
+use Rattle.rules.specs.Words.{lookIn}
 use Rattle.audit.proofs.Least.{Passing, pass-start, pass-inside, pass-more, pass-ended}
 use Rattle.audit.proofs.least_root.Statement.{statement}
 use Rattle.audit.proofs.least_root.Tie as tie
 
 abbrev Inv-loop : tie.InvT-loop
-Inv-loop store n h least₀ x₀ j₀ least x j = (j ≤ n) × Passing n store h j least x
+Inv-loop store layout n h least₀ x₀ j₀ least x j = (j ≤ n) × Passing n (lookIn layout n store) h j least x
 
 abbrev μ-loop : tie.MeasureT-loop
-μ-loop store n h least₀ x₀ j₀ least x j = n - j
+μ-loop store layout n h least₀ x₀ j₀ least x j = n - j
 
-cast-get : tie.Need-cast-get Inv-loop μ-loop
-cast-get c = omega (arith, c .before .pre .1 .heap)
+cast-get-in : tie.Need-cast-get-in Inv-loop μ-loop
+cast-get-in c = omega (arith, c .before .pre .1 .heap)
 
-get-requires : tie.Need-get-requires Inv-loop μ-loop
-get-requires c κs = record { sized = c .before .pre .0; inside = c .before .pre .1 .heap }
+get-in-requires : tie.Need-get-in-requires Inv-loop μ-loop
+get-in-requires c κs = record { sized = c .before .pre .0; inside = c .before .pre .1 .heap }
 
 loop-holds : tie.Need-loop-holds Inv-loop μ-loop
 loop-holds c =
     let s = c .before .before in
     let a = s .args in
-    (omega arith, rw (c .get .ensures) (pass-start (a .n) (a .store .now) (a .h) (s .pre .1)))
+    let v = lookIn (a .layout) (a .n) (a .store .now) in
+    (omega arith, rw (c .get-in .ensures) (pass-start (a .n) v (a .h) (s .pre .1)))
 
-cast-lesser-of : tie.Need-cast-lesser-of Inv-loop μ-loop
-cast-lesser-of c = omega (arith, c .before .before .before .before .before .pre .1 .heap)
+cast-lesser-in : tie.Need-cast-lesser-in Inv-loop μ-loop
+cast-lesser-in c = omega (arith, c .before .before .before .before .before .pre .1 .heap)
 
-lesser-of-requires : tie.Need-lesser-of-requires Inv-loop μ-loop
-lesser-of-requires c κs =
+lesser-in-requires : tie.Need-lesser-in-requires Inv-loop μ-loop
+lesser-in-requires c κs =
     let l = c .before .before .loop in
     let s = c .before .before .before .before .before in
-    let a = s .args in (
+    let a = s .args in
+    let v = lookIn (a .layout) (a .n) (a .store .now) in (
       s .pre .1 .heap,
       record {
         sized = s .pre .0;
         one = λ m. l .inv .1 .item m .0;
         two =
             λ m.
-            pass-inside (a .n) (a .store .now) (a .h) (l .j) (l .least) (l .x) (c .before .loop-test .taken) m
+            pass-inside (a .n) v (a .h) (l .j) (l .least) (l .x) (c .before .loop-test .taken) m
             (l .inv .1) .0;
       },
     )
 
-get-requires-2 : tie.Need-get-requires-2 Inv-loop μ-loop
-get-requires-2 c κs =
+get-in-requires-2 : tie.Need-get-in-requires-2 Inv-loop μ-loop
+get-in-requires-2 c κs =
     let l = c .before .before .before .loop in
     let s = c .before .before .before .before .before .before in
     let a = s .args in
+    let v = lookIn (a .layout) (a .n) (a .store .now) in
     record {
       sized = s .pre .0;
       inside =
-          pass-inside (a .n) (a .store .now) (a .h) (l .j) (l .least) (l .x) (c .before .before .loop-test .taken)
+          pass-inside (a .n) v (a .h) (l .j) (l .least) (l .x) (c .before .before .loop-test .taken)
           (c .before .if1 .left) (l .inv .1) .0;
     }
 
@@ -65,10 +69,11 @@ loop-again : tie.Need-loop-again Inv-loop μ-loop
 loop-again c =
     let l = c .before .before .before .before .loop in
     let s = c .before .before .before .before .before .before .before in
-    let a = s .args in (
+    let a = s .args in
+    let v = lookIn (a .layout) (a .n) (a .store .now) in (
       omega arith,
-      rw (c .before .lesser-of .ensures, c .get2 .ensures)
-          (pass-more (a .n) (a .store .now) (a .h) (s .pre .0 .small) (l .j) (l .least) (l .x)
+      rw (c .before .lesser-in .ensures, c .get-in2 .ensures)
+          (pass-more (a .n) v (a .h) (s .pre .0 .small) (l .j) (l .least) (l .x)
           (c .before .before .before .loop-test .taken) (c .before .before .if1 .left) (l .inv .1)),
     )
 
@@ -76,13 +81,15 @@ returns : tie.Need-returns Inv-loop μ-loop
 returns c =
     let l = c .before .loop in
     let a = c .before .before .before .before .args in
-    pass-ended (a .n) (a .store .now) (a .h) (l .j) (l .least) (l .x) (inl (c .loop-test .left)) (l .inv .1)
+    let v = lookIn (a .layout) (a .n) (a .store .now) in
+    pass-ended (a .n) v (a .h) (l .j) (l .least) (l .x) (inl (c .loop-test .left)) (l .inv .1)
 
 returns-2 : tie.Need-returns-2 Inv-loop μ-loop
 returns-2 c =
     let l = c .before .before .loop in
     let a = c .before .before .before .before .before .args in
-    pass-ended (a .n) (a .store .now) (a .h) (l .j) (l .least) (l .x) (inr (c .if1 .taken)) (l .inv .1)
+    let v = lookIn (a .layout) (a .n) (a .store .now) in
+    pass-ended (a .n) v (a .h) (l .j) (l .least) (l .x) (inr (c .if1 .taken)) (l .inv .1)
 
 pub least-root-spec : {M : Type 1} → statement M
 least-root-spec =
@@ -90,12 +97,12 @@ least-root-spec =
     (tie.spec
     Inv-loop
     μ-loop
-    cast-get
-    get-requires
+    cast-get-in
+    get-in-requires
     loop-holds
-    cast-lesser-of
-    lesser-of-requires
-    get-requires-2
+    cast-lesser-in
+    lesser-in-requires
+    get-in-requires-2
     add-j
     loop-less
     loop-again

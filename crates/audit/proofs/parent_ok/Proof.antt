@@ -27,13 +27,13 @@ returns-2 c =
       le-ltb _ _ (c .if2 .taken),
     )
 
-sub-precedes : tie.Need-sub-precedes
-sub-precedes c =
+sub-precedes-in : tie.Need-sub-precedes-in
+sub-precedes-in c =
     let s = c .before .before .before .before .before .before .before in
     omega (arith, c .before .before .heap-of .ensures .is, heap-range (s .args .state) (s .pre .live) (s .pre .low) .0)
 
-precedes-requires : tie.Need-precedes-requires
-precedes-requires c κs =
+precedes-in-requires : tie.Need-precedes-in-requires
+precedes-in-requires c κs =
     let s = c .before .before .before .before .before .before .before in
     let r = heap-range (s .args .state) (s .pre .live) (s .pre .low) in (
       omega (arith, c .before .before .heap-of .ensures .is, r .0, r .1),
@@ -57,7 +57,7 @@ returns-3 c =
       ← c .before .heap-of2 .ensures .is,
       ← s .pre .is,
       ← c .before .before .before .heap-of .ensures .is,
-      ← c .precedes .ensures,
+      ← c .precedes-in .ensures,
     )
 
 pub parent-ok-spec : {M : Type 1} → statement M
@@ -71,9 +71,9 @@ parent-ok-spec =
     (λ c κs. search needs)
     (λ c κs. search needs)
     (λ c κs. search needs)
-    sub-precedes
+    sub-precedes-in
     (λ c. search needs)
     (λ c. search needs)
     (λ c. search needs)
-    precedes-requires
+    precedes-in-requires
     returns-3)

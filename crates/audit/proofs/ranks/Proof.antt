@@ -5,7 +5,7 @@ use mathlib.Core.Bool.{true}
 use mathlib.Core.Path.{_≡_, refl, sym, ap, _∙_}
 use native.Mathlib.Omega.{arith}
 use Rattle.rules.specs.Lists.{sumTo}
-use Rattle.rules.specs.Words.{look}
+use Rattle.rules.specs.Words.{lookIn}
 use Rattle.rules.specs.declared.Field.the-variants.{Rank}
 use Rattle.soundness.proofs.Booleans.{told-true, told-false}
 use Rattle.audit.proofs.Results.{ok-is, ok-not}
@@ -15,12 +15,12 @@ use Rattle.audit.proofs.ranks.Statement.{statement}
 use Rattle.audit.proofs.ranks.Tie as tie
 
 abbrev Inv-loop : tie.InvT-loop
-Inv-loop store n sum₀ i₀ sum i =
-    (i ≤ n) × (allTo i (itemOk n store) ≡ true) × (sum ≡ sumTo i (λ j. look n store Rank j))
+Inv-loop store layout n sum₀ i₀ sum i =
+    (i ≤ n) × (allTo i (itemOk n (lookIn layout n store)) ≡ true) × (sum ≡ sumTo i (λ j. lookIn layout n store Rank j))
     × (sum ≤ 4294967295 * i)
 
 abbrev μ-loop : tie.MeasureT-loop
-μ-loop store n sum₀ i₀ sum i = n - i
+μ-loop store layout n sum₀ i₀ sum i = n - i
 
 loop-holds : tie.Need-loop-holds Inv-loop μ-loop
 unfolding allTo sumTo
@@ -32,10 +32,11 @@ item-ok-requires c κs = search needs
 returns : tie.Need-returns Inv-loop μ-loop
 returns c =
     let a = c .before .before .before .before .before .args in
+    let v = lookIn (a .layout) (a .n) (a .store .now) in
     record {
       is =
           ok-not _ _
-          (allTo-not (a .n) (itemOk (a .n) (a .store .now)) (c .before .before .before .loop .i)
+          (allTo-not (a .n) (itemOk (a .n) v) (c .before .before .before .loop .i)
           (c .before .before .loop-test .taken)
           (told-false _ _ (c .before .item-ok .ensures) (c .if1 .taken)));
       most = omega arith;
@@ -56,9 +57,10 @@ loop-less c = omega arith
 loop-again : tie.Need-loop-again Inv-loop μ-loop
 loop-again c =
     let a = c .before .before .before .before .before .before .args in
+    let v = lookIn (a .layout) (a .n) (a .store .now) in
     let l = c .before .before .before .before .loop in (
       omega arith,
-      allTo-more (l .i) (itemOk (a .n) (a .store .now)) (l .inv .1)
+      allTo-more (l .i) (itemOk (a .n) v) (l .inv .1)
           (told-true _ _ (c .before .before .item-ok .ensures) (c .before .if1 .left)),
       rw (sumTo-more, ← l .inv .2, ← c .word-at .ensures .is),
       omega arith,
@@ -71,12 +73,13 @@ returns-2 : tie.Need-returns-2 Inv-loop μ-loop
 unfolding ranksAt
 returns-2 c =
     let a = c .before .before .before .args in
+    let v = lookIn (a .layout) (a .n) (a .store .now) in
     let l = c .before .loop in
     let e : l .i ≡ a .n = omega arith in
     record {
       is =
-          ok-is _ _ (l .sum) (ap (λ i. allTo i (itemOk (a .n) (a .store .now))) (sym e) ∙ l .inv .1)
-          (l .inv .2 ∙ ap (λ i. sumTo i (λ j. look (a .n) (a .store .now) Rank j)) e);
+          ok-is _ _ (l .sum) (ap (λ i. allTo i (itemOk (a .n) v)) (sym e) ∙ l .inv .1)
+          (l .inv .2 ∙ ap (λ i. sumTo i (λ j. v Rank j)) e);
       most = omega arith;
     }
 

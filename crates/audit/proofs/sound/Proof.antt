@@ -1,27 +1,7 @@
 -- `audit::sound` meets its contract.
-use mathlib.Core.Path.{_∙_}
 use borrow.Author.Needs.{needs}
-use Rattle.store.proofs.Sizes.{store-sized}
-use Rattle.soundness.proofs.Booleans.{told-false, told-true}
-use Rattle.audit.proofs.Results.{sound-wrong, sound-all}
 use Rattle.audit.proofs.sound.Statement.{statement}
 use Rattle.audit.proofs.sound.Tie as tie
 
-returns : tie.Need-returns
-returns c = sound-wrong _ (told-false _ _ (c .before .is-store .ensures) (c .if1 .taken))
-
-all-ok-requires : tie.Need-all-ok-requires
-all-ok-requires c κs =
-    let test = c .before in
-    store-sized _ (told-true _ _ (test .before .is-store .ensures) (test .if1 .left)) (c .items-of .ensures)
-
-returns-2 : tie.Need-returns-2
-returns-2 c =
-    let items = c .before in
-    let test = items .before in
-    c .all-ok .ensures
-    ∙ sound-all _ (told-true _ _ (test .before .is-store .ensures) (test .if1 .left)) _ (items .items-of .ensures)
-
 pub sound-spec : {M : Type 1} → statement M
-sound-spec =
-    tie.close (tie.spec (λ c κs. search needs) returns (λ c κs. search needs) all-ok-requires returns-2)
+sound-spec = tie.close (tie.spec (λ c κs. search needs) (λ c. c .sound-in .ensures))

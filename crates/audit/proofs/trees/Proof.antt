@@ -5,6 +5,7 @@ use mathlib.Core.Path.{_≡_, refl, sym, ap, _∙_}
 use lib.ListN.{length}
 use native.Mathlib.Numerals.{add-one}
 use native.Mathlib.Omega.{arith}
+use Rattle.rules.specs.Words.{lookIn}
 use Rattle.rules.specs.Lists.{sumTo}
 use Rattle.audit.proofs.Results.{ok-is, ok-not, ok-zero, ok-more}
 use Rattle.audit.proofs.Totals.{sumTo-more, allTo-more, allTo-not}
@@ -13,12 +14,13 @@ use Rattle.audit.proofs.trees.Statement.{statement}
 use Rattle.audit.proofs.trees.Tie as tie
 
 abbrev Inv-loop : tie.InvT-loop
-Inv-loop store n counts sum₀ h₀ sum h =
-    (h ≤ 8) × (allTo h (heapOk n store) ≡ true) × (sum ≡ sumTo h (λ h. length (listAt n store (rowAt n store h))))
+Inv-loop store layout n counts sum₀ h₀ sum h =
+    let v = lookIn layout n store in
+    (h ≤ 8) × (allTo h (heapOk n v) ≡ true) × (sum ≡ sumTo h (λ h. length (listAt n v (rowAt n v h))))
     × (sum ≤ 4096 * h)
 
 abbrev μ-loop : tie.MeasureT-loop
-μ-loop store n counts sum₀ h₀ sum h = 8 - h
+μ-loop store layout n counts sum₀ h₀ sum h = 8 - h
 
 loop-holds : tie.Need-loop-holds Inv-loop μ-loop
 unfolding allTo sumTo
@@ -44,12 +46,13 @@ heap-length-requires c κs =
 returns : tie.Need-returns Inv-loop μ-loop
 returns c =
     let a = c .before .before .before .before .before .args in
+    let v = lookIn (a .layout) (a .n) (a .store .now) in
     let h = c .before .before .before .loop .h in
     record {
       is =
           ok-not _ _
-          (allTo-not 8 (heapOk (a .n) (a .store .now)) h (c .before .before .loop-test .taken)
-          (ok-zero (heapOk (a .n) (a .store .now) h) _ (c .before .heap-length .result)
+          (allTo-not 8 (heapOk (a .n) v) h (c .before .before .loop-test .taken)
+          (ok-zero (heapOk (a .n) v h) _ (c .before .heap-length .result)
           (c .before .heap-length .ensures .is) (c .if1 .taken)));
       most = omega arith;
     }
@@ -69,12 +72,13 @@ loop-less c = omega arith
 loop-again : tie.Need-loop-again Inv-loop μ-loop
 loop-again c =
     let a = c .before .before .before .before .before .args in
+    let v = lookIn (a .layout) (a .n) (a .store .now) in
     let l = c .before .before .before .loop in
     let m =
-    ok-more (heapOk (a .n) (a .store .now) (l .h)) _ (c .before .heap-length .result)
+    ok-more (heapOk (a .n) v (l .h)) _ (c .before .heap-length .result)
     (c .before .heap-length .ensures .is) (c .if1 .left) in (
       omega arith,
-      allTo-more (l .h) (heapOk (a .n) (a .store .now)) (l .inv .1) (m .0),
+      allTo-more (l .h) (heapOk (a .n) v) (l .inv .1) (m .0),
       rw (sumTo-more, ← l .inv .2, ← m .1),
       omega arith,
     )
@@ -86,13 +90,14 @@ returns-2 : tie.Need-returns-2 Inv-loop μ-loop
 unfolding treesAt
 returns-2 c =
     let a = c .before .before .before .args in
+    let v = lookIn (a .layout) (a .n) (a .store .now) in
     let l = c .before .loop in
     let e : l .h ≡ 8 = omega arith in
     record {
       is =
-          ok-is _ _ (l .sum) (ap (λ h. allTo h (heapOk (a .n) (a .store .now))) (sym e) ∙ l .inv .1)
+          ok-is _ _ (l .sum) (ap (λ h. allTo h (heapOk (a .n) v)) (sym e) ∙ l .inv .1)
           (l .inv .2
-          ∙ ap (λ h. sumTo h (λ h. length (listAt (a .n) (a .store .now) (rowAt (a .n) (a .store .now) h)))) e);
+          ∙ ap (λ h. sumTo h (λ h. length (listAt (a .n) v (rowAt (a .n) v h)))) e);
       most = omega arith;
     }
 

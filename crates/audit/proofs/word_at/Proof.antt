@@ -12,4 +12,4 @@ word-at-spec =
     (λ c. omega (arith, within-small (c .before .pre)))
     (λ c κs. c .before .pre)
     (λ c. search needs)
-    (λ c. record { is = c .get .ensures; most = omega (arith, c .get .ok) }))
+    (λ c. record { is = c .get-in .ensures; most = omega (arith, c .get-in .ok) }))

@@ -23,8 +23,11 @@ write-all-requires-2 c κs = search needs
 show-row-requires : tie.Need-show-row-requires
 show-row-requires c κs = search needs
 
-show-words-requires : tie.Need-show-words-requires
-show-words-requires c κs = search needs
+show-heaps-requires : tie.Need-show-heaps-requires
+show-heaps-requires c κs = search needs
+
+show-items-requires : tie.Need-show-items-requires
+show-items-requires c κs = search needs
 
 returns : tie.Need-returns
 returns c = search needs
@@ -39,5 +42,6 @@ show-spec =
     slice-aggregate-write-all-2
     write-all-requires-2
     show-row-requires
-    show-words-requires
+    show-heaps-requires
+    show-items-requires
     returns)

@@ -1,12 +1,12 @@
--- `store::order::lesser_of` meets its contract.
+-- `store::order::lesser_in` meets its contract.
 use mathlib.Core.Logic.{inl, inr, ⊎-elim}
 use native.Mathlib.Omega.{arith}
 use borrow.Author.Needs.{needs}
 use borrow.Author.Tests.{ne-eqb}
 use Rattle.rules.specs.Order.{lesser}
 use Rattle.store.proofs.ItemOrder.{lesser-number}
-use Rattle.store.proofs.order.lesser_of.Statement.{statement}
-use Rattle.store.proofs.order.lesser_of.Tie as tie
+use Rattle.store.proofs.order.lesser_in.Statement.{statement}
+use Rattle.store.proofs.order.lesser_in.Tie as tie
 
 returns : tie.Need-returns
 unfolding lesser
@@ -16,14 +16,14 @@ returns-2 : tie.Need-returns-2
 unfolding lesser
 returns-2 c = rw (ne-eqb _ _ (c .before .if1 .left), c .if2 .taken)
 
-key-of-requires : tie.Need-key-of-requires
-key-of-requires c κs =
+key-in-requires : tie.Need-key-in-requires
+key-in-requires c κs =
     let c1 = c .before in
     let p = c1 .before .before .pre in
     (record { sized = p .1 .sized; inside = p .1 .one (c1 .if1 .left) }, p .0)
 
-key-of-requires-2 : tie.Need-key-of-requires-2
-key-of-requires-2 c κs =
+key-in-requires-2 : tie.Need-key-in-requires-2
+key-in-requires-2 c κs =
     let c2 = c .before .before in
     let p = c2 .before .before .before .pre in
     (record { sized = p .1 .sized; inside = p .1 .two (c2 .if2 .left) }, p .0)
@@ -39,18 +39,18 @@ returns-3 c =
     let c7 = c6 .before in
     let p = c7 .before .before .pre in
     lesser-number _ _ _ (omega (arith, p .1 .one (c7 .if1 .left))) (omega (arith, p .1 .two (c6 .if2 .left)))
-    (c5 .key-of .ensures) (c3 .key-of2 .ensures) (c4 .order-number .ensures) (c2 .order-number2 .ensures)
+    (c5 .key-in .ensures) (c3 .key-in2 .ensures) (c4 .order-number .ensures) (c2 .order-number2 .ensures)
     (⊎-elim (λ w. inl (w .0 .taken, w .1)) (λ w. inr (w .0 .left, w .1)) (c1 .if3 .came))
 
-pub lesser-of-spec : {M : Type 1} → statement M
-lesser-of-spec =
+pub lesser-in-spec : {M : Type 1} → statement M
+lesser-in-spec =
     tie.close
     (tie.spec
     returns
     returns-2
-    key-of-requires
+    key-in-requires
     (λ c κs. search needs)
-    key-of-requires-2
+    key-in-requires-2
     (λ c κs. search needs)
     (λ c. search needs)
     returns-3)

@@ -1,0 +1,3 @@
+pub mod TurnStore
+pub mod Theorems
+pub mod Steps
