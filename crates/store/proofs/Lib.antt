@@ -1,4 +1,5 @@
 pub mod Sizes
+pub mod Steps
 pub mod Says
 pub mod ItemOrder
 pub mod KeyChanges

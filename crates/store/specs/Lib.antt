@@ -1,3 +1,4 @@
+pub mod Steps
 pub mod Says
 pub mod Empty
 pub mod Siblings

@@ -6,6 +6,7 @@ ghost use lib.ListN.{length, replicate};
 ghost use Rattle.rules.specs.Queues.{emptyQueues};
 ghost use Rattle.rules.specs.SetWord.{setWord};
 ghost use Rattle.rules.specs.Words.{storeSize, itemsIn, isStore, itemPlace, placeIn, lookIn, look, encode};
+ghost use Rattle.store.specs.Steps.{kindStep, itemStep};
 ghost use Rattle.store.specs.Says.{Sized, Within, Changes};
 ghost use Rattle.store.specs.Empty.{emptyHeap, freeItem};
 ghost use Rattle.store.specs.Siblings.{
@@ -85,17 +86,37 @@ pub fn is_store(s: &[u32]) -> bool
     s.len() == size_for(n)
 }
 
-// Where word c of item i lies, after the words of the heaps.
+// From a word of an item to its next one.
+fn kind_step(layout: Layout, n: usize) -> usize
+    ensures { λ r. ⌜ r ≡ kindStep layout n ⌝ }
+{
+    match layout {
+        Layout::ByItem => 1,
+        Layout::ByKind => n,
+    }
+}
+
+// From a word of an item to that of the next item.
+fn item_step(layout: Layout) -> usize
+    ensures { λ r. ⌜ r ≡ itemStep layout ⌝ }
+{
+    match layout {
+        Layout::ByItem => ITEM_WORDS,
+        Layout::ByKind => 1,
+    }
+}
+
+// Where word c of item i lies, after the words of the heaps. One formula for both orders: a choice between two would be
+// made anew for each word that the check reads.
 fn item_place(layout: Layout, n: usize, c: usize, i: usize) -> usize
     requires { ⌜ n ≤ 4096 ⌝ }
     requires { ⌜ c < 8 ⌝ }
     requires { ⌜ i ≤ 4096 ⌝ }
     ensures { λ r. ⌜ r ≡ itemPlace layout n c i ⌝ }
 {
-    match layout {
-        Layout::ByItem => ITEM_WORDS * i + c,
-        Layout::ByKind => c * n + i,
-    }
+    let kind = kind_step(layout, n);
+    let item = item_step(layout);
+    c * kind + i * item
 }
 
 // Where word i of a kind lies in a store for n items.
