@@ -2,8 +2,10 @@
 //! everything that comes back is compared, untouched words and guard words included.
 
 mod feeds;
+mod turns;
 
 pub use feeds::{BudgetCall, Fed, FeedCall, Full, Within};
+pub use turns::Turned;
 
 use crate::engine::{Engine, Part};
 use reference::ledger::{allowance, potential, Ledger};

@@ -9,6 +9,8 @@ use reference::{program, run, store};
 pub enum Part {
     Modem,
     Runs,
+    /// The turn of a store from the old order of words into the new one.
+    Turn,
     Feed,
     /// The feed call with a budget; an engine that has it has the full one too.
     Budget,
@@ -64,6 +66,11 @@ pub trait Engine {
         unreachable!("no runs")
     }
 
+    /// The old store is only read; it can be written here, so that it is seen if an engine does so.
+    fn turn_store(&self, old: &mut [u32], turned: &mut [u32]) -> u32 {
+        unreachable!("no turn")
+    }
+
     fn feed_table(&self, asked: Asked, lists: FeedLists, figures: &mut [u32; 3]) -> u32 {
         unreachable!("no feed call")
     }
@@ -111,6 +118,10 @@ impl Engine for Faithful {
 
     fn store_sound(&self, store: &[u32]) -> u32 {
         u32::from(store::sound(store).is_some())
+    }
+
+    fn turn_store(&self, old: &mut [u32], turned: &mut [u32]) -> u32 {
+        store::turn(old, turned)
     }
 
     fn feed_table(&self, asked: Asked, lists: FeedLists, figures: &mut [u32; 3]) -> u32 {

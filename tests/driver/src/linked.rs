@@ -21,6 +21,7 @@ pub const PROGRAMS: &str = "CABLE_QUEUE_BIN";
 #[cfg(feature = "engine-host")]
 extern "C" {
     fn store_sound(store: *const u32, store_len: usize) -> u32;
+    fn turn_store(old: *const u32, old_len: usize, turned: *mut u32, turned_len: usize) -> u32;
     fn read_map(
         text: *const u8,
         text_len: usize,
@@ -78,7 +79,7 @@ impl Engine for Linked {
     fn has(&self, part: Part) -> bool {
         match part {
             Part::Modem => cfg!(feature = "engine-modem"),
-            Part::Runs | Part::Feed | Part::Budget | Part::Map => cfg!(feature = "engine-host"),
+            Part::Runs | Part::Turn | Part::Feed | Part::Budget | Part::Map => cfg!(feature = "engine-host"),
             Part::QueueProgram => self.program("queue").is_some(),
             Part::FeedProgram => self.program("feed").is_some(),
         }
@@ -103,6 +104,12 @@ impl Engine for Linked {
     fn store_sound(&self, store: &[u32]) -> u32 {
         // SAFETY: pointer and length are those of a live slice.
         unsafe { store_sound(store.as_ptr(), store.len()) }
+    }
+
+    #[cfg(feature = "engine-host")]
+    fn turn_store(&self, old: &mut [u32], turned: &mut [u32]) -> u32 {
+        // SAFETY: pointers and lengths are those of live slices that do not overlap.
+        unsafe { turn_store(old.as_mut_ptr(), old.len(), turned.as_mut_ptr(), turned.len()) }
     }
 
     #[cfg(feature = "engine-host")]

@@ -1,7 +1,7 @@
 //! Reference for the queue and feed engine, written from the scope paper and the requests alone.
 //!
 //! Plain and slow on purpose: a heap is a `Vec` of trees, a tree owns its children, an item is found
-//! by searching. Store words appear only in `store`, where whole forests are turned into words.
+//! by searching. Store words appear only in `store`, where whole forests are written as words.
 
 pub mod call;
 pub mod feed;

@@ -2,7 +2,8 @@
 
 use crate::call::Call;
 use crate::queue::Queues;
-use crate::{store, text};
+use crate::store::{self, Order};
+use crate::text;
 
 pub const MAX_BYTES: usize = 60_000;
 pub const MAX_LINES: usize = 2_000;
@@ -38,16 +39,21 @@ pub fn fresh(words: &mut [u32], sheet: &[u8], out: &mut [u8]) -> Run {
     match limits(words.len(), sheet, out.len()) {
         0 => {
             let items = store::items(words.len()).expect("tested");
-            go(Queues::new(items as u32), words, sheet, out)
+            go(Order::ByItem, Queues::new(items as u32), words, sheet, out)
         }
         code => Run { code, ..Run::default() },
     }
 }
 
 pub fn kept(words: &mut [u32], sheet: &[u8], out: &mut [u8]) -> Run {
+    kept_in(Order::ByItem, words, sheet, out)
+}
+
+/// A kept run on a store whose words lie in the given order, before and after it.
+pub fn kept_in(order: Order, words: &mut [u32], sheet: &[u8], out: &mut [u8]) -> Run {
     match limits(words.len(), sheet, out.len()) {
-        0 => match store::sound(words) {
-            Some(queues) => go(queues, words, sheet, out),
+        0 => match order.sound(words) {
+            Some(queues) => go(order, queues, words, sheet, out),
             None => Run { code: 5, ..Run::default() },
         },
         code => Run { code, ..Run::default() },
@@ -74,10 +80,10 @@ pub fn limits(words: usize, sheet: &[u8], room: usize) -> u32 {
     }
 }
 
-fn go(mut queues: Queues, words: &mut [u32], sheet: &[u8], out: &mut [u8]) -> Run {
+fn go(order: Order, mut queues: Queues, words: &mut [u32], sheet: &[u8], out: &mut [u8]) -> Run {
     let lines = text::lines(sheet);
     let answers: String = lines.iter().map(|line| queues.answer(Call::parse(line)).line()).collect();
     out[..answers.len()].copy_from_slice(answers.as_bytes());
-    words.copy_from_slice(&store::encode(&queues));
+    words.copy_from_slice(&order.encode(&queues));
     Run { code: 0, lines: lines.len(), bytes: answers.len() }
 }

@@ -1,4 +1,5 @@
-//! The words of a store: written from whole forests, read back with care from any words.
+//! The words of a store: written from whole forests, read back with care from any words, in the order of today or in
+//! the one before request 8; and the turn from the old order into the new.
 
 use crate::queue::{Queues, Tree, HEAPS};
 
@@ -7,7 +8,8 @@ pub const NONE: u32 = u32::MAX;
 pub const MAX_ITEMS: usize = 4096;
 /// The words of one heap.
 pub const WORDS_A_HEAP: usize = 5;
-const HEAP_WORDS: usize = WORDS_A_HEAP * HEAPS;
+/// The words of all heaps, which come first.
+pub const HEAP_WORDS: usize = WORDS_A_HEAP * HEAPS;
 
 /// The five words of a heap, in their order.
 #[derive(Clone, Copy)]
@@ -20,8 +22,11 @@ pub enum HeapField {
     Amount,
 }
 
-/// The eight words of an item, in the order of their blocks.
-#[derive(Clone, Copy)]
+/// The words of one item.
+pub const WORDS_AN_ITEM: usize = 8;
+
+/// The eight words of an item, in their sequence.
+#[derive(Clone, Copy, Debug, PartialEq, Eq)]
 pub enum Field {
     Key,
     Parent,
@@ -33,14 +38,34 @@ pub enum Field {
     State,
 }
 
+pub const FIELDS: [Field; WORDS_AN_ITEM] = [
+    Field::Key,
+    Field::Parent,
+    Field::FirstChild,
+    Field::LastChild,
+    Field::Next,
+    Field::Previous,
+    Field::Rank,
+    Field::State,
+];
+
+/// How the words of the items lie, after those of the heaps.
+#[derive(Clone, Copy, Debug, PartialEq, Eq)]
+pub enum Order {
+    /// Item by item, the eight words of each side by side. All entries use it.
+    ByItem,
+    /// Kind by kind, one word of each item: the order before request 8, which only the turn still reads.
+    ByKind,
+}
+
 /// The number of words for a number of items.
 pub fn length(items: usize) -> usize {
-    HEAP_WORDS + 8 * items
+    HEAP_WORDS + WORDS_AN_ITEM * items
 }
 
 /// The number of items that a number of words stands for.
 pub fn items(words: usize) -> Option<usize> {
-    let items = words.checked_sub(HEAP_WORDS)? / 8;
+    let items = words.checked_sub(HEAP_WORDS)? / WORDS_AN_ITEM;
     (length(items) == words && items <= MAX_ITEMS).then_some(items)
 }
 
@@ -51,61 +76,115 @@ pub fn heap_index(field: HeapField, heap: usize) -> usize {
 
 /// The place of one word of an item.
 pub fn index(items: usize, field: Field, item: u32) -> usize {
-    HEAP_WORDS + field as usize * items + item as usize
+    Order::ByItem.index(items, field, item)
 }
 
 pub fn empty(items: usize) -> Vec<u32> {
     encode(&Queues::new(items as u32))
 }
 
+/// The words that stand for the forests.
+pub fn encode(queues: &Queues) -> Vec<u32> {
+    Order::ByItem.encode(queues)
+}
+
+/// The forests that the first and next words lead to, as `Order::decode`.
+pub fn decode(words: &[u32]) -> Option<Queues> {
+    Order::ByItem.decode(words)
+}
+
+/// The forests of a sound store; `None` if the words are not sound.
+pub fn sound(words: &[u32]) -> Option<Queues> {
+    Order::ByItem.sound(words)
+}
+
+/// Turns a sound store of the old order into the new one, in a second buffer; returns the code. The words written are
+/// those of the forests that the old ones stand for, and on a refusal none are.
+pub fn turn(old: &[u32], turned: &mut [u32]) -> u32 {
+    if items(old.len()).is_none() || turned.len() != old.len() {
+        return 1;
+    }
+    match Order::ByKind.sound(old) {
+        Some(queues) => {
+            turned.copy_from_slice(&encode(&queues));
+            0
+        }
+        None => 5,
+    }
+}
+
+impl Order {
+    /// The place of one word of an item.
+    pub fn index(self, items: usize, field: Field, item: u32) -> usize {
+        let (field, item) = (field as usize, item as usize);
+        match self {
+            Order::ByItem => HEAP_WORDS + WORDS_AN_ITEM * item + field,
+            Order::ByKind => HEAP_WORDS + field * items + item,
+        }
+    }
+
+    pub fn encode(self, queues: &Queues) -> Vec<u32> {
+        let items = queues.capacity as usize;
+        let mut writer = Writer { order: self, items, words: vec![0; length(items)] };
+        for (heap, row) in queues.rows.iter().enumerate() {
+            let (first, last) = ends(row);
+            let minimum = queues.minimum(heap).map_or(NONE, |root| row[root].item);
+            let amount = queues.amounts[heap];
+            let fields = [first, last, minimum, queues.count(heap) as u32, amount];
+            writer.words[WORDS_A_HEAP * heap..][..WORDS_A_HEAP].copy_from_slice(&fields);
+            writer.siblings((heap as u32, amount), NONE, row);
+        }
+        writer.words
+    }
+
+    /// Follows the first and next words of arbitrary store words; `None` if an item is met twice or is
+    /// out of range. What comes back need not have these words: `sound` compares.
+    pub fn decode(self, words: &[u32]) -> Option<Queues> {
+        let items = items(words.len())?;
+        let mut reader = Reader { order: self, words, items, amount: 0, met: vec![false; items] };
+        let mut queues = Queues::new(items as u32);
+        for heap in 0..HEAPS {
+            reader.amount = words[heap_index(HeapField::Amount, heap)];
+            queues.amounts[heap] = reader.amount;
+            queues.rows[heap] = reader.siblings(words[heap_index(HeapField::FirstTree, heap)])?;
+        }
+        Some(queues)
+    }
+
+    pub fn sound(self, words: &[u32]) -> Option<Queues> {
+        self.decode(words).filter(|queues| self.encode(queues) == words && well_formed(queues))
+    }
+}
+
 fn ends(row: &[Tree]) -> (u32, u32) {
     (row.first().map_or(NONE, |tree| tree.item), row.last().map_or(NONE, |tree| tree.item))
 }
 
-/// The words that stand for the forests.
-pub fn encode(queues: &Queues) -> Vec<u32> {
-    let mut words = vec![0; length(queues.capacity as usize)];
-    for (heap, row) in queues.rows.iter().enumerate() {
-        let (first, last) = ends(row);
-        let minimum = queues.minimum(heap).map_or(NONE, |root| row[root].item);
-        let amount = queues.amounts[heap];
-        let fields = [first, last, minimum, queues.count(heap) as u32, amount];
-        words[WORDS_A_HEAP * heap..][..WORDS_A_HEAP].copy_from_slice(&fields);
-        encode_siblings(&mut words, queues.capacity as usize, (heap as u32, amount), NONE, row);
-    }
-    words
+struct Writer {
+    order: Order,
+    items: usize,
+    words: Vec<u32>,
 }
 
-fn encode_siblings(words: &mut [u32], items: usize, (heap, amount): (u32, u32), parent: u32, row: &[Tree]) {
-    for (number, tree) in row.iter().enumerate() {
-        let (first, last) = ends(&tree.children);
-        let previous = if number == 0 { NONE } else { row[number - 1].item };
-        let next = row.get(number + 1).map_or(NONE, |sibling| sibling.item);
-        let state = 1 + 2 * heap + u32::from(tree.marked);
-        let key_word = tree.key.wrapping_sub(amount);
-        let fields = [key_word, parent, first, last, next, previous, tree.rank() as u32, state];
-        for (field, word) in fields.into_iter().enumerate() {
-            words[HEAP_WORDS + field * items + tree.item as usize] = word;
+impl Writer {
+    fn siblings(&mut self, (heap, amount): (u32, u32), parent: u32, row: &[Tree]) {
+        for (number, tree) in row.iter().enumerate() {
+            let (first, last) = ends(&tree.children);
+            let previous = if number == 0 { NONE } else { row[number - 1].item };
+            let next = row.get(number + 1).map_or(NONE, |sibling| sibling.item);
+            let state = 1 + 2 * heap + u32::from(tree.marked);
+            let key_word = tree.key.wrapping_sub(amount);
+            let words = [key_word, parent, first, last, next, previous, tree.rank() as u32, state];
+            for (field, word) in FIELDS.into_iter().zip(words) {
+                self.words[self.order.index(self.items, field, tree.item)] = word;
+            }
+            self.siblings((heap, amount), tree.item, &tree.children);
         }
-        encode_siblings(words, items, (heap, amount), tree.item, &tree.children);
     }
-}
-
-/// Follows the first and next words of arbitrary store words; `None` if an item is met twice or is
-/// out of range. What comes back need not have these words: `sound` compares.
-pub fn decode(words: &[u32]) -> Option<Queues> {
-    let items = items(words.len())?;
-    let mut reader = Reader { words, items, amount: 0, met: vec![false; items] };
-    let mut queues = Queues::new(items as u32);
-    for heap in 0..HEAPS {
-        reader.amount = words[heap_index(HeapField::Amount, heap)];
-        queues.amounts[heap] = reader.amount;
-        queues.rows[heap] = reader.siblings(words[heap_index(HeapField::FirstTree, heap)])?;
-    }
-    Some(queues)
 }
 
 struct Reader<'a> {
+    order: Order,
     words: &'a [u32],
     items: usize,
     /// The amount of the heap that is read.
@@ -115,7 +194,7 @@ struct Reader<'a> {
 
 impl Reader<'_> {
     fn word(&self, field: Field, item: u32) -> u32 {
-        self.words[index(self.items, field, item)]
+        self.words[self.order.index(self.items, field, item)]
     }
 
     fn siblings(&mut self, first: u32) -> Option<Vec<Tree>> {
@@ -161,9 +240,4 @@ pub fn ranks_suffice(tree: &Tree) -> bool {
     let child_suffices =
         |(number, child): (usize, &Tree)| child.rank() + usize::from(child.marked) >= number && ranks_suffice(child);
     tree.children.iter().enumerate().all(child_suffices)
-}
-
-/// The forests of a sound store; `None` if the words are not sound.
-pub fn sound(words: &[u32]) -> Option<Queues> {
-    decode(words).filter(|queues| encode(queues) == words && well_formed(queues))
 }

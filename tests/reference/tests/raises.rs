@@ -18,8 +18,8 @@ fn plays(queues: &mut Queues, lines: &[(&str, &str)]) {
 
 /// The key words of the first items.
 fn key_words(queues: &Queues, count: usize) -> Vec<u32> {
-    let items = queues.capacity as usize;
-    encode(queues)[index(items, Field::Key, 0)..][..count].to_vec()
+    let words = encode(queues);
+    (0..count as u32).map(|item| words[index(queues.capacity as usize, Field::Key, item)]).collect()
 }
 
 fn amount(queues: &Queues, heap: usize) -> u32 {

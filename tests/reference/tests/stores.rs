@@ -16,15 +16,18 @@ fn words_of_a_linked_heap() {
     // Item 3 taken from keys 5, 3, 8, 1: the row is 2, 1 with 0 under 1.
     let words = encode(&after(4, &["I,0,0,5", "I,0,1,3", "I,0,2,8", "I,0,3,1", "T,0"]));
     assert_eq!(words[..10], [2, 1, 1, 3, 0, NONE, NONE, NONE, 0, 0]);
-    let block = |field: Field| words[index(4, field, 0)..index(4, field, 0) + 4].to_vec();
-    assert_eq!(block(Field::Key), [5, 3, 8, 0]);
-    assert_eq!(block(Field::Parent), [1, NONE, NONE, 0]);
-    assert_eq!(block(Field::FirstChild), [NONE, 0, NONE, 0]);
-    assert_eq!(block(Field::LastChild), [NONE, 0, NONE, 0]);
-    assert_eq!(block(Field::Next), [NONE, NONE, 1, 0]);
-    assert_eq!(block(Field::Previous), [NONE, 2, NONE, 0]);
-    assert_eq!(block(Field::Rank), [0, 1, 0, 0]);
-    assert_eq!(block(Field::State), [1, 1, 1, 0]);
+    assert_eq!(words[40..48], [5, 1, NONE, NONE, NONE, NONE, 0, 1]);
+    assert_eq!(words[48..56], [3, NONE, 0, 0, NONE, 2, 1, 1]);
+    assert_eq!(words[56..64], [8, NONE, NONE, NONE, 1, NONE, 0, 1]);
+    assert_eq!(words[64..], [0; 8]);
+}
+
+/// The largest store's first and last words of items, and one in between.
+#[test]
+fn places_of_words() {
+    let at = |field, item| index(4096, field, item);
+    assert_eq!([at(Field::Key, 0), at(Field::State, 0), at(Field::Key, 1)], [40, 47, 48]);
+    assert_eq!([at(Field::Rank, 2_048), at(Field::State, 4_095)], [40 + 16_384 + 6, 32_807]);
 }
 
 #[test]

@@ -3,12 +3,12 @@
 
 use super::large_stores::large_shapes;
 use super::raised_sheets::many_raises;
-use super::stores::{candidates, judge, small_stores};
+use super::stores::{candidates, heap_of, judge, small_stores};
 use crate::check::{Checker, Verdict};
 use crate::forest;
 use crate::random::Random;
 use crate::sheets;
-use reference::store::{self, heap_index, index, Field, HeapField};
+use reference::store::{self, heap_index, index, Field, HeapField, Order};
 use reference::{Queues, HEAPS};
 
 /// Any amount, often one that is small, or that makes keys wrap.
@@ -19,7 +19,7 @@ fn amount(random: &mut Random) -> u32 {
 }
 
 /// The same forests with an amount for each heap that has items: the keys stay, their words change.
-fn with_amounts(random: &mut Random, queues: &Queues) -> Queues {
+pub fn with_amounts(random: &mut Random, queues: &Queues) -> Queues {
     let mut queues = queues.clone();
     for heap in (0..HEAPS).filter(|&heap| !queues.rows[heap].is_empty()).collect::<Vec<_>>() {
         queues.amounts[heap] = amount(random);
@@ -59,67 +59,89 @@ pub fn same_answers(checker: &mut Checker) -> Verdict {
     Ok(())
 }
 
-/// Stores as they were before request 6, with four words a heap. Their length is that of a store for one item less, of
-/// which they are no words: a host that keeps one is told so. With a 0 after each heap's four words they are sound.
+/// Words of a store without those of the amounts, as they were before request 6.
+pub fn without_amounts(words: &[u32]) -> Vec<u32> {
+    let amounts: Vec<usize> = (0..HEAPS).map(|heap| heap_index(HeapField::Amount, heap)).collect();
+    words.iter().enumerate().filter(|(at, _)| !amounts.contains(at)).map(|(_, &word)| word).collect()
+}
+
+/// Stores as they were before request 6, with four words a heap and then the words by kind. Their length is that of a
+/// store for one item less, of which they are no words: a host that keeps one is told so.
 pub fn four_words_a_heap(checker: &mut Checker) -> Verdict {
     let mut random = Random::new(43);
     for case in 0..2_000 {
         let items = random.below(12) as u32;
         let mut queues = sheets::grown(&mut random, items, if case % 10 == 0 { 0 } else { 40 });
         queues.amounts = [0; HEAPS];
-        let words = store::encode(&queues);
-        let amounts: Vec<usize> = (0..HEAPS).map(|heap| heap_index(HeapField::Amount, heap)).collect();
-        let old: Vec<u32> =
-            words.iter().enumerate().filter(|(at, _)| !amounts.contains(at)).map(|(_, &word)| word).collect();
+        let old = without_amounts(&Order::ByKind.encode(&queues));
         let code = checker.kept(&old, b"M,0\n", 32)?.code;
         if checker.sound(&old)? || code != if items == 0 { 1 } else { 5 } {
             return Err("a store with four words a heap is taken for one with five".into());
         }
-        if !checker.sound(&words)? {
+        if !checker.sound(&store::encode(&queues))? {
             return Err("a store with amounts of 0 is not sound".into());
         }
     }
     Ok(())
 }
 
-/// Small sound stores, of which each has an amount somewhere.
-fn small_stores_with_amounts(random: &mut Random) -> Vec<Vec<u32>> {
+/// The forests of small sound stores, of which each has an amount somewhere.
+pub fn small_forests_with_amounts(random: &mut Random) -> Vec<Queues> {
     let found: Vec<Queues> = small_stores(random).iter().filter_map(|words| store::sound(words)).collect();
     let held = found.iter().filter(|queues| queues.rows.iter().any(|row| !row.is_empty()));
-    held.map(|queues| store::encode(&with_amounts(random, queues))).collect()
+    held.map(|queues| with_amounts(random, queues)).collect()
 }
 
 /// Words in place of an amount or a key word at which a key of the store passes the largest number.
-fn at_the_limit(words: &[u32], items: u32) -> Vec<u32> {
-    let keys = (0..items).map(|item| words[index(items as usize, Field::Key, item)]);
-    let amounts = (0..HEAPS).map(|heap| words[heap_index(HeapField::Amount, heap)]);
-    keys.chain(amounts).flat_map(|word| [u32::MAX, 0, 1].map(|more| more.wrapping_sub(word))).collect()
+fn at_the_limit(queues: &Queues) -> Vec<u32> {
+    let words = store::encode(queues);
+    let keys = (0..queues.capacity).map(|item| words[index(queues.capacity as usize, Field::Key, item)]);
+    let words = keys.chain(queues.amounts);
+    words.flat_map(|word| [u32::MAX, 0, 1].map(|more| more.wrapping_sub(word))).collect()
 }
 
-/// Every word of small stores with amounts, changed.
-pub fn single_changes(checker: &mut Checker) -> Verdict {
-    let mut random = Random::new(38);
-    // Sound and unsound ones, by what was changed: an amount, a key word, another word.
-    let mut seen = [[0u32; 2]; 3];
-    for words in small_stores_with_amounts(&mut random) {
-        let items = store::items(words.len()).expect("a store") as u32;
-        judge(checker, &words)?;
-        let keys = index(items as usize, Field::Key, 0)..index(items as usize, Field::Parent, 0);
-        let amounts: Vec<usize> = (0..HEAPS).map(|heap| heap_index(HeapField::Amount, heap)).collect();
+/// Changes that were tried, unsound and sound ones, by what was changed: an amount, a key word, another word.
+type Seen = [[u32; 2]; 3];
+
+/// What the word at a place is: 0 for an amount, 1 for a key word, 2 for any other.
+fn kind(order: Order, items: u32, at: usize) -> usize {
+    let is_amount = (0..HEAPS).any(|heap| at == heap_index(HeapField::Amount, heap));
+    let is_key = (0..items).any(|item| at == order.index(items as usize, Field::Key, item));
+    if is_amount {
+        0
+    } else {
+        2 - usize::from(is_key)
+    }
+}
+
+/// Tries the words of the forests in an order, with each word changed; `tried` says whether it took them for sound.
+pub fn change_each_word(
+    order: Order,
+    forests: &[Queues],
+    mut tried: impl FnMut(&[u32]) -> Verdict<bool>,
+) -> Verdict<Seen> {
+    let mut seen = Seen::default();
+    for queues in forests {
+        let (items, words) = (queues.capacity, order.encode(queues));
+        tried(&words)?;
         for at in 0..words.len() {
-            let kind = if amounts.contains(&at) { 0 } else { 2 - usize::from(keys.contains(&at)) };
+            let kind = kind(order, items, at);
             let mut values = candidates(words[at], items);
             if kind < 2 {
-                values.extend(at_the_limit(&words, items).into_iter().filter(|&value| value != words[at]));
+                values.extend(at_the_limit(queues).into_iter().filter(|&value| value != words[at]));
             }
             for value in values {
                 let mut changed = words.clone();
                 changed[at] = value;
-                seen[kind][usize::from(judge(checker, &changed)?)] += 1;
+                seen[kind][usize::from(tried(&changed)?)] += 1;
             }
         }
     }
-    // No other word but an amount and a key can be changed alone.
+    Ok(seen)
+}
+
+/// Both verdicts must occur often enough. No other word but an amount and a key can be changed alone.
+pub fn suffices(seen: Seen) -> Verdict {
     let [[bad_amounts, amounts], [bad_keys, keys], [others, _]] = seen;
     match [bad_amounts, amounts, bad_keys, keys, others].iter().all(|&times| times >= 100) {
         true => Ok(()),
@@ -127,10 +149,16 @@ pub fn single_changes(checker: &mut Checker) -> Verdict {
     }
 }
 
+/// Every word of small stores with amounts, changed.
+pub fn single_changes(checker: &mut Checker) -> Verdict {
+    let forests = small_forests_with_amounts(&mut Random::new(38));
+    suffices(change_each_word(Order::ByItem, &forests, |words| judge(checker, words))?)
+}
+
 /// Several words changed: amounts, key words, any.
 pub fn several_changes(checker: &mut Checker) -> Verdict {
     let mut random = Random::new(39);
-    let stores = small_stores_with_amounts(&mut random);
+    let stores: Vec<Vec<u32>> = small_forests_with_amounts(&mut random).iter().map(store::encode).collect();
     for _ in 0..30_000 {
         let mut words = random.pick(&stores).clone();
         let items = store::items(words.len()).expect("a store") as u32;
@@ -179,34 +207,44 @@ pub fn in_order_by_words(queues: &Queues) -> bool {
     store::well_formed(&forest::by_words(queues))
 }
 
-/// Every forest of up to three items in one heap, with every marking, key words of 0, 1 and the largest number, and
-/// amounts around them.
-pub fn every_small_forest(checker: &mut Checker) -> Verdict {
-    for items in 1..=3u32 {
-        let numbers: Vec<u32> = (0..items).collect();
-        for row in forest::every_row(&numbers) {
-            for number in 0..3u32.pow(items) << items {
-                let (mut marks, mut no_keys) = (number & ((1 << items) - 1), 0);
-                let mut queues = Queues::new(items);
-                queues.rows[0] = row.clone();
-                forest::dress(&mut queues.rows[0], &mut no_keys, &mut marks);
-                let mut words = store::encode(&queues);
-                for item in 0..items {
-                    let digit = (number >> items) / 3u32.pow(item) % 3;
-                    words[index(items as usize, Field::Key, item)] = [0, 1, u32::MAX][digit as usize];
-                }
-                for amount in [0, 1, 2, u32::MAX - 1, u32::MAX] {
-                    words[heap_index(HeapField::Amount, 0)] = amount;
-                    // The minimum is not worked out here, so that each item is tried as it.
-                    for first in 0..items {
-                        words[heap_index(HeapField::FirstItem, 0)] = first;
-                        checker.sound(&words)?;
-                    }
-                }
+/// The amounts of the heap in `every_small_store`.
+const AMOUNTS: [u32; 5] = [0, 1, 2, u32::MAX - 1, u32::MAX];
+
+/// Tries every forest of up to three items in one heap, with every marking, key words of 0, 1 and the largest number, and
+/// amounts around them, as words in an order.
+pub fn every_small_store(order: Order, mut tried: impl FnMut(&[u32]) -> Verdict) -> Verdict {
+    let rows = |items: u32| forest::every_row(&(0..items).collect::<Vec<u32>>());
+    let heaps = (1..=3).flat_map(|items| rows(items).into_iter().map(move |row| heap_of(items, row)));
+    for queues in heaps {
+        let items = queues.capacity;
+        for number in 0..3u32.pow(items) << items {
+            let mut words = dressed(order, queues.clone(), number);
+            // The minimum is not worked out here, so that each item is tried as it.
+            for (amount, first) in AMOUNTS.iter().flat_map(|&amount| (0..items).map(move |first| (amount, first))) {
+                words[heap_index(HeapField::Amount, 0)] = amount;
+                words[heap_index(HeapField::FirstItem, 0)] = first;
+                tried(&words)?;
             }
         }
     }
     Ok(())
+}
+
+/// The words of heap 0 with marks and key words by the digits of a number.
+fn dressed(order: Order, mut queues: Queues, number: u32) -> Vec<u32> {
+    let items = queues.capacity;
+    let (mut marks, mut no_keys) = (number & ((1 << items) - 1), 0);
+    forest::dress(&mut queues.rows[0], &mut no_keys, &mut marks);
+    let mut words = order.encode(&queues);
+    for item in 0..items {
+        let digit = (number >> items) / 3u32.pow(item) % 3;
+        words[order.index(items as usize, Field::Key, item)] = [0, 1, u32::MAX][digit as usize];
+    }
+    words
+}
+
+pub fn every_small_forest(checker: &mut Checker) -> Verdict {
+    every_small_store(Order::ByItem, |words| checker.sound(words).map(drop))
 }
 
 /// The largest shapes with amounts: the check, takings, and raises up to the largest number and beyond.

@@ -56,8 +56,8 @@ pub fn large_forests(checker: &mut Checker) -> Verdict {
             let cutting = [format!("D,{last},0\nT,0\nT,0\n"), format!("X,{last}\nT,0\nT,0")];
             for sheet in cutting.into_iter().chain(["T,0".into(), "T,0\nT,0\nT,0\n".into()]) {
                 let ran = checker.kept(&words, sheet.as_bytes(), 96)?;
-                let ranks = &ran.words[index(queues.capacity as usize, Field::Rank, 0)..];
-                highest = highest.max(ranks[..queues.capacity as usize].iter().copied().max().unwrap_or(0));
+                let rank = |item: u32| ran.words[index(queues.capacity as usize, Field::Rank, item)];
+                highest = highest.max((0..queues.capacity).map(rank).max().unwrap_or(0));
             }
             let lines = sheets::lines(&mut random, &queues, &LARGE);
             checker.kept(&words, &sheets::sheet(&lines, false), 120 * 32)?;

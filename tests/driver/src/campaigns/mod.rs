@@ -16,6 +16,7 @@ pub mod runs;
 pub mod span_counts;
 pub mod stores;
 pub mod ties;
+pub mod turns;
 pub mod windows;
 
 use crate::check::{Checker, Verdict};
@@ -32,7 +33,7 @@ const fn campaign(part: Part, name: &'static str, run: fn(&mut Checker) -> Verdi
 }
 
 /// Quick ones first, so that a wrong engine is caught soon.
-pub const ALL: [Campaign; 95] = [
+pub const ALL: [Campaign; 107] = [
     campaign(Part::Modem, "modem: worked runs and limits", codes::modem),
     campaign(Part::Modem, "modem: zeros before every number", numbers::modem),
     campaign(Part::Modem, "modem: raises", raises::modem),
@@ -49,6 +50,7 @@ pub const ALL: [Campaign; 95] = [
     campaign(Part::Runs, "runs: joins of raised heaps", raises::joins),
     campaign(Part::Runs, "stores: amounts and none, same answers", amounts::same_answers),
     campaign(Part::Runs, "stores: four words a heap, as before", amounts::four_words_a_heap),
+    campaign(Part::Runs, "stores: words by kind, as before", turns::kept_as_they_were),
     campaign(Part::Runs, "stores: every single-word change, amounts", amounts::single_changes),
     campaign(Part::Runs, "stores: several changes, amounts", amounts::several_changes),
     campaign(Part::Runs, "stores: careless forests with amounts", amounts::careless_forests),
@@ -67,6 +69,17 @@ pub const ALL: [Campaign; 95] = [
     campaign(Part::Runs, "runs: every cut into kept runs", runs::every_cut),
     campaign(Part::Runs, "stores: large forests, ranks to 16", large_stores::large_forests),
     campaign(Part::Runs, "stores: large forests with amounts", amounts::large_forests),
+    campaign(Part::Turn, "turns: stores written out by hand", turns::worked),
+    campaign(Part::Turn, "turns: lengths of both buffers", turns::lengths),
+    campaign(Part::Turn, "turns: any words in the second buffer", turns::second_buffers),
+    campaign(Part::Turn, "turns: four words a heap, as before", turns::four_words_a_heap),
+    campaign(Part::Turn, "turns: stores turned already", turns::turned_already),
+    campaign(Part::Turn, "turns: every forest of three, amounts", turns::every_small_forest),
+    campaign(Part::Turn, "turns: every single-word change", turns::single_changes),
+    campaign(Part::Turn, "turns: several changes, careless forests", turns::several_changes),
+    campaign(Part::Turn, "turns: each call on turned stores", turns::calls_on_turned_stores),
+    campaign(Part::Turn, "turns: sheets on turned stores", turns::sheets_on_turned_stores),
+    campaign(Part::Turn, "turns: large stores", turns::large_stores),
     campaign(Part::Feed, "feed: worked run", feeds::worked),
     campaign(Part::Feed, "feed: worked windows", windows::worked),
     campaign(Part::Feed, "feed: worked ties", ties::worked),

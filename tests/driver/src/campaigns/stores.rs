@@ -82,19 +82,24 @@ pub fn several_changes(checker: &mut Checker) -> Verdict {
     let stores = small_stores(&mut random);
     for _ in 0..60_000 {
         let mut words = random.pick(&stores).clone();
-        let items = store::items(words.len()).expect("a store") as u32;
-        for _ in 0..2 + random.size(3) {
-            let at = random.size(words.len());
-            words[at] = match random.below(4) {
-                0 => random.word() as u32,
-                1 => words[random.size(words.len())],
-                2 => *random.pick(&candidates(words[at], items)),
-                _ => random.below(u64::from(items) + 2) as u32,
-            };
-        }
+        change_a_few(&mut random, &mut words);
         judge(checker, &words)?;
     }
     Ok(())
+}
+
+/// Changes two to four words of a store.
+pub fn change_a_few(random: &mut Random, words: &mut [u32]) {
+    let items = store::items(words.len()).expect("a store") as u32;
+    for _ in 0..2 + random.size(3) {
+        let at = random.size(words.len());
+        words[at] = match random.below(4) {
+            0 => random.word() as u32,
+            1 => words[random.size(words.len())],
+            2 => *random.pick(&candidates(words[at], items)),
+            _ => random.below(u64::from(items) + 2) as u32,
+        };
+    }
 }
 
 /// Writes an item that stands in no row: its neighbours and parent are as given.

@@ -1,6 +1,7 @@
 //! Faults in feed calls with a budget.
 
 use super::joints::Table;
+use super::layouts::Moment;
 use super::search::{Entry, Within};
 use super::Mock;
 use super::Variant::*;
@@ -123,6 +124,7 @@ impl Mock {
             }
             Some(WaitingPlacesLeftInStore) => lists.store.copy_from_slice(&store::encode(&waiting().queues)),
             Some(FeedLeavesAnAmount) => lists.store[heap_index(HeapField::Amount, 0)] = 1,
+            Some(HeapWordsLast) => self.lay_out(lists.store, Moment::Fed),
             _ => {}
         }
     }

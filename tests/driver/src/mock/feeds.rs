@@ -1,6 +1,7 @@
 //! Faults in feed calls.
 
 use super::joints::Table;
+use super::layouts::Moment;
 use super::search::Within;
 use super::Mock;
 use super::Variant::*;
@@ -67,6 +68,7 @@ impl Mock {
             }
             Some(FeedStoreLeftAsFound) => store.copy_from_slice(found),
             Some(FeedLeavesAnAmount) => store[heap_index(HeapField::Amount, 0)] = 1,
+            Some(HeapWordsLast) => self.lay_out(store, Moment::Fed),
             Some(FeedCountsZero) => figures[..2].fill(0),
             Some(StartShowsASpan) => {
                 let into = (0..spans.to.len()).find(|&span| spans.to[span] == start);

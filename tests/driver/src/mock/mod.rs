@@ -13,6 +13,7 @@ mod programs;
 mod raises;
 mod runs;
 mod search;
+mod turns;
 mod windows;
 
 use crate::engine::{BudgetLists, Engine, FeedLists, Part};
@@ -85,8 +86,32 @@ variants! {
     [FeedProgram] FeedProgramStoreOf8224Words;
     // What a feed call leaves in the words of heap 0.
     [Feed Budget] FeedLeavesAnAmount;
-    // The check of a kept store.
+    // Where the words of a store lie. In the part of one entry only that entry has the fault.
+    [Runs Turn] WordsByKind StateIsTheFirstWord NextAndPreviousExchanged;
+    // A feed call leaves free items, whose words are all 0: only where the heap words lie is seen there.
+    [Runs Turn Feed Budget] HeapWordsLast;
+    // The order of words before request 8, still used at one place.
     [Runs]
+        FreshRunLeavesWordsByKind KeptRunLeavesWordsByKind KeptRunReadsWordsByKind KeptStoreCheckedByKind
+        StoreSoundByKind EitherOrderKept EitherOrderSound;
+    [Modem Runs QueueProgram] JoinRewritesByKind RaiseTestedByKind;
+    // The turn: which words are written, and where.
+    [Turn]
+        TurnedBack TurnedTwice TurnedInPlace HeapWordsNotTurned AmountsNotTurned AmountsTurnedToZero
+        ItemsTurnedFromWord32 LastItemNotTurned StatesNotTurned FreeItemsNotTurned ZeroWordsNotTurned MarksNotTurned
+        KeysTurnedForKeyWords AmountsTurnedIntoKeyWords NoneTurnedIn16Bits TurnedItemCutTo8Bits TurnedPlaceCutTo15Bits;
+    // The turn: which stores are refused, and under which code.
+    [Turn]
+        UnsoundStoreTurned OldStoreCheckedByItem EitherOrderTurned SecondBufferChecked UnsoundStoreGets1
+        SoundnessTestedBeforeLengths LongerSecondBufferAccepted ShorterSecondBufferAccepted OddLengthTurned
+        StoreOf4097ItemsTurned StoreOf4096ItemsNotTurned StoreOfNoItemsNotTurned WrongLengthGets5 UnequalLengthsGet5
+        LengthsComparedIn16Bits;
+    // The turn: what a refusal leaves, and what becomes of the old store.
+    [Turn]
+        TurnedBeforeTheCheck HeapWordsTurnedBeforeTheCheck SecondBufferZeroedOnRefusal SecondBufferEmptiedOnRefusal
+        OldStoreZeroedOnRefusal OldStoreEmptiedWhenTurned OldStoreTurnedToo;
+    // The check of a kept store, and of one that is turned.
+    [Runs Turn]
         SmallChildAccepted MarkedRootAccepted HeapOrderIgnored CountsIgnored EveryStoreSound NoStoreSound
         MarkedSecondChildRefused AmountOnEmptyHeapAccepted OrderCheckedByWords FirstItemCheckedByWords
         AnyAmountRefused WrappedKeyRefused;
@@ -212,6 +237,10 @@ impl Engine for Mock {
 
     fn store_sound(&self, store: &[u32]) -> u32 {
         u32::from(self.accepts_lent(store).is_some())
+    }
+
+    fn turn_store(&self, old: &mut [u32], turned: &mut [u32]) -> u32 {
+        self.in_part(Part::Turn).faulty_turn(old, turned)
     }
 
     fn feed_table(&self, asked: Asked, lists: FeedLists, figures: &mut [u32; 3]) -> u32 {

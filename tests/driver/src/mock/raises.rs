@@ -3,6 +3,7 @@
 use super::Mock;
 use super::Variant::*;
 use crate::forest;
+use reference::store::{self, Field, Order};
 use reference::{text, Answer, Call, Queues, Tree};
 
 /// The keys that the same words stand for under another amount.
@@ -96,6 +97,7 @@ impl Mock {
             Some(ByTheAmount25) => !row.is_empty() && passes(Some(queues.amounts[heap]), by),
             Some(OfAnyHeap25) => (0..8).any(|heap| passes(queues.largest_key(heap), by)),
             Some(OfEmptyHeaps25) => passes(largest(queues).or(Some(u32::MAX)), by),
+            Some(RaiseTestedByKind) => passes(largest_by_kind(queues, heap), by),
             _ => passes(largest(queues), by),
         }
     }
@@ -201,6 +203,7 @@ impl Mock {
             }
             (ElevenByWord, Call::DecreaseKey { item, key }) => Some(lower_to(queues, item, key)),
             (OrderByWords, call) => Some(answer_in_words(queues, call)),
+            (JoinRewritesByKind, Call::Meld { into, from }) => Some(join_by_kind(queues, into, from)),
             _ => None,
         }
     }
@@ -238,6 +241,31 @@ impl Mock {
         };
         answer.key = answer.key.wrapping_sub(amount);
     }
+}
+
+/// Where the key words of a heap's items were by kind.
+fn key_places_by_kind(queues: &Queues, heap: usize) -> Vec<usize> {
+    let of_heap = forest::nodes_by_heap(queues).filter(|&(other, _)| other == heap);
+    of_heap.map(|(_, node)| Order::ByKind.index(queues.capacity as usize, Field::Key, node.item)).collect()
+}
+
+/// The largest key of a heap, if key words are looked for where they were by kind.
+fn largest_by_kind(queues: &Queues, heap: usize) -> Option<u32> {
+    let words = store::encode(queues);
+    let keys = key_places_by_kind(queues, heap).into_iter().map(|at| words[at].wrapping_add(queues.amounts[heap]));
+    keys.max()
+}
+
+/// A join that rewrites words where the joined key words were by kind. Words that then lead to no forests stay.
+fn join_by_kind(queues: &mut Queues, into: u32, from: u32) -> Answer {
+    let [a, b] = [into, from].map(|heap| queues.amounts[heap as usize]);
+    let rewritten = key_places_by_kind(queues, from as usize);
+    queues.rows[from as usize].iter_mut().for_each(|root| shift(root, a.wrapping_sub(b)));
+    let answer = queues.answer(Some(Call::Meld { into, from }));
+    let mut words = store::encode(queues);
+    rewritten.into_iter().for_each(|at| words[at] = words[at].wrapping_add(b.wrapping_sub(a)));
+    *queues = store::decode(&words).unwrap_or(queues.clone());
+    answer
 }
 
 /// Gives an item any key, larger ones too, and cuts it if it then comes before its parent.

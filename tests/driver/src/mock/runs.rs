@@ -1,5 +1,6 @@
 //! Faults in runs and in the check of a kept store.
 
+use super::layouts::{by_item, Moment};
 use super::Mock;
 use super::Variant::*;
 use crate::forest;
@@ -16,11 +17,24 @@ impl Mock {
             words.resize(words.len() + WORDS_A_HEAP + 3, 0);
         }
         store::items(words.len())?;
-        self.lay_out(&mut words, true);
-        self.accepts(&words)
+        self.lay_out(&mut words, Moment::Checked);
+        match self.accepts(&words) {
+            None if self.is(EitherOrderSound) => self.accepts(&by_item(&words)),
+            found => found,
+        }
     }
 
-    fn accepts(&self, words: &[u32]) -> Option<Queues> {
+    /// The forests that a kept run goes on from.
+    fn accepts_kept(&self, words: &[u32]) -> Option<Queues> {
+        match self.variant {
+            Some(KeptStoreCheckedByKind) => self.accepts(&by_item(words)).and_then(|_| store::decode(words)),
+            Some(EitherOrderKept) => self.accepts(words).or_else(|| self.accepts(&by_item(words))),
+            _ => self.accepts(words),
+        }
+    }
+
+    /// The check of words at their right places.
+    pub(super) fn accepts(&self, words: &[u32]) -> Option<Queues> {
         let decoded = store::decode(words)?;
         let exact = store::encode(&decoded) == words;
         let roots = || decoded.rows.iter().flatten();
@@ -81,11 +95,11 @@ impl Mock {
         }
         let is_store = store::items(own.len()).is_some();
         if is_store && kept {
-            self.lay_out(&mut own, true);
+            self.lay_out(&mut own, Moment::Kept);
         }
         let run = self.run_laid_out(kept, &mut own, sheet, out);
         if run.code == 0 {
-            self.lay_out(&mut own, false);
+            self.lay_out(&mut own, if kept { Moment::LeftKept } else { Moment::LeftFresh });
             words.copy_from_slice(&own[..words.len()]);
         }
         run
@@ -103,7 +117,7 @@ impl Mock {
         let items = store::items(words.len()).expect("tested") as u32;
         let mut queues = Queues::new(items);
         if kept {
-            match self.accepts(words) {
+            match self.accepts_kept(words) {
                 Some(_) if self.is(KeptRunEmptiesTheStore) => {}
                 Some(found) => queues = found,
                 None => return Run { code: 5, ..Run::default() },
