@@ -7,8 +7,13 @@
  * allocated and nothing is kept between calls.
  *
  * A store for N items, N from 0 to 4,096, is 40 + 8N words, and its length says what N is. First come five words for each
- * of the heaps 0 to 7: first tree, last tree, first item, item count and amount. Then come N words of each kind: key,
- * parent, first child, last child, next sibling, previous sibling, rank and state.
+ * of the heaps 0 to 7: first tree, last tree, first item, item count and amount. Then come eight words for each of the
+ * items 0 to N - 1: key, parent, first child, last child, next sibling, previous sibling, rank and state. So word c of
+ * item i, from c = 0 for the key to c = 7 for the state, is word 40 + 8i + c.
+ *
+ * An old store is one as runs left it before turn_store was there. It has the same words, those of the heaps at the same
+ * places, but those of the items by kind: first N keys, then N parents, and so on, so that word c of item i is word
+ * 40 + cN + i. turn_store turns an old store into a new one; no other call reads or leaves words in the old order.
  *
  * The amount of a heap is what its key words lack: an item's key is its key word plus the amount of its heap, and of the
  * sum 32 bits count. So a raise changes one word of the store, and key words alone tell neither keys nor their order. A
@@ -25,12 +30,12 @@
  * A number in a sheet or a map text has one to ten digits, leading zeros among them, and is at most 4,294,967,295: `T,07`
  * takes from heap 7, while `T,-7` and `T,00000000007` are no calls. What is written has no leading zeros.
  *
- * Codes of a run, of a feed call and of the map reader, the first whose condition is met; 0 is done:
- *    1  the store is not 40 + 8N words
+ * Codes of a run, of turn_store, of a feed call and of the map reader, the first whose condition is met; 0 is done:
+ *    1  the store is not 40 + 8N words, or the two stores of turn_store are of different lengths
  *    2  the sheet is over 60,000 bytes
  *    3  the sheet has over 2,000 lines
  *    4  the output has fewer than 32 bytes a line
- *    5  the kept store is not sound
+ *    5  the kept store is not sound, or the old one of turn_store is not, read in the old order
  *   14  no places, or over 4,096
  *   15  the start is not a place
  *   24  the minute is above 1,439
@@ -86,6 +91,12 @@ uint32_t kept_run(uint32_t *store, size_t store_len, const uint8_t *sheet, size_
 
 /* Returns 1 if the words, any number of them, are those of a sound store, else 0. */
 uint32_t store_sound(const uint32_t *store, size_t store_len);
+
+/* Turns a sound old store into the new order, in a second area: each word of an item goes from its old place to its new
+ * one, those of the heaps to the same places. Returns 0, 1 or 5; 1 comes before 5. The old store is only read. When it is
+ * done, turned is a sound store of the same heaps, whatever was there before, and a kept run on it answers as one on the
+ * old store did; after a refusal it is as it was. */
+uint32_t turn_store(const uint32_t *old, size_t old_len, uint32_t *turned, size_t turned_len);
 
 /* The feed table of a map at a minute of the day: span e leads from place from[e] to place to[e] at loss[e]. It is usable
  * at a minute that is opens[e] or later and before closes[e]; with 0 and 1,440 it always is. Chains are made of the spans

@@ -5,10 +5,11 @@
 
 #define ITEMS 16
 #define STORE(items) (40 + 8 * (items))
-#define OLD_STORE(items) (32 + 8 * (items)) /* of four words a heap */
+#define STORE_OF_FOUR(items) (32 + 8 * (items)) /* of four words a heap */
 #define COUNT_OF_HEAP_0 3 /* the word */
 #define AMOUNT_OF(heap) (5 * (heap) + 4)
 #define FILL 0xA5A5A5A5u
+#define NONE CABLE_QUEUE_NONE
 
 typedef struct {
     uint8_t *at;
@@ -168,12 +169,11 @@ static void try_worked_runs(void) {
     free(other.at);
 }
 
-/* Where the eight words of an item lie, block by block. */
+/* The eight words of an item, side by side. */
 enum { KEY, PARENT, FIRST_CHILD, LAST_CHILD, NEXT, PREVIOUS, RANK, STATE };
 
 static uint32_t word_of(words store, int field, uint32_t item) {
-    size_t items = (store.len - STORE(0)) / 8;
-    return store.at[STORE(0) + (size_t)field * items + item];
+    return store.at[STORE(item) + (size_t)field];
 }
 
 /* Raises, each row a kept run on what the row before left: a sheet and its answers, and after it the key word of an item
@@ -263,18 +263,18 @@ static void try_largest_store(void) {
 }
 
 static void try_refused_runs(void) {
-    words store = filled(STORE(ITEMS)), odd = filled(41), old = filled(OLD_STORE(0));
+    words store = filled(STORE(ITEMS)), odd = filled(41), four = filled(STORE_OF_FOUR(0));
     expect("words of no store: 5", refused(kept_run, 5, store, 1, 32));
     expect("words of no store: not sound", store_sound(store.at, store.len) == 0);
     expect("41 words: not sound", store_sound(odd.at, odd.len) == 0);
-    expect("32 words: not sound", store_sound(old.at, old.len) == 0);
+    expect("32 words: not sound", store_sound(four.at, four.len) == 0);
     expect("the header's number of words", CABLE_QUEUE_STORE_WORDS(0) == 40 && CABLE_QUEUE_STORE_WORDS(256) == 2088);
     expect("no words: not sound", store_sound(odd.at, 0) == 0);
     expect("a fresh run", answers(fresh_run, store, worked_sheet, worked_answers));
     expect("its store: sound", store_sound(store.at, store.len) == 1);
 
     expect("41 words: 1, before 2", refused(fresh_run, 1, odd, 60001, 0) && refused(kept_run, 1, odd, 60001, 0));
-    expect("32 words: 1, before 2", refused(fresh_run, 1, old, 60001, 0) && refused(kept_run, 1, old, 60001, 0));
+    expect("32 words: 1, before 2", refused(fresh_run, 1, four, 60001, 0) && refused(kept_run, 1, four, 60001, 0));
     expect("60,001 bytes: 2, before 3", refused(fresh_run, 2, store, 60001, 0) && refused(kept_run, 2, store, 60001, 0));
     expect("2,001 lines: 3, before 4", refused(fresh_run, 3, store, 2001, 0) && refused(kept_run, 3, store, 2001, 0));
     expect("31 bytes: 4", refused(fresh_run, 4, store, 1, 31) && refused(kept_run, 4, store, 1, 31));
@@ -285,7 +285,132 @@ static void try_refused_runs(void) {
     expect("item count 1, all free: 5, after 4", refused(kept_run, 5, store, 0, 0) && refused(kept_run, 4, store, 1, 0));
     free(store.at);
     free(odd.at);
+    free(four.at);
+}
+
+/* Turns. */
+
+#define THREE 3 /* items of the store that is turned here */
+
+/* Heap 3, raised by 10: its row is 2, 0, and 1 stands below 0, marked. Keys 14, 19 and 25. */
+static const uint32_t heap_before[5] = { 2, 0, 0, 3, 10 };
+static const uint32_t by_kind[8 * THREE] = {
+    4,    9,    15,   /* keys, each less 10 */
+    NONE, 0,    NONE, /* parents */
+    1,    NONE, NONE, /* first children */
+    1,    NONE, NONE, /* last children */
+    NONE, NONE, 0,    /* next siblings */
+    2,    NONE, NONE, /* previous siblings */
+    1,    0,    0,    /* ranks */
+    7,    8,    7,    /* states */
+};
+static const uint32_t by_item[8 * THREE] = {
+    4,  NONE, 1,    1,    NONE, 2,    1, 7, /* item 0 */
+    9,  0,    NONE, NONE, NONE, NONE, 0, 8, /* item 1 */
+    15, NONE, NONE, NONE, 0,    NONE, 0, 7, /* item 2 */
+};
+
+/* A sheet for the turned store, and what it leaves: 1 is free, and 2 stands below 0. */
+static const char then_sheet[] = "M,3\nD,1,13\nA,3,5\nT,3\nM,3\nT,-7\nM,4\n";
+static const char then_answers[] =
+    "0,0,14,0,0\n0,1,13,0,1\n0,3,3,0,0\n0,1,18,1,0\n0,0,19,0,0\n6,0,0,0,0\n12,0,0,0,0\n";
+static const uint32_t heap_after[5] = { 0, 0, 0, 2, 15 };
+static const uint32_t by_item_after[8 * THREE] = {
+    4,  NONE, 2,    2,    NONE, NONE, 1, 7, /* item 0 */
+    0,  0,    0,    0,    0,    0,    0, 0, /* item 1 */
+    15, 0,    NONE, NONE, NONE, NONE, 0, 7, /* item 2 */
+};
+
+/* A store for three items with these words of heap 3 and of the items; the other heaps are empty. */
+static words three_items(const uint32_t *heap_words, const uint32_t *item_words) {
+    static const uint32_t empty[5] = { NONE, NONE, NONE, 0, 0 };
+    words store = filled(STORE(THREE));
+    for (size_t heap = 0; heap < 8; heap++) memcpy(store.at + 5 * heap, heap == 3 ? heap_words : empty, sizeof empty);
+    memcpy(store.at + STORE(0), item_words, sizeof by_item);
+    return store;
+}
+
+/* The turn into so many words returns the code and leaves the old store. Done, it leaves the expected words in the second
+ * area; refused, what was there. */
+static int turns_under(uint32_t code, words old, size_t turned_len, words expected) {
+    words before = copy_words(old.at, old.len), turned = filled(turned_len);
+    int same = turn_store(old.at, old.len, turned.at, turned.len) == code && same_words(old, before);
+    same &= code == 0 ? same_words(turned, expected) : untouched(turned, 0);
+    free(before.at);
+    free(turned.at);
+    return same;
+}
+
+static int turns(words old, words expected) {
+    return turns_under(0, old, old.len, expected);
+}
+
+static int turn_refused(uint32_t code, words old, size_t turned_len) {
+    return turns_under(code, old, turned_len, old);
+}
+
+static void try_turns(void) {
+    words old = three_items(heap_before, by_kind), turned = three_items(heap_before, by_item);
+    words left = three_items(heap_after, by_item_after), store = filled(STORE(THREE));
+    expect("a store is turned", turns(old, turned));
+    expect("turned already: 5", turn_refused(5, turned, turned.len));
+    expect("the old store: not sound", store_sound(old.at, old.len) == 0 && refused(kept_run, 5, old, 1, 32));
+    expect("turned to be kept", turn_store(old.at, old.len, store.at, store.len) == 0);
+    expect("the turned store: sound", store_sound(store.at, store.len) == 1);
+    expect("a kept run on the turned store", answers(kept_run, store, then_sheet, then_answers));
+    expect("what it leaves", same_words(store, left) && store_sound(store.at, store.len) == 1);
     free(old.at);
+    free(turned.at);
+    free(left.at);
+    free(store.at);
+}
+
+/* A store of free items, or of none, has the same words in both orders. */
+static void try_empty_turns(void) {
+    static const size_t items[] = { 0, 1, 2, 256, 4096 };
+    for (size_t i = 0; i < sizeof items / sizeof *items; i++) {
+        words empty = filled(STORE(items[i]));
+        expect("an empty store is turned", answers(fresh_run, empty, "", "") && turns(empty, empty));
+        free(empty.at);
+    }
+}
+
+/* One more in each word of the old store: only key words and the amount of heap 3 can be changed alone. */
+static void try_changed_turns(void) {
+    for (size_t at = 0; at < STORE(THREE); at++) {
+        words old = three_items(heap_before, by_kind), expected = three_items(heap_before, by_item);
+        int is_key = at >= STORE(0) && at < STORE(0) + THREE;
+        old.at[at]++;
+        if (is_key) {
+            expected.at[STORE(at - STORE(0)) + KEY]++;
+            expect("a changed key word", turns(old, expected));
+        } else if (at == AMOUNT_OF(3)) {
+            expected.at[at]++;
+            expect("a changed amount", turns(old, expected));
+        } else {
+            expect("a changed word: 5", turn_refused(5, old, old.len));
+        }
+        free(old.at);
+        free(expected.at);
+    }
+}
+
+static void try_lengths_of_turns(void) {
+    static const size_t others[] = { 0, 1, 32, 40, 56, 63, 65, 72, STORE(4096), STORE(4097) };
+    static const size_t wrong[] = { 0, 1, 32, 39, 41, 47, 49, 63, 65, STORE(4096) - 1, STORE(4096) + 1, STORE(4097) };
+    words old = three_items(heap_before, by_kind), unsound = filled(STORE(THREE));
+    for (size_t i = 0; i < sizeof others / sizeof *others; i++) {
+        expect("areas of different lengths: 1", turn_refused(1, old, others[i]));
+        expect("areas of different lengths: 1, before 5", turn_refused(1, unsound, others[i]));
+    }
+    for (size_t i = 0; i < sizeof wrong / sizeof *wrong; i++) {
+        words odd = filled(wrong[i]);
+        expect("a length of no store: 1", turn_refused(1, odd, odd.len) && turn_refused(1, odd, STORE(THREE)));
+        free(odd.at);
+    }
+    expect("words of no store: 5", turn_refused(5, unsound, unsound.len));
+    free(old.at);
+    free(unsound.at);
 }
 
 /* The feed table. */
@@ -302,7 +427,6 @@ typedef struct {
     uint32_t best[MOST], last[MOST], joints[MOST], links, examined;
 } table;
 
-#define NONE CABLE_QUEUE_NONE
 #define LENGTHS 3, 3, 3, 3, 3, 3, 3, 3, STORE(3)
 static const feed_call worked_map = { 3, 0, 0, { 0, 0, 1 }, { 1, 2, 2 }, { 7, 20, 5 }, { 0, 0, 0 }, { 1440, 1440, 1440 },
                                       LENGTHS };
@@ -630,7 +754,7 @@ static void try_refused_feeds(void) {
     EARLY("2 words of joints, 3 places: 17", joints_len, 2, 17);
     EARLY("4 words of joints, 3 places: 17", joints_len, 4, 17);
     EARLY("a store for 2, 3 places: 17", store_len, STORE(2), 17);
-    EARLY("a store of four words a heap: 17", store_len, OLD_STORE(3), 17);
+    EARLY("a store of four words a heap: 17", store_len, STORE_OF_FOUR(3), 17);
     EARLY("a word too few: 17", store_len, STORE(3) - 1, 17);
     EARLY("a word too many: 17", store_len, STORE(3) + 1, 17);
     LATE("from 3 of 3: 18", from[2], 3, 18);
@@ -750,6 +874,10 @@ int main(void) {
     try_amounts();
     try_largest_store();
     try_refused_runs();
+    try_turns();
+    try_empty_turns();
+    try_changed_turns();
+    try_lengths_of_turns();
     try_tables();
     try_budgets();
     try_ties();
