@@ -1,5 +1,5 @@
-/* What is measured, each on all sides that are linked: HAVE_MODEM and HAVE_HOST for the product's libraries, HAVE_LEMON
-   and HAVE_BOOST for the others. */
+/* What is measured, each on all sides that are linked: HAVE_MODEM, HAVE_HOST and HAVE_TURN for the product's libraries,
+   HAVE_LEMON and HAVE_BOOST for the others. */
 #ifndef BENCH_H
 #define BENCH_H
 

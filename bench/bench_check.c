@@ -18,8 +18,8 @@ enum { KEYS = 1000000, STIRS = 32, MAX_WORDS = HEAP_WORDS + ITEM_WORDS * MAX_ITE
 
 enum { CHECK, TURN, SIDES };
 
-/* The words of the full store, the same in the old order, and what these are turned into. */
-static uint32_t words[MAX_WORDS], old[MAX_WORDS], turned[MAX_WORDS];
+/* The words of the full store. */
+static uint32_t words[MAX_WORDS];
 static store full;
 static uint8_t out[LINE_ROOM * MAX_LINES];
 static char sheet[MAX_BYTES];
@@ -86,6 +86,13 @@ static void make_full(uint32_t items)
         stir();
 }
 
+static void print_time(double ns) { printf(" %8.1f us %6.1f ns an item", ns / 1e3, ns / full.items); }
+
+#ifdef HAVE_TURN
+
+/* The same in the old order, and what these words are turned into. */
+static uint32_t old[MAX_WORDS], turned[MAX_WORDS];
+
 static void turn(void)
 {
     if (turn_store(old, words_len(), turned, words_len()) != 0)
@@ -118,22 +125,6 @@ static void run_side(int side)
         turn();
 }
 
-static void print_time(double ns) { printf(" %8.1f us %6.1f ns an item", ns / 1e3, ns / full.items); }
-
-static void bench_kept(void)
-{
-    double ns;
-    printf("kept_run of an empty sheet on a full store\n");
-    for (uint32_t items = 256; items <= MAX_ITEMS; items *= 2) {
-        make_full(items);
-        print_shape();
-        measure(1, run_side, &ns);
-        print_time(ns);
-        print_mark("below 40 ns", ns / items < 40);
-        printf("\n");
-    }
-}
-
 static void bench_turn(void)
 {
     double ns[SIDES];
@@ -146,6 +137,32 @@ static void bench_turn(void)
         printf("  %4u items:", items);
         print_time(ns[TURN]);
         printf("   %.2f of kept_run, %.1f ns an item\n", ns[TURN] / ns[CHECK], ns[CHECK] / items);
+    }
+}
+
+#else
+
+static void run_side(int side)
+{
+    (void)side;
+    run_kept(0);
+}
+
+static void bench_turn(void) {}
+
+#endif
+
+static void bench_kept(void)
+{
+    double ns;
+    printf("kept_run of an empty sheet on a full store\n");
+    for (uint32_t items = 256; items <= MAX_ITEMS; items *= 2) {
+        make_full(items);
+        print_shape();
+        measure(1, run_side, &ns);
+        print_time(ns);
+        print_mark("below 40 ns", ns / items < 40);
+        printf("\n");
     }
 }
 

@@ -1,4 +1,4 @@
-/* The C interface of the queue engine: libmodem.a has queue_run, libhost.a all the others.
+/* The C interface of the queue engine: libmodem.a has queue_run, libturn.a turn_store, libhost.a all the others.
  *
  * A lent area is two arguments: a pointer, then the number of its elements. Figures are one argument, a pointer to as
  * many words as the declaration says: they come without a length. Pointers are never NULL, not even with the number 0,

@@ -8,6 +8,7 @@ fn main() {
     plain();
     engine("CARGO_FEATURE_ENGINE_MODEM", "modem");
     engine("CARGO_FEATURE_ENGINE_HOST", "host");
+    engine("CARGO_FEATURE_ENGINE_TURN", "turn");
 }
 
 fn run(command: &mut Command) {

@@ -9,7 +9,7 @@ use native.Mathlib.Numerals.{add-one}
 use native.Mathlib.Omega.{arith}
 use lib.ListN.{length}
 use lib.Dec.{eqb, leb}
-use borrow.Author.Tests.{leb-true, leb-false, le-leb, lt-leb, eq-eqb, ne-eqb}
+use borrow.Author.Tests.{eqb-true, leb-true, leb-false, le-leb, lt-leb, eq-eqb, ne-eqb}
 use Rattle.rules.specs.declared.Field.the-variants.{Next}
 use Rattle.rules.specs.Forests.{none}
 use Rattle.rules.specs.Words.{headOr, lastOr, follow, listFrom}
@@ -115,6 +115,11 @@ module _ (n : ℕ) (v : Values) (l : Siblings) where
   walk-ended j prev x a o i =
       let z : j + 0 ≡ j = omega arith in
       sym (rw (nothing-left n v j x o, rest-ended prev (suc j) x, z)) ∙ i
+
+  -- an empty list
+  pub walk-empty : (eqb (l .first) none && eqb (l .last) none) ≡ true → 1 ≡ lengthIfOk n v l
+  walk-empty e =
+      rw e at (walk-ended 0 none (l .first) _ (inr (eqb-true (l .first) none (and-split _ _ e .0))) walk-start)
 
   -- one step
   pub walk-more : (j prev x : ℕ) → j < n → x ≢ none → linkOk n v l prev (j + 1) x ≡ true

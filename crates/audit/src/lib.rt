@@ -69,7 +69,7 @@ fn link_ok(
 }
 
 // One more than the length of a list of siblings, 0 if it is not right.
-fn list_length(store: &[u32], layout: Layout, n: usize, l: Siblings) -> usize
+fn walk_list(store: &[u32], layout: Layout, n: usize, l: Siblings) -> usize
     requires { ⌜ Sized n (now store) ⌝ }
     ensures { λ r. ⌜ AtMost (lengthIfOk n (lookIn layout n (now (store .entry))) l) 4097 r ⌝ }
 {
@@ -93,6 +93,17 @@ fn list_length(store: &[u32], layout: Layout, n: usize, l: Siblings) -> usize
     } else {
         0
     }
+}
+
+// The same of the children of an item: most have none, and then there is no list to walk along.
+fn children_length(store: &[u32], layout: Layout, n: usize, l: Siblings) -> usize
+    requires { ⌜ Sized n (now store) ⌝ }
+    ensures { λ r. ⌜ AtMost (lengthIfOk n (lookIn layout n (now (store .entry))) l) 4097 r ⌝ }
+{
+    if (l.first == NONE) & (l.last == NONE) {
+        return 1;
+    }
+    walk_list(store, layout, n, l)
 }
 
 // A root is unmarked; any other item has a parent in its heap that comes before it.
@@ -150,7 +161,7 @@ fn item_ok(store: &[u32], layout: Layout, n: usize, i: usize) -> bool
     let heap = heap_of(state);
     let first = word_at(store, layout, n, Field::FirstChild, i);
     let last = word_at(store, layout, n, Field::LastChild, i);
-    let length = list_length(
+    let length = children_length(
         store,
         layout,
         n,
@@ -227,7 +238,7 @@ fn heap_length(store: &[u32], layout: Layout, n: usize, h: usize, count: usize) 
 {
     let first = word_at(store, layout, n, Field::FirstTree, h);
     let last = word_at(store, layout, n, Field::LastTree, h);
-    let length = list_length(
+    let length = walk_list(
         store,
         layout,
         n,

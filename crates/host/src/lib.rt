@@ -1,7 +1,6 @@
-// The entries for hosts in C, all but the modem's own run.
+// The entries for hosts in C, all but the modem's own run and the turn of a store.
 ghost use mathlib.Core.Path.{_≡_};
 ghost use Rattle.sheet.specs.Runs.{freshRun, keptRun};
-ghost use Rattle.turn.specs.TurnStore.{turnCode, turnedWords};
 ghost use Rattle.paths.specs.Map.{spanLists, windows, mapAt};
 ghost use Rattle.paths.specs.Feed.{resultLists, feedResult, budgetResult};
 ghost use Rattle.mapfile.specs.Read.{readMap};
@@ -48,16 +47,6 @@ pub extern "C" fn store_sound(store: &[u32]) -> u32
         return 1;
     }
     0
-}
-
-// Turns a sound store whose words stand by kind into the order in use, in a second buffer of the same length. Returns
-// the code.
-#[no_mangle]
-pub extern "C" fn turn_store(old: &[u32], turned: &mut [u32]) -> u32
-    ensures { λ r. ⌜ (r ≡ turnCode (now (old .entry)) (now (turned .entry)))
-        × (now (turned .exit) ≡ turnedWords (now (old .entry)) (now (turned .entry))) ⌝ }
-{
-    turn::turn_store(old, turned)
 }
 
 // The feed table of a map. Returns the code; the figures are links, cuts and the number of spans examined, which are

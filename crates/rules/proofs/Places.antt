@@ -5,7 +5,7 @@ use Prim.Native.Nat.{ℕ, _+_, _-_, _*_, _/_, _%_, _<_, _≤_}
 use mathlib.Core.List.{map}
 use mathlib.Core.Bool.{Bool, true, false}
 use native.Mathlib.Omega.{arith}
-use native.Mathlib.Nat.{mod-lt, div-add-mod', div-lt-iff-lt-mul, mul-le-mul-left}
+use native.Mathlib.Nat.{mod-lt, div-add-mod', div-lt-iff-lt-mul}
 use lib.Arith.{digits-lt, digits-div}
 use lib.ListN.{length, getD, List·getD-map}
 use lib.Dec.{ltb}
@@ -74,11 +74,6 @@ item-injective ByKind n c d i j hc hd hi hj e =
     let w : c * n ≡ d * n = ap (λ (x : ℕ). x * n) v in
     (v, omega arith)
 
--- and small: nothing that a place is computed by overflows
-pub item-small : (o : Layout) (n c i : ℕ) → n ≤ 4096 → c < 8 → i ≤ 4096 → itemPlace o n c i ≤ 32775
-item-small ByItem n c i hn hc hi = omega arith
-item-small ByKind n c i hn hc hi = omega (arith, mul-le-mul-left c hn)
-
 record ItemPlace (o : Layout) (n p : ℕ) : Type 0 where
   pub number : ℕ
   pub item : ℕ
@@ -120,6 +115,25 @@ lies o n Next = ofItems 4 refl (omega arith) refl (λ i. refl)
 lies o n Prev = ofItems 5 refl (omega arith) refl (λ i. refl)
 lies o n Rank = ofItems 6 refl (omega arith) refl (λ i. refl)
 lies o n State = ofItems 7 refl (omega arith) refl (λ i. refl)
+
+-- the same by the numbers of the kinds, as the code computes places
+pub heap-place : (o : Layout) (n : ℕ) (f : Field) (i : ℕ) → fieldNumber f < 5
+    → placeIn o n f i ≡ 5 * i + fieldNumber f
+heap-place o n f i h = go (lies o n f)
+  where
+    go : Lies o n f → placeIn o n f i ≡ 5 * i + fieldNumber f
+    go (ofHeaps a r e) = e i
+    go (ofItems c a b r e) = absurd (omega arith)
+
+pub item-place : (o : Layout) (n : ℕ) (f : Field) (i : ℕ) → 5 ≤ fieldNumber f
+    → placeIn o n f i ≡ 40 + itemPlace o n (fieldNumber f - 5) i
+item-place o n f i h = go (lies o n f)
+  where
+    go : Lies o n f → placeIn o n f i ≡ 40 + itemPlace o n (fieldNumber f - 5) i
+    go (ofHeaps a r e) = absurd (omega arith)
+    go (ofItems c a b r e) =
+        let d : c ≡ fieldNumber f - 5 = omega arith in
+        e i ∙ ap (λ k. 40 + itemPlace o n k i) d
 
 pub number-bound : (f : Field) → fieldNumber f < length fields
 number-bound f = go (lies ByItem 0 f)

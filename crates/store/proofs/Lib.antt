@@ -1,5 +1,4 @@
 pub mod Sizes
-pub mod Steps
 pub mod Says
 pub mod ItemOrder
 pub mod KeyChanges

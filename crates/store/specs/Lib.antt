@@ -1,4 +1,3 @@
-pub mod Steps
 pub mod Says
 pub mod Empty
 pub mod Siblings

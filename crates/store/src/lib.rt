@@ -4,10 +4,10 @@ ghost use mathlib.Core.Path.{_≡_};
 ghost use Prim.Native.Nat.{_<_, _≤_};
 ghost use lib.ListN.{length, replicate};
 ghost use Rattle.rules.specs.Queues.{emptyQueues};
-ghost use Rattle.rules.specs.SetWord.{setWord};
-ghost use Rattle.rules.specs.Words.{storeSize, itemsIn, isStore, itemPlace, placeIn, lookIn, look, encode};
-ghost use Rattle.store.specs.Steps.{kindStep, itemStep};
-ghost use Rattle.store.specs.Says.{Sized, Within, Changes};
+ghost use Rattle.rules.specs.SetWord.{fieldNumber, setWord};
+ghost use Rattle.rules.specs.declared.Layout.the-variants.{ByKind};
+ghost use Rattle.rules.specs.Words.{storeSize, itemsIn, isStore, placeIn, lookIn, look, encode};
+ghost use Rattle.store.specs.Says.{IsPlace, Sized, Within, Changes};
 ghost use Rattle.store.specs.Empty.{emptyHeap, freeItem};
 ghost use Rattle.store.specs.Siblings.{
   parentIn,
@@ -86,79 +86,81 @@ pub fn is_store(s: &[u32]) -> bool
     s.len() == size_for(n)
 }
 
-// From a word of an item to its next one.
-fn kind_step(layout: Layout, n: usize) -> usize
-    ensures { λ r. ⌜ r ≡ kindStep layout n ⌝ }
-{
-    match layout {
-        Layout::ByItem => 1,
-        Layout::ByKind => n,
-    }
-}
-
-// From a word of an item to that of the next item.
-fn item_step(layout: Layout) -> usize
-    ensures { λ r. ⌜ r ≡ itemStep layout ⌝ }
-{
-    match layout {
-        Layout::ByItem => ITEM_WORDS,
-        Layout::ByKind => 1,
-    }
-}
-
-// Where word c of item i lies, after the words of the heaps. One formula for both orders: a choice between two would be
-// made anew for each word that the check reads.
-fn item_place(layout: Layout, n: usize, c: usize, i: usize) -> usize
-    requires { ⌜ n ≤ 4096 ⌝ }
-    requires { ⌜ c < 8 ⌝ }
-    requires { ⌜ i ≤ 4096 ⌝ }
-    ensures { λ r. ⌜ r ≡ itemPlace layout n c i ⌝ }
-{
-    let kind = kind_step(layout, n);
-    let item = item_step(layout);
-    c * kind + i * item
-}
-
-// Where word i of a kind lies in a store for n items.
-fn place(layout: Layout, n: usize, f: Field, i: usize) -> usize
-    requires { ⌜ n ≤ 4096 ⌝ }
-    requires { ⌜ i ≤ 4096 ⌝ }
-    ensures { λ r. ⌜ r ≡ placeIn layout n f i ⌝ }
+// The number of a kind: five of a heap, then eight of an item, in the sequence in which they lie.
+fn kind_number(f: Field) -> usize
+    ensures { λ r. ⌜ r ≡ fieldNumber f ⌝ }
 {
     match f {
-        Field::FirstTree => 5 * i,
-        Field::LastTree => 5 * i + 1,
-        Field::Minimum => 5 * i + 2,
-        Field::Count => 5 * i + 3,
-        Field::Amount => 5 * i + 4,
-        Field::Key => HEAP_WORDS + item_place(layout, n, 0, i),
-        Field::Parent => HEAP_WORDS + item_place(layout, n, 1, i),
-        Field::FirstChild => HEAP_WORDS + item_place(layout, n, 2, i),
-        Field::LastChild => HEAP_WORDS + item_place(layout, n, 3, i),
-        Field::Next => HEAP_WORDS + item_place(layout, n, 4, i),
-        Field::Prev => HEAP_WORDS + item_place(layout, n, 5, i),
-        Field::Rank => HEAP_WORDS + item_place(layout, n, 6, i),
-        Field::State => HEAP_WORDS + item_place(layout, n, 7, i),
+        Field::FirstTree => 0,
+        Field::LastTree => 1,
+        Field::Minimum => 2,
+        Field::Count => 3,
+        Field::Amount => 4,
+        Field::Key => 5,
+        Field::Parent => 6,
+        Field::FirstChild => 7,
+        Field::LastChild => 8,
+        Field::Next => 9,
+        Field::Prev => 10,
+        Field::Rank => 11,
+        Field::State => 12,
     }
+}
+
+// Where word i of a kind lies, for any number of items.
+fn place(f: Field, i: usize) -> usize
+    requires { ⌜ i ≤ 4096 ⌝ }
+    ensures { λ r. ⌜ IsPlace f i r ⌝ }
+{
+    let number = kind_number(f);
+    if number < 5 {
+        return 5 * i + number;
+    }
+    HEAP_WORDS + ITEM_WORDS * i + (number - 5)
+}
+
+// Where it lies in an old store for n items.
+fn old_place(n: usize, f: Field, i: usize) -> usize
+    requires { ⌜ n ≤ 4096 ⌝ }
+    requires { ⌜ i ≤ 4096 ⌝ }
+    ensures { λ r. ⌜ r ≡ placeIn ByKind n f i ⌝ }
+{
+    let number = kind_number(f);
+    if number < 5 {
+        return 5 * i + number;
+    }
+    HEAP_WORDS + (number - 5) * n + i
 }
 
 // ---- words
 
-// Word i of a kind, in either order.
-pub fn get_in(s: &[u32], layout: Layout, n: usize, f: Field, i: u32) -> u32
-    requires { ⌜ Within n (now s) f i ⌝ }
-    ensures { λ r. ⌜ r ≡ lookIn layout n (now (s .entry)) f i ⌝ }
-{
-    let at = place(layout, n, f, i as usize);
-    s[at]
-}
-
-// The same in the order in use.
+// Word i of a kind.
 pub fn get(s: &[u32], n: usize, f: Field, i: u32) -> u32
     requires { ⌜ Within n (now s) f i ⌝ }
     ensures { λ r. ⌜ r ≡ look n (now (s .entry)) f i ⌝ }
 {
-    get_in(s, Layout::ByItem, n, f, i)
+    let at = place(f, i as usize);
+    s[at]
+}
+
+// The same in an old store.
+fn get_old(s: &[u32], n: usize, f: Field, i: u32) -> u32
+    requires { ⌜ Within n (now s) f i ⌝ }
+    ensures { λ r. ⌜ r ≡ lookIn ByKind n (now (s .entry)) f i ⌝ }
+{
+    let at = old_place(n, f, i as usize);
+    s[at]
+}
+
+// The same in either order. The word is read in each case, so that a loop that reads words is compiled for each order.
+pub fn get_in(s: &[u32], layout: Layout, n: usize, f: Field, i: u32) -> u32
+    requires { ⌜ Within n (now s) f i ⌝ }
+    ensures { λ r. ⌜ r ≡ lookIn layout n (now (s .entry)) f i ⌝ }
+{
+    match layout {
+        Layout::ByItem => get(s, n, f, i),
+        Layout::ByKind => get_old(s, n, f, i),
+    }
 }
 
 // Word i of a kind stored.
@@ -166,7 +168,7 @@ pub fn put(s: &mut [u32], n: usize, f: Field, i: u32, x: u32)
     requires { ⌜ Within n (now s) f i ⌝ }
     ensures { λ r. ⌜ Changes n (now (s .entry)) (setWord f i x) (now (s .exit)) ⌝ }
 {
-    let at = place(Layout::ByItem, n, f, i as usize);
+    let at = place(f, i as usize);
     s[at] = x;
 }
 

@@ -87,7 +87,8 @@ fn turn_items(old: &[u32], turned: &mut [u32], n: usize)
 }
 
 // Turns a sound old store, or refuses under 1 or 5 and leaves the second buffer as it was. Returns the code.
-pub fn turn_store(old: &[u32], turned: &mut [u32]) -> u32
+#[no_mangle]
+pub extern "C" fn turn_store(old: &[u32], turned: &mut [u32]) -> u32
     ensures { λ r. ⌜ (r ≡ turnCode (now (old .entry)) (now (turned .entry)))
         × (now (turned .exit) ≡ turnedWords (now (old .entry)) (now (turned .entry))) ⌝ }
 {

@@ -21,7 +21,6 @@ pub const PROGRAMS: &str = "CABLE_QUEUE_BIN";
 #[cfg(feature = "engine-host")]
 extern "C" {
     fn store_sound(store: *const u32, store_len: usize) -> u32;
-    fn turn_store(old: *const u32, old_len: usize, turned: *mut u32, turned_len: usize) -> u32;
     fn read_map(
         text: *const u8,
         text_len: usize,
@@ -39,6 +38,11 @@ extern "C" {
     ) -> u32;
 }
 
+#[cfg(feature = "engine-turn")]
+extern "C" {
+    fn turn_store(old: *const u32, old_len: usize, turned: *mut u32, turned_len: usize) -> u32;
+}
+
 pub struct Linked {
     programs: Option<PathBuf>,
 }
@@ -50,7 +54,7 @@ impl Linked {
 
     /// True if nothing of the engine is there.
     pub fn is_absent(&self) -> bool {
-        let libraries = cfg!(feature = "engine-modem") || cfg!(feature = "engine-host");
+        let libraries = cfg!(any(feature = "engine-modem", feature = "engine-host", feature = "engine-turn"));
         !libraries && self.programs.is_none()
     }
 
@@ -79,7 +83,9 @@ impl Engine for Linked {
     fn has(&self, part: Part) -> bool {
         match part {
             Part::Modem => cfg!(feature = "engine-modem"),
-            Part::Runs | Part::Turn | Part::Feed | Part::Budget | Part::Map => cfg!(feature = "engine-host"),
+            Part::Runs | Part::Feed | Part::Budget | Part::Map => cfg!(feature = "engine-host"),
+            // Its campaigns run sheets on the stores that it leaves.
+            Part::Turn => cfg!(all(feature = "engine-turn", feature = "engine-host")),
             Part::QueueProgram => self.program("queue").is_some(),
             Part::FeedProgram => self.program("feed").is_some(),
         }
@@ -106,7 +112,7 @@ impl Engine for Linked {
         unsafe { store_sound(store.as_ptr(), store.len()) }
     }
 
-    #[cfg(feature = "engine-host")]
+    #[cfg(feature = "engine-turn")]
     fn turn_store(&self, old: &mut [u32], turned: &mut [u32]) -> u32 {
         // SAFETY: pointers and lengths are those of live slices that do not overlap.
         unsafe { turn_store(old.as_mut_ptr(), old.len(), turned.as_mut_ptr(), turned.len()) }

@@ -16,7 +16,7 @@ returns c =
     let v = lookIn (a .layout) (a .n) (a .store .now) in
     let f =
     row-answer (a .n) v (a .h) _ _ _ _ refl (list .before .before .word-at .ensures .is)
-    (list .before .word-at2 .ensures .is) (list .list-length .ensures .is) in
+    (list .before .word-at2 .ensures .is) (list .walk-list .ensures .is) in
     record { is = row-wrong (a .n) v (a .h) _ f (c .if1 .taken); most = omega arith }
 
 least-root-requires : tie.Need-least-root-requires
@@ -27,7 +27,7 @@ least-root-requires c κs =
     let v = lookIn (a .layout) (a .n) (a .store .now) in
     let f =
     row-answer (a .n) v (a .h) _ _ _ _ refl (list .before .before .word-at .ensures .is)
-    (list .before .word-at2 .ensures .is) (list .list-length .ensures .is) in
+    (list .before .word-at2 .ensures .is) (list .walk-list .ensures .is) in
     (s .pre .0, row-inside (a .n) v (a .h) (s .pre .1 .0) _ f (c .before .if1 .left))
 
 returns-2 : tie.Need-returns-2
@@ -40,7 +40,7 @@ returns-2 c =
     let v = lookIn (a .layout) (a .n) (a .store .now) in
     let f =
     row-answer (a .n) v (a .h) _ _ _ _ refl (list .before .before .word-at .ensures .is)
-    (list .before .word-at2 .ensures .is) (list .list-length .ensures .is) in
+    (list .before .word-at2 .ensures .is) (list .walk-list .ensures .is) in
     record {
       is =
           heap-tests (a .n) v (a .h) _ f (least .before .if1 .left) (c .before .word-at4 .ensures) true
@@ -51,7 +51,7 @@ returns-2 c =
             ← c .before .word-at4 .ensures .is,
             ← s .pre .1 .1,
           ) (c .if2 .taken));
-      most = list .list-length .ensures .most;
+      most = list .walk-list .ensures .most;
     }
 
 returns-3 : tie.Need-returns-3
@@ -64,7 +64,7 @@ returns-3 c =
     let v = lookIn (a .layout) (a .n) (a .store .now) in
     let f =
     row-answer (a .n) v (a .h) _ _ _ _ refl (list .before .before .word-at .ensures .is)
-    (list .before .word-at2 .ensures .is) (list .list-length .ensures .is) in
+    (list .before .word-at2 .ensures .is) (list .walk-list .ensures .is) in
     record {
       is =
           heap-tests (a .n) v (a .h) _ f (least .before .if1 .left) (c .before .word-at4 .ensures) false

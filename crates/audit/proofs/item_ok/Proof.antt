@@ -43,8 +43,8 @@ word-at-requires-2 c κs = search needs
 word-at-requires-3 : tie.Need-word-at-requires-3
 word-at-requires-3 c κs = search needs
 
-list-length-requires : tie.Need-list-length-requires
-list-length-requires c κs = search needs
+children-length-requires : tie.Need-children-length-requires
+children-length-requires c κs = search needs
 
 word-at-requires-4 : tie.Need-word-at-requires-4
 word-at-requires-4 c κs = search needs
@@ -62,13 +62,13 @@ returns-3 c =
     let a = s .args in
     let n = a .n in
     let v = lookIn (a .layout) n (a .store .now) in
-    let e : lists .list-length .result ≡ lengthIfOk n v (childrenAt n v (a .i)) =
+    let e : lists .children-length .result ≡ lengthIfOk n v (childrenAt n v (a .i)) =
     rw (
       ← state .ensures .is,
       ← lists .before .before .before .heap-of .ensures .is,
       ← lists .before .before .word-at2 .ensures .is,
       ← lists .before .word-at3 .ensures .is,
-    ) (lists .list-length .ensures .is) in
+    ) (lists .children-length .ensures .is) in
     let k : v Key (a .i) ≤ 4294967295 =
     omega (arith, p .before .before .before .before .shared-slice-known .given (placeIn (a .layout) n Key (a .i))) in
     rw (e, p .parent-ok .ensures, c .word-at4 .ensures .is)
@@ -88,7 +88,7 @@ item-ok-spec =
     heap-of-requires
     word-at-requires-2
     word-at-requires-3
-    list-length-requires
+    children-length-requires
     word-at-requires-4
     add-result
     returns-3)

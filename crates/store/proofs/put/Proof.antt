@@ -10,8 +10,14 @@ pub put-spec : {M : Type 1} → statement M
 put-spec =
     tie.close
     (tie.spec
-    (λ c κs. (c .before .pre .sized .small, within-small (c .before .pre)))
-    (λ c. omega (arith, c .place .ensures, within-slice ByItem (c .before .before .pre)))
-    (λ c. omega (arith, c .place .ensures, within-slice ByItem (c .before .before .pre)))
+    (λ c κs. within-small (c .before .pre))
+    (λ c.
+    let s = c .before .before in
+    omega (arith, c .place .ensures (s .args .n), within-slice ByItem (s .pre)))
+    (λ c.
+    let s = c .before .before in
+    omega (arith, c .place .ensures (s .args .n), within-slice ByItem (s .pre)))
     (λ c. search needs)
-    (λ c. rw (c .place .ensures) (set-changes _ _ _ _ _ (c .before .before .pre))))
+    (λ c.
+    let s = c .before .before in
+    rw (c .place .ensures (s .args .n)) (set-changes _ _ _ _ _ (s .pre))))

@@ -1,4 +1,4 @@
--- `audit::list_length` meets its contract.
+-- `audit::walk_list` meets its contract.
 use Prim.Native.Nat.{_+_, _-_, _≤_}
 use borrow.Author.Needs.{needs}
 use mathlib.Core.Logic.{⊎-elim, inl, inr}
@@ -16,8 +16,8 @@ use Rattle.audit.proofs.Walks.{
   walk-ended,
   walk-more,
 }
-use Rattle.audit.proofs.list_length.Statement.{statement}
-use Rattle.audit.proofs.list_length.Tie as tie
+use Rattle.audit.proofs.walk_list.Statement.{statement}
+use Rattle.audit.proofs.walk_list.Tie as tie
 
 abbrev Inv-loop : tie.InvT-loop
 Inv-loop store layout n l prev₀ x₀ j₀ prev x j =
@@ -108,8 +108,8 @@ returns-3 c =
     (⊎-elim (λ u. inl (u .left)) (λ u. inr (u .1 .taken)) (c .before .before .loop-test .came)) (l .inv .1) in
     record { is = rw (c .if3 .left) at e; most = omega arith }
 
-pub list-length-spec : {M : Type 1} → statement M
-list-length-spec =
+pub walk-list-spec : {M : Type 1} → statement M
+walk-list-spec =
     tie.close
     (tie.spec
     Inv-loop
