@@ -1,5 +1,6 @@
 -- `turn::turn_store` meets its contract.
 use borrow.Author.Needs.{needs}
+use native.Mathlib.Omega.{arith}
 use Rattle.store.proofs.Sizes.{store-sized}
 use Rattle.soundness.proofs.Booleans.{told-false, told-true}
 use Rattle.turn.proofs.TurnDone.{no-store, other-length, unsound, sound-turned, same-size}
@@ -12,7 +13,8 @@ returns c = no-store _ _ (told-false _ _ (c .before .is-store .ensures) (c .if1 
 returns-2 : tie.Need-returns-2
 returns-2 c =
     let test = c .before in
-    other-length _ _ (told-true _ _ (test .before .is-store .ensures) (test .if1 .left)) (c .if2 .taken)
+    other-length _ _ (told-true _ _ (test .before .is-store .ensures) (test .if1 .left))
+    (λ e. omega (arith, c .if2 .taken, e))
 
 returns-3 : tie.Need-returns-3
 returns-3 c =
