@@ -1,5 +1,5 @@
 // The words of a store for n items: the only code that knows how many there are and where each lies.
-// Nothing above this crate computes a size or indexes a store.
+// Nothing above this crate computes a size or indexes a store, but for `worked`, which prints words as they lie.
 ghost use mathlib.Core.Path.{_≡_};
 ghost use Prim.Native.Nat.{_<_, _≤_};
 ghost use lib.ListN.{length, replicate};

@@ -7,7 +7,7 @@ ghost use Rattle.rules.specs.declared.Layout.the-variants.{ByKind};
 ghost use Rattle.rules.specs.Turn.{turn};
 ghost use Rattle.rules.specs.Words.{lookIn};
 ghost use Rattle.store.specs.Says.{Sized, Within, Changes};
-ghost use Rattle.turn.specs.Steps.{heapFrom, itemFrom, TurnedTo};
+ghost use Rattle.turn.specs.Steps.{heapKinds, itemKinds, wordsFrom, TurnedTo};
 ghost use Rattle.turn.specs.TurnStore.{turnCode, turnedWords};
 use audit::sound_in;
 use rules::Field;
@@ -33,7 +33,7 @@ fn turn_heap(old: &[u32], turned: &mut [u32], n: usize, h: u32)
     requires { ⌜ Sized n (now old) ⌝ }
     requires { ⌜ Sized n (now turned) ⌝ }
     requires { ⌜ h < 8 ⌝ }
-    ensures { λ r. ⌜ Changes n (now (turned .entry)) (heapFrom (lookIn ByKind n (now (old .entry))) h)
+    ensures { λ r. ⌜ Changes n (now (turned .entry)) (wordsFrom heapKinds (lookIn ByKind n (now (old .entry))) h)
         (now (turned .exit)) ⌝ }
 {
     turn_word(old, turned, n, Field::FirstTree, h);
@@ -48,7 +48,7 @@ fn turn_item(old: &[u32], turned: &mut [u32], n: usize, i: u32)
     requires { ⌜ Sized n (now old) ⌝ }
     requires { ⌜ Sized n (now turned) ⌝ }
     requires { ⌜ i < n ⌝ }
-    ensures { λ r. ⌜ Changes n (now (turned .entry)) (itemFrom (lookIn ByKind n (now (old .entry))) i)
+    ensures { λ r. ⌜ Changes n (now (turned .entry)) (wordsFrom itemKinds (lookIn ByKind n (now (old .entry))) i)
         (now (turned .exit)) ⌝ }
 {
     turn_word(old, turned, n, Field::Key, i);

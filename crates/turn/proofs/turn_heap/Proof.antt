@@ -1,11 +1,9 @@
 -- `turn::turn_heap` meets its contract.
 use borrow.Author.Needs.{needs}
-use Rattle.turn.specs.Steps.{heapFrom}
 use Rattle.turn.proofs.turn_heap.Statement.{statement}
 use Rattle.turn.proofs.turn_heap.Tie as tie
 
 returns : tie.Need-returns
-unfolding heapFrom
 returns c =
     let c2 = c .before .before in
     let c6 = c2 .before .before .before .before in

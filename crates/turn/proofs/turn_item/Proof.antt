@@ -1,7 +1,6 @@
 -- `turn::turn_item` meets its contract.
 use borrow.Author.Needs.{needs}
 use native.Mathlib.Omega.{arith}
-use Rattle.turn.specs.Steps.{itemFrom}
 use Rattle.turn.proofs.turn_item.Statement.{statement}
 use Rattle.turn.proofs.turn_item.Tie as tie
 
@@ -36,7 +35,6 @@ same-length c =
     omega (arith, last .turn-word8 .ensures .sized .size, s .pre .1 .0 .size)
 
 returns : tie.Need-returns
-unfolding itemFrom
 returns c =
     let c2 = c .before .before in
     let c6 = c2 .before .before .before .before in
