@@ -1,4 +1,5 @@
-/* feed_table beside plain C and LEMON's shortest paths, on a full map, and feed_budget beside feed_table. */
+/* The links and cuts of feed_table beside their ceilings, on maps of three sizes; feed_table beside plain C and LEMON's
+   shortest paths, on a full map, and feed_budget beside feed_table. */
 #include "bench.h"
 #include "cable_queue.h"
 #include "measure.h"
@@ -56,19 +57,51 @@ enum { SIDES = sizeof sides / sizeof *sides };
 static void run_side(int side) { sides[side].run(); }
 
 /* Four spans from each place, all of them always open; the first one leads on, so that every place is reached. */
-static void make_map(void)
+static void make_map(uint32_t places)
 {
     start_draws(21);
-    for (uint32_t span = 0; span < SPANS; span++) {
+    for (uint32_t span = 0; span < 4 * places; span++) {
         from[span] = span / 4;
-        to[span] = span % 4 == 0 ? (span / 4 + 1) % PLACES : draw(PLACES);
+        to[span] = span % 4 == 0 ? (span / 4 + 1) % places : draw(places);
         loss[span] = 1 + draw(MAX_LOSS);
         opens[span] = 0;
         closes[span] = MINUTES;
     }
-#ifdef HAVE_LEMON
-    lemon_build_map(PLACES, from, to, loss, SPANS);
-#endif
+}
+
+/* R(n): the largest k with F(k + 2) at most n. */
+static uint32_t max_rank(uint32_t n)
+{
+    uint32_t k = 0;
+    for (uint32_t f = 2, before = 1; f <= n; k++) {
+        uint32_t next = f + before;
+        before = f;
+        f = next;
+    }
+    return k;
+}
+
+/* Plain C counts as the product does, which the tests compare. */
+static void print_ceilings(uint32_t places)
+{
+    uint32_t spans = 4 * places, reached = 0;
+    make_map(places);
+    result.code = plain_feed_table(places, 0, NOON, from, spans, to, spans, loss, spans, opens, spans, closes, spans,
+                                   result.best, places, result.last, places, result.joints, places, result.words,
+                                   HEAP_WORDS + ITEM_WORDS * places, result.figures);
+    if (result.code != 0)
+        fail("the map is refused", "plain C");
+    for (uint32_t place = 0; place < places; place++)
+        reached += result.best[place] != CABLE_QUEUE_NONE;
+    uint32_t moves = result.figures[0] + result.figures[1], others = result.figures[2] + 1 - reached;
+    uint32_t by_counts = reached + 4 * others + reached * max_rank(reached);
+    uint32_t by_map = 4 * spans + 1 + places * max_rank(places);
+    printf("  %4u places, %5u spans   %5u links, %4u cuts   %.3f of %6u, the ceiling of what is counted, %.3f of %6u, "
+           "that of the map\n",
+           places, spans, result.figures[0], result.figures[1], (double)moves / by_counts, by_counts,
+           (double)moves / by_map, by_map);
+    if (moves > by_counts || moves > by_map)
+        fail("more links and cuts than a ceiling allows", "plain C");
 }
 
 /* The product owes every word, LEMON the losses. */
@@ -187,7 +220,14 @@ static void bench_budget(void)
 
 void bench_feed(void)
 {
-    make_map();
+    static const uint32_t sizes[] = { 64, 1024, PLACES };
+    printf("links and cuts of feed_table, four spans from each place\n");
+    for (size_t size = 0; size < sizeof sizes / sizeof *sizes; size++)
+        print_ceilings(sizes[size]);
+    make_map(PLACES);
+#ifdef HAVE_LEMON
+    lemon_build_map(PLACES, from, to, loss, SPANS);
+#endif
     expect_agreement();
     bench_table();
 #ifdef HAVE_HOST

@@ -3,4 +3,6 @@ pub mod Fields
 pub mod TableRows
 pub mod FeedShown
 pub mod MapShown
+pub mod PrintedTable
 pub mod PrintedCount
+pub mod PrintedCeiling

@@ -1,9 +1,9 @@
 -- What the calls of a search are allowed by the ledger, at every moment.
-use Prim.Native.Nat.{ℕ, suc, _+_, _*_, _≤_, zero-le}
+use Prim.Native.Nat.{ℕ, suc, _+_, _*_, _-_, _≤_, zero-le}
 use mathlib.Core.Path.{_≡_, refl, ap, _∙_}
 use mathlib.Core.List.{List, [], _∷_, _++_}
 use mathlib.Core.Bool.{Bool, true, false, cond}
-use native.Mathlib.Nat.{le-refl, mul-le-mul-left}
+use native.Mathlib.Nat.{le-refl}
 use native.Mathlib.Omega.{arith}
 use lib.ListN.{set, replicate, length-replicate}
 use lib.Dec.{eqb}
@@ -13,11 +13,9 @@ use Rattle.rules.specs.declared.Call.the-variants.{Insert, ExtractMin, Decrease
 use Rattle.rules.specs.declared.Line.the-variants.{Yields}
 use Rattle.rules.specs.Lists.{indicator, sumBy}
 use Rattle.rules.specs.Forests.{Forests, none, empty, count}
-use Rattle.rules.specs.Fibonacci.{R}
 use Rattle.rules.specs.Answers.{refusal}
 use Rattle.rules.specs.Ledger.{ifDone, price, allowance, allowed}
 use Rattle.rules.proofs.Sums.{sumBy-set}
-use Rattle.rules.proofs.Fibonacci.{R-mono}
 use Rattle.rules.proofs.EmptyForests.{getD-all}
 use Rattle.paths.specs.Map.{Map, fromOf, toOf, lossOf, IsSpan, Accepted}
 use Rattle.paths.specs.Queue.{Stop, takes, next}
@@ -41,6 +39,7 @@ use Rattle.paths.proofs.Offers.{TryingOf, Case, at-unmet, at-smaller, s
 use Rattle.paths.proofs.Steps.{Between, Kept, extracted-rest}
 use Rattle.paths.proofs.Served.{ServedOf, served, update-served}
 use Rattle.paths.proofs.Log.{allowed-snoc}
+use Rattle.paths.proofs.RankSums.{ranks, ranks-mono, ranks-more}
 
 allowance-le : (s : Forests) (c : Call) → allowance s (Yields c) ≤ price s c
 unfolding allowance ifDone
@@ -61,14 +60,17 @@ count-le (h ∷ hs) = go (eqb h 1) refl (count-le hs)
     go true e k = omega (arith, eqb-true h 1 e)
     go false e k = omega arith
 
--- Of n places `entered` were inserted and `taken` taken. Each span examined allows one insertion or one lowering.
+-- Of n places `entered` were inserted and `taken` taken. The start was inserted first, and each span examined allows
+-- one insertion or one lowering. A taking finds no more than what was inserted and not yet taken.
 pub record Costs (m : Map) (s : Search) : Type 0 where
   pub served : ServedOf m s
   pub entered : ℕ
   pub taken : ℕ
+  pub some : 1 ≤ entered
+  pub few : entered ≤ suc (s .examined)
   pub entered-is : entered + sumBy isNone (s .best) ≡ m .places
   pub taken-is : taken + unsettled (s .queue .waits) (s .best) ≡ m .places
-  pub pays : allowed (empty (m .places)) (s .calls) + 3 * entered ≤ 4 * suc (s .examined) + taken * R entered
+  pub pays : allowed (empty (m .places)) (s .calls) + 3 * entered ≤ 4 * suc (s .examined) + ranks entered taken
 
 -- a span that makes no call; it may change the span and the number of spans shown
 no-call : (m : Map) (s : Search) (last joints : List ℕ) → Costs m s
@@ -86,6 +88,8 @@ no-call m s last joints C =
       served = C .served;
       entered = C .entered;
       taken = C .taken;
+      some = C .some;
+      few = omega (arith, C .few);
       entered-is = C .entered-is;
       taken-is = C .taken-is;
       pays = omega (arith, C .pays);
@@ -106,11 +110,13 @@ module _ (stop : Stop) (m : Map) (A : Accepted m) where
   call-costs u d hu k r s T is fu v case C c more ec eb ex left em h =
       let p : ℕ = toOf m k in
       let l : ℕ = d + lossOf m k in
-      let grows = mul-le-mul-left (C .taken) (R-mono (C .entered) (more + C .entered) (omega arith)) in
+      let grows = ranks-mono (C .entered) (more + C .entered) (C .taken) (omega arith) in
       record {
         served = update-served stop m A u d hu k r s T is fu v case (C .served);
         entered = more + C .entered;
         taken = C .taken;
+        some = omega (arith, C .some);
+        few = omega (arith, C .few, ex, h);
         entered-is =
             rw eb
             (omega (
@@ -145,7 +151,7 @@ module _ (stop : Stop) (m : Map) (A : Accepted m) where
   unfolding price count unsettled
   extracted-costs k s B u e C S =
       let f : Forests = forestsAfter m s in
-      let few : count f 0 ≤ C .entered =
+      let few : count f 0 ≤ C .entered - C .taken =
       omega (
         arith,
         count-le (s .queue .waits),
@@ -157,11 +163,13 @@ module _ (stop : Stop) (m : Map) (A : Accepted m) where
         served = S;
         entered = C .entered;
         taken = suc (C .taken);
+        some = C .some;
+        few = C .few;
         entered-is = C .entered-is;
         taken-is = omega (arith, C .taken-is, extracted-rest stop m A k s B u e);
         pays =
             rw (allowed-snoc (Yields (ExtractMin 0)) (empty n) (s .calls))
-            (omega (arith, C .pays, allowance-le f (ExtractMin 0), R-mono (count f 0) (C .entered) few));
+            (omega (arith, C .pays, allowance-le f (ExtractMin 0), ranks-more (C .entered) (C .taken) (count f 0) few));
       }
 
   begin-costs : Costs m (begin m)
@@ -171,6 +179,8 @@ module _ (stop : Stop) (m : Map) (A : Accepted m) where
         served = served stop m A .begins;
         entered = 1;
         taken = 0;
+        some = le-refl 1;
+        few = le-refl 1;
         entered-is =
             omega (
               arith,

@@ -1,18 +1,17 @@
--- Links and cuts of a search, by the ledger: they fit a word at every moment, and a full feed call keeps its ceiling.
-use Prim.Native.Nat.{ℕ, suc, _+_, _≤_, zero-le}
+-- Links and cuts of a search, by the ledger: no more than its calls are allowed, and at every moment they fit a word.
+use Prim.Native.Nat.{ℕ, _+_, _≤_, zero-le}
 use mathlib.Core.Path.{_≡_, refl}
 use mathlib.Core.Logic.{_≢_}
 use mathlib.Core.List.{List, [], _∷_}
-use mathlib.Core.Bool.{Bool, true, false, not}
-use native.Mathlib.Nat.{mul-le-mul-left}
+use mathlib.Core.Bool.{Bool, true, false}
+use native.Mathlib.Nat.{le-trans, mul-le-mul-left}
 use native.Mathlib.Omega.{arith}
-use lib.ListN.{length}
 use lib.Dec.{eqb}
 use borrow.Author.Tests.{eqb-true, eqb-false}
 use Rattle.rules.specs.declared.Line.{Line}
 use Rattle.rules.specs.declared.Answer.{Answer}
-use Rattle.rules.specs.Lists.{indicator, sumBy}
-use Rattle.rules.specs.Forests.{none, empty, trees, marks, potential}
+use Rattle.rules.specs.Lists.{sumBy}
+use Rattle.rules.specs.Forests.{empty, trees, marks, potential}
 use Rattle.rules.specs.Fibonacci.{R}
 use Rattle.rules.specs.Answers.{answers}
 use Rattle.rules.specs.Ledger.{moves, allowed}
@@ -21,17 +20,15 @@ use Rattle.rules.proofs.Fibonacci.{R-is, R-zero, F-above}
 use Rattle.rules.proofs.EmptyForests.{emptyWellFormed}
 use Rattle.rules.proofs.Ledger.{all-paid}
 use Rattle.paths.specs.Map.{Map, Accepted}
-use Rattle.paths.specs.Table.{unlimited, isReached}
 use Rattle.paths.specs.Queue.{Stop}
-use Rattle.paths.specs.Search.{Search, never, search, find}
+use Rattle.paths.specs.Search.{Search}
 use Rattle.paths.specs.Feed.{linksOf, cutsOf}
-use Rattle.paths.specs.Theorems.{Moment, CountsFit, Ceiling}
-use Rattle.paths.proofs.Waiting.{sum-none}
-use Rattle.paths.proofs.Invariant.{isNone, unsettled}
+use Rattle.paths.specs.Theorems.{Moment, CountsFit}
+use Rattle.paths.proofs.Invariant.{unsettled}
 use Rattle.paths.proofs.Begin.{sum-zeros}
-use Rattle.paths.proofs.Steps.{steps-keep, moments-keep, search-between}
-use Rattle.paths.proofs.Table.{none-waits}
+use Rattle.paths.proofs.Steps.{moments-keep}
 use Rattle.paths.proofs.Examined.{examinedAtMost}
+use Rattle.paths.proofs.RankSums.{ranks-le}
 use Rattle.paths.proofs.Costs.{Costs, costs}
 
 -- ---- sums
@@ -42,16 +39,6 @@ unfolding sumBy
 links-and-cuts [] = refl
 links-and-cuts (a ∷ rs) = omega (arith, links-and-cuts rs)
 
-reached-or-none : (l : List ℕ) → sumBy isReached l + sumBy isNone l ≡ length l
-unfolding sumBy isReached isNone
-reached-or-none [] = refl
-reached-or-none (x ∷ l) = go (eqb x none) (reached-or-none l)
-  where
-    go : (t : Bool) → sumBy isReached l + sumBy isNone l ≡ length l
-        → (indicator (not t) + sumBy isReached l) + (indicator t + sumBy isNone l) ≡ suc (length l)
-    go true h = omega arith
-    go false h = omega arith
-
 R-le : (n : ℕ) → R n ≤ n
 R-le n = go (eqb n 0) refl
   where
@@ -61,7 +48,7 @@ R-le n = go (eqb n 0) refl
 
 -- ---- what they cost
 
-moves-le : (n : ℕ) → n ≤ 4096 → (ls : List Line) → linksOf n ls + cutsOf n ls ≤ allowed (empty n) ls
+pub moves-le : (n : ℕ) → n ≤ 4096 → (ls : List Line) → linksOf n ls + cutsOf n ls ≤ allowed (empty n) ls
 unfolding linksOf cutsOf moves potential trees marks sumBy
 moves-le n few ls =
     omega (
@@ -77,7 +64,7 @@ pub counts-low : (stop : Stop) (m : Map) → Accepted m → (s : Search) → Mom
 unfolding unsettled
 counts-low stop m A s M =
     let C = moments-keep stop m A (Costs m) (costs stop m A) s M in
-    let top = mul-le-mul-left (C .taken) (R-le (C .entered)) in
+    let top = le-trans (ranks-le (C .entered) (C .taken)) (mul-le-mul-left (C .taken) (R-le (C .entered))) in
     let few : C .entered ≤ 4096 = omega (arith, C .entered-is, A .few) in
     let wide = mul-le-mul-left (C .taken) few in
     omega (
@@ -94,15 +81,3 @@ counts-low stop m A s M =
 
 pub countsFit : CountsFit
 countsFit stop m A s M = omega (arith, counts-low stop m A s M)
-
-pub ceiling : Ceiling
-unfolding search unsettled
-ceiling m A =
-    let s : Search = find unlimited m in
-    let C = steps-keep never m A (Costs m) (costs never m A) (m .places) in
-    let B = search-between never m A in
-    let p : ℕ = sumBy isReached (s .best) in
-    let in-p : C .entered ≡ p = omega (arith, C .entered-is, reached-or-none (s .best), B .invariant .bestN) in
-    let out-p : C .taken ≡ p =
-    omega (arith, C .taken-is, C .entered-is, in-p, sum-none (s .queue .waits) (none-waits m A)) in
-    omega (arith, rw (in-p, out-p) at (C .pays), moves-le (m .places) (A .few) (s .calls))

@@ -2,6 +2,7 @@
 pub mod ByHand
 pub mod WindowsByHand
 pub mod SpanCountByHand
+pub mod CeilingByHand
 pub mod JointsByHand
 pub mod Waiting
 pub mod Stopping
@@ -36,12 +37,15 @@ pub mod CallsByLoss
 pub mod TakenFirst
 pub mod Listing
 pub mod SpanCount
+pub mod RankSums
 pub mod Costs
 pub mod Counts
 pub mod Codes
 pub mod Supply
 pub mod Accepts
 pub mod FeedDone
+pub mod ReachedPlaces
+pub mod WithinCeiling
 pub mod ChainsOpen
 pub mod AllDay
 pub mod BudgetDone

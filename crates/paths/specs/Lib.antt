@@ -6,9 +6,11 @@ pub mod Queue
 pub mod Search
 pub mod Codes
 pub mod Feed
+pub mod Ceiling
 pub mod ByHand
 pub mod WindowsByHand
 pub mod SpanCountByHand
+pub mod CeilingByHand
 pub mod Theorems
 pub mod LossSearch
 pub mod JointsByHand

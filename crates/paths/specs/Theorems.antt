@@ -1,6 +1,6 @@
 -- What is proved of the feed finder. Each statement is a type; its proof is in proofs/, under the same name in lower
 -- case.
-use Prim.Native.Nat.{ℕ, zero, suc, _+_, _*_, _-_, _≤_, _<_}
+use Prim.Native.Nat.{ℕ, zero, suc, _+_, _≤_, _<_}
 use mathlib.Core.Path.{_≡_}
 use mathlib.Core.Logic.{_≢_}
 use mathlib.Core.List.{List, [], _∷_}
@@ -10,10 +10,9 @@ use lib.Dec.{leb}
 use Rattle.rules.specs.declared.Call.the-variants.{ExtractMin}
 use Rattle.rules.specs.declared.Line.the-variants.{Yields}
 use Rattle.rules.specs.declared.Answer.{Answer}
-use Rattle.rules.specs.Lists.{occurs, sumBy}
+use Rattle.rules.specs.Lists.{occurs}
 use Rattle.rules.specs.Forests.{Forests, none, empty}
 use Rattle.rules.specs.Answers.{answer, answers, after}
-use Rattle.rules.specs.Fibonacci.{R}
 use Rattle.rules.specs.Queues.{emptyQueues}
 use Rattle.rules.specs.Words.{storeSize, encode}
 use Rattle.paths.specs.Map.{
@@ -58,6 +57,7 @@ use Rattle.paths.specs.Search.{
 }
 use Rattle.paths.specs.Codes.{feedCode}
 use Rattle.paths.specs.Feed.{linksOf, cutsOf, ResultLists, Feed, feedResult, BudgetFeed, budgetResult}
+use Rattle.paths.specs.Ceiling.{reachedPlaces, WithinCeilings}
 
 -- ---- the table
 
@@ -251,14 +251,6 @@ CountsFit =
     (stop : Stop) (m : Map) → Accepted m → (s : Search) → Moment stop m s
     → linksOf (m .places) (s .calls) + cutsOf (m .places) (s .calls) < 4294967296
 
--- A ceiling for the links and cuts of a full feed call, with p reached places and e spans examined.
-abbrev pub Ceiling : Type 0
-Ceiling =
-    (m : Map) → Accepted m →
-    let s : Search = find unlimited m in
-    let p : ℕ = sumBy isReached (s .best) in
-    linksOf (m .places) (s .calls) + cutsOf (m .places) (s .calls) ≤ p + 4 * (s .examined + 1 - p) + p * R p
-
 -- ---- the call
 
 -- Code 0 is given exactly to an accepted map with result lists, a place list and a store of the right sizes.
@@ -306,6 +298,24 @@ BudgetDone =
     (budget : ℕ) (m : Map) (lent : ResultLists) (listed : List ℕ) →
     let r : BudgetFeed = budgetResult budget m lent listed in
     r .feed .code ≡ 0 → Right (upTo budget) m (r .feed) × RightList m listed r
+
+-- Links and cuts of a feed call that is done are within the ceilings: of the map, and of the places that the table left
+-- shows a loss for and the spans answered. With a budget these places are as many as are answered to be listed.
+abbrev pub FeedCeiling : Type 0
+FeedCeiling =
+    (m : Map) (lent : ResultLists) →
+    let r : Feed = feedResult m lent in
+    r .code ≡ 0
+    → WithinCeilings (m .places) (spans m) (reachedPlaces (r .left .best)) (r .examined) (r .links + r .cuts)
+
+abbrev pub BudgetCeiling : Type 0
+BudgetCeiling =
+    (budget : ℕ) (m : Map) (lent : ResultLists) (listed : List ℕ) →
+    let r : BudgetFeed = budgetResult budget m lent listed in
+    let f : Feed = r .feed in
+    f .code ≡ 0
+    → (r .number ≡ reachedPlaces (f .left .best))
+    × WithinCeilings (m .places) (spans m) (r .number) (f .examined) (f .links + f .cuts)
 
 -- The largest budget gives all that the full call gives, and lists every place that the full table reaches.
 abbrev pub LargestBudget : Type 0
