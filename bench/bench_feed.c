@@ -81,7 +81,8 @@ static uint32_t max_rank(uint32_t n)
     return k;
 }
 
-/* Plain C counts as the product does, which the tests compare. */
+/* What a full call makes on a map, beside its ceilings: by the places reached and spans examined, and by the map. Plain C
+   counts as the product does, which the tests compare. */
 static void print_ceilings(uint32_t places)
 {
     uint32_t spans = 4 * places, reached = 0;
@@ -93,13 +94,11 @@ static void print_ceilings(uint32_t places)
         fail("the map is refused", "plain C");
     for (uint32_t place = 0; place < places; place++)
         reached += result.best[place] != CABLE_QUEUE_NONE;
-    uint32_t moves = result.figures[0] + result.figures[1], others = result.figures[2] + 1 - reached;
-    uint32_t by_counts = reached + 4 * others + reached * max_rank(reached);
+    uint32_t moves = result.figures[0] + result.figures[1], examined = result.figures[2];
+    uint32_t by_counts = reached + 4 * (examined + 1 - reached) + reached * max_rank(reached);
     uint32_t by_map = 4 * spans + 1 + places * max_rank(places);
-    printf("  %4u places, %5u spans   %5u links, %4u cuts   %.3f of %6u, the ceiling of what is counted, %.3f of %6u, "
-           "that of the map\n",
-           places, spans, result.figures[0], result.figures[1], (double)moves / by_counts, by_counts,
-           (double)moves / by_map, by_map);
+    printf("  %4u places, %5u spans   %5u   ceilings %6u and %6u   %.2f and %.2f of them\n", places, spans, moves,
+           by_counts, by_map, (double)moves / by_counts, (double)moves / by_map);
     if (moves > by_counts || moves > by_map)
         fail("more links and cuts than a ceiling allows", "plain C");
 }
@@ -221,7 +220,7 @@ static void bench_budget(void)
 void bench_feed(void)
 {
     static const uint32_t sizes[] = { 64, 1024, PLACES };
-    printf("links and cuts of feed_table, four spans from each place\n");
+    printf("links and cuts of feed_table, with four spans from each place\n");
     for (size_t size = 0; size < sizeof sizes / sizeof *sizes; size++)
         print_ceilings(sizes[size]);
     make_map(PLACES);

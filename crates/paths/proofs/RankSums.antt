@@ -56,6 +56,7 @@ F-far m (suc j) =
       F-mono (suc (suc m)) (suc (suc (suc (suc (m + j))))) (omega arith),
     ))
 
+-- R n is the largest rank, so F of the next one is above n
 below : (n : ℕ) → n < F (suc (suc (suc (R n))))
 below n = go (leb (F (suc (suc (suc (R n))))) n) refl
   where
@@ -93,11 +94,13 @@ module _ (p d : ℕ) (some : 1 ≤ p) where
 
   -- ---- the sums
 
+  -- each taking finds p + d items at most
   all-rise : (j : ℕ) → ranks (p + d) j ≤ j * R p + j * rise
   all-rise j =
       let top : R (p + d) ≤ R p + rise = omega arith in
       omega (arith, ranks-le (p + d) j, mul-le-mul-left j top)
 
+  -- after d takings there are p items at most, and R rises no more
   d-rise : (j : ℕ) → ranks (p + d) j ≤ j * R p + d * rise
   unfolding ranks sumTo
   d-rise zero = zero-le
@@ -108,6 +111,7 @@ module _ (p d : ℕ) (some : 1 ≤ p) where
       go true e ih = omega (arith, all-rise (suc j), mul-le-mul-right rise (leb-true (suc j) d e))
       go false e ih = omega (arith, R-mono (p + d - j) p (omega (arith, leb-false (suc j) d e)))
 
+  -- so it rises in the lesser of p and d takings
   pub ranks-excess : ranks (p + d) p ≤ p * R p + 3 * d
   ranks-excess = go (leb d p) refl
     where
