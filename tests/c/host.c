@@ -422,7 +422,7 @@ typedef struct {
     size_t from_len, to_len, loss_len, opens_len, closes_len, best_len, last_len, joints_len, store_len;
 } feed_call;
 
-/* What a call leaves: losses, spans, joints, links and spans examined. No map here makes a cut. */
+/* What a call leaves: losses, spans, joints, links and spans examined. No map with such a table here makes a cut. */
 typedef struct {
     uint32_t best[MOST], last[MOST], joints[MOST], links, examined;
 } table;
@@ -711,6 +711,146 @@ static void try_counts(void) {
     }
 }
 
+/* Ceilings on links and cuts. */
+
+#define DENSE 11 /* places of the dense map */
+
+/* So many spans that are always open, with nothing else in them yet. */
+static span_lists open_spans(size_t count) {
+    span_lists spans = { filled(count), filled(count), filled(count), filled(count), filled(count) };
+    for (size_t e = 0; e < count; e++) {
+        spans.opens.at[e] = 0;
+        spans.closes.at[e] = 1440;
+    }
+    return spans;
+}
+
+static void put_span(span_lists spans, size_t e, uint32_t from, uint32_t to, uint32_t loss) {
+    spans.from.at[e] = from;
+    spans.to.at[e] = to;
+    spans.loss.at[e] = loss;
+}
+
+/* The start has a span to each other place, whose loss is its number. */
+static span_lists star(uint32_t places) {
+    span_lists spans = open_spans(places - 1);
+    for (uint32_t to = 1; to < places; to++) put_span(spans, to - 1, 0, to, to);
+    return spans;
+}
+
+/* Each place has a span to all later ones, the furthest first: the next is settled at one more than the place itself, the
+ * others are offered one less than by the place before, so that each is lowered below all others that wait. */
+static span_lists dense(uint32_t places) {
+    span_lists spans = open_spans(places * (places - 1) / 2);
+    size_t e = 0;
+    for (uint32_t from = 0; from < places; from++)
+        for (uint32_t to = places - 1; to > from; to--)
+            put_span(spans, e++, from, to, to == from + 1 ? 1 : 2 * (places - from));
+    return spans;
+}
+
+/* Closes at noon the spans that lead on by an even number of places: about half of them, and none to the next place. */
+static void close_half(span_lists spans) {
+    for (size_t e = 0; e < spans.closes.len; e++)
+        if ((spans.to.at[e] - spans.from.at[e]) % 2 == 0) spans.closes.at[e] = 720;
+}
+
+/* R(n), for n of at least 1: the largest k with F(k + 2) <= n. */
+static uint32_t greatest_rank(uint32_t n) {
+    uint32_t rank = 0, last = 1, next = 2; /* F(rank + 2) and F(rank + 3) */
+    while (next <= n) {
+        uint32_t sum = last + next;
+        last = next;
+        next = sum;
+        rank++;
+    }
+    return rank;
+}
+
+/* For p places and e spans, p from 1 to e + 1. */
+static uint32_t ceiling(uint32_t p, uint32_t e) {
+    return p + 4 * (e + 1 - p) + p * greatest_rank(p);
+}
+
+static uint32_t map_ceiling(uint32_t places, uint32_t spans) {
+    return 4 * spans + 1 + places * greatest_rank(places);
+}
+
+static uint32_t reached_in(words best) {
+    uint32_t reached = 0;
+    for (size_t p = 0; p < best.len; p++) reached += best.at[p] != NONE;
+    return reached;
+}
+
+/* What holds for every call that is done: no term of a ceiling is negative, and the two ceilings of the map. */
+static int keeps_map_ceilings(uint32_t places, uint32_t spans, words best, words figures) {
+    uint32_t reached = reached_in(best), moves = figures.at[0] + figures.at[1];
+    int is_sharper = places >= 5 && places <= spans + 1;
+    return reached >= 1 && reached <= figures.at[2] + 1 && moves <= map_ceiling(places, spans)
+           && (!is_sharper || moves <= ceiling(places, spans));
+}
+
+/* The full call at noon has these figures, so many places reached, and keeps every ceiling. */
+static int keeps_ceilings(uint32_t places, span_lists spans, uint32_t reached, uint32_t links, uint32_t cuts,
+                          uint32_t examined) {
+    words best = filled(places), last = filled(places), joints = filled(places), store = filled(STORE(places));
+    words figures = filled(3);
+    int same = feed_table(places, 0, 720, LENT_SPANS(spans), LENT(best), LENT(last), LENT(joints), LENT(store),
+                          figures.at) == 0;
+    same &= are(figures.at, links, cuts, examined) && reached_in(best) == reached;
+    same &= keeps_map_ceilings(places, (uint32_t)spans.from.len, best, figures);
+    same &= links + cuts <= ceiling(reached, examined);
+    words blocks[] = { best, last, joints, store, figures };
+    for (size_t i = 0; i < sizeof blocks / sizeof *blocks; i++) free(blocks[i].at);
+    return same;
+}
+
+/* The call at noon with this budget lists so many places, has these links and cuts, and keeps the map's ceilings. */
+static int keeps_within(uint32_t places, span_lists spans, uint32_t budget, uint32_t listed, uint32_t links,
+                        uint32_t cuts) {
+    words best = filled(places), last = filled(places), joints = filled(places), store = filled(STORE(places));
+    words list = filled(places), figures = filled(4);
+    int same = feed_budget(places, 0, 720, LENT_SPANS(spans), budget, LENT(best), LENT(last), LENT(joints), LENT(list),
+                           LENT(store), figures.at) == 0;
+    same &= figures.at[0] == links && figures.at[1] == cuts && figures.at[3] == listed && reached_in(best) == listed;
+    same &= keeps_map_ceilings(places, (uint32_t)spans.from.len, best, figures);
+    words blocks[] = { best, last, joints, store, list, figures };
+    for (size_t i = 0; i < sizeof blocks / sizeof *blocks; i++) free(blocks[i].at);
+    return same;
+}
+
+/* Of the dense map, by budget: places listed, links and as many cuts. Taking a place leaves 9 places, then 8 and so on,
+ * each alone in its tree: 7, 7, 4, 4, 3, 3, 1 and 1 links, and all are cut again. */
+static const uint32_t dense_within[][3] = { { 0, 1, 0 },   { 1, 2, 7 },   { 2, 3, 14 },  { 3, 4, 18 },
+                                            { 4, 5, 22 },  { 5, 6, 25 },  { 6, 7, 28 },  { 7, 8, 29 },
+                                            { 8, 9, 30 },  { 9, 10, 30 }, { 10, 11, 30 }, { NONE, 11, 30 } };
+
+static void try_ceilings(void) {
+    static const uint32_t ranks[][2] = { { 1, 0 },  { 2, 1 },  { 4, 2 },   { 5, 3 },    { 8, 4 },
+                                         { 12, 4 }, { 64, 8 }, { 1024, 14 }, { 4096, 16 } };
+    for (size_t i = 0; i < sizeof ranks / sizeof *ranks; i++)
+        expect("R(n)", greatest_rank(ranks[i][0]) == ranks[i][1]);
+    expect("ceilings of four spans a place", ceiling(64, 256) == 1348 && ceiling(1024, 4096) == 27652
+                                                 && ceiling(4096, 16384) == 118788);
+    span_lists none = open_spans(0), eight = star(9), later = dense(DENSE);
+    expect("a start without spans", keeps_ceilings(1, none, 1, 0, 0, 0) && ceiling(1, 0) == 1);
+    expect("a star of eight spans", keeps_ceilings(9, eight, 9, 10, 0, 8) && ceiling(9, 8) == 45);
+    expect("the dense map", keeps_ceilings(DENSE, later, DENSE, 30, 30, 55) && ceiling(DENSE, 55) == 235);
+    for (size_t i = 0; i < sizeof dense_within / sizeof *dense_within; i++) {
+        const uint32_t *row = dense_within[i];
+        expect("the dense map within a budget", keeps_within(DENSE, later, row[0], row[1], row[2], row[2]));
+    }
+    close_half(eight);
+    close_half(later);
+    expect("a star with half its spans closed", keeps_ceilings(9, eight, 5, 2, 0, 8));
+    expect("the dense map with half its spans closed", keeps_ceilings(DENSE, later, DENSE, 17, 17, 55));
+    expect("the same within budgets",
+           keeps_within(DENSE, later, 3, 4, 8, 7) && keeps_within(DENSE, later, NONE, DENSE, 17, 17));
+    free_spans(none);
+    free_spans(eight);
+    free_spans(later);
+}
+
 /* A map is refused by the full call and by the one with a budget, and with a place list of 2 words under its own code. */
 static void expect_refused(const char *what, feed_call call, uint32_t code, uint32_t short_code) {
     expect(what, feeds(call, &worked_table, code));
@@ -882,6 +1022,7 @@ int main(void) {
     try_budgets();
     try_ties();
     try_counts();
+    try_ceilings();
     try_refused_feeds();
     try_orders_of_codes();
     try_faulty_closed_spans();

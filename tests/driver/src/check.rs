@@ -1,6 +1,7 @@
 //! One entry at a time: the engine and the reference get the same input in separate buffers, and
 //! everything that comes back is compared, untouched words and guard words included.
 
+mod ceilings;
 mod feeds;
 mod turns;
 
@@ -195,7 +196,10 @@ impl<'a> Checker<'a> {
     pub fn feed_program(&mut self, input: &[u8]) -> Verdict {
         self.cases += 1;
         let printed = self.engine.feed_program(input);
-        same_list("feed program", &printed, &program::feed(input)).map_err(|fault| in_sheet(fault, input))
+        ceilings::printed_keeps_ceilings(input, &printed)
+            .map_err(|fault| format!("feed program: {fault}"))
+            .and_then(|()| same_list("feed program", &printed, &program::feed(input)))
+            .map_err(|fault| in_sheet(fault, input))
     }
 }
 

@@ -107,6 +107,33 @@ pub fn with_ties(random: &mut Random, most: u64) -> FeedCall {
     call(places, start, &scattered(random, places, count, losses))
 }
 
+/// Each place has a span to all later ones, in the list the furthest first. The next place is offered one more than the
+/// place's own loss, so that place i is settled at loss i; the others are offered one less than by the place before, first
+/// of all twice the number of places. So every place that waits is lowered below all others, one after the other.
+pub fn dense(places: u32) -> Vec<[u32; 3]> {
+    let loss = move |from: u32, to: u32| if to == from + 1 { 1 } else { 2 * (places - from) };
+    let from_place = move |from: u32| (from + 1..places).rev().map(move |to| [from, to, loss(from, to)]);
+    (0..places).flat_map(from_place).collect()
+}
+
+/// One place with a span to each other, of these losses.
+pub fn star(losses: impl Iterator<Item = u32>) -> Vec<[u32; 3]> {
+    (1..).zip(losses).map(|(to, loss)| [0, to, loss]).collect()
+}
+
+/// Four spans from each place: the first leads to the next place, so that every place is reached, the others anywhere.
+pub fn four_a_place(random: &mut Random, places: u32) -> Vec<[u32; 3]> {
+    let span = |number: u32| {
+        let anywhere = random.below(u64::from(places)) as u32;
+        let to = match number % 4 {
+            0 => (number / 4 + 1) % places,
+            _ => anywhere,
+        };
+        [number / 4, to, 1 + random.below(1_000_000) as u32]
+    };
+    (0..4 * places).map(span).collect()
+}
+
 /// One long chain of greatest losses.
 pub fn chain(places: u32, loss: u32) -> Vec<[u32; 3]> {
     (1..places).map(|to| [to - 1, to, loss]).collect()
@@ -137,6 +164,22 @@ pub fn give_windows(random: &mut Random, call: &mut FeedCall, cuts: &[u32]) {
             (*opens, *closes) = (cuts[first], cuts[later]);
         }
     }
+}
+
+/// The call at noon, when the last of every so many spans is closed.
+pub fn with_closed(call: &FeedCall, every: usize) -> FeedCall {
+    let mut call = FeedCall { minute: MINUTES / 2, ..call.clone() };
+    call.closes.iter_mut().skip(every - 1).step_by(every).for_each(|closes| *closes = MINUTES / 2);
+    call
+}
+
+/// The call at noon, when the spans are closed that lead on by an even number of places.
+pub fn with_even_closed(call: &FeedCall) -> FeedCall {
+    let mut call = FeedCall { minute: MINUTES / 2, ..call.clone() };
+    for span in (0..call.from.len()).filter(|&span| (call.to[span] - call.from[span]) % 2 != 1) {
+        call.closes[span] = MINUTES / 2;
+    }
+    call
 }
 
 /// Ascending minutes at which windows open and close, both ends of the day among them.

@@ -4,6 +4,7 @@
 //! by searching. Store words appear only in `store`, where whole forests are written as words.
 
 pub mod call;
+pub mod ceiling;
 pub mod feed;
 pub mod ledger;
 pub mod map;

@@ -2,6 +2,7 @@
 
 pub mod amounts;
 pub mod budgets;
+pub mod ceilings;
 pub mod codes;
 pub mod feeds;
 pub mod large_stores;
@@ -33,7 +34,7 @@ const fn campaign(part: Part, name: &'static str, run: fn(&mut Checker) -> Verdi
 }
 
 /// Quick ones first, so that a wrong engine is caught soon.
-pub const ALL: [Campaign; 107] = [
+pub const ALL: [Campaign; 116] = [
     campaign(Part::Modem, "modem: worked runs and limits", codes::modem),
     campaign(Part::Modem, "modem: zeros before every number", numbers::modem),
     campaign(Part::Modem, "modem: raises", raises::modem),
@@ -84,6 +85,7 @@ pub const ALL: [Campaign; 107] = [
     campaign(Part::Feed, "feed: worked windows", windows::worked),
     campaign(Part::Feed, "feed: worked ties", ties::worked),
     campaign(Part::Feed, "feed: worked numbers of spans", span_counts::worked),
+    campaign(Part::Feed, "feed: worked ceilings", ceilings::worked),
     campaign(Part::Feed, "feed: lengths of the list of joints", lengths::joints),
     campaign(Part::Feed, "feed: lengths of the store", lengths::store),
     campaign(Part::Feed, "feed: two faulty spans, open or closed", windows::span_faults),
@@ -99,14 +101,18 @@ pub const ALL: [Campaign; 107] = [
     campaign(Part::Feed, "feed: random maps with windows", windows::random_maps),
     campaign(Part::Feed, "feed: random maps", feeds::random_maps),
     campaign(Part::Feed, "feed: faulty spans", feeds::faulty_spans),
+    campaign(Part::Feed, "feed: dense maps", ceilings::dense_maps),
+    campaign(Part::Feed, "feed: stars and chains", ceilings::stars_and_chains),
     campaign(Part::Feed, "feed: large maps", feeds::large_maps),
     campaign(Part::Feed, "feed: large maps, numbers of spans", span_counts::large_maps),
     campaign(Part::Feed, "feed: large maps with windows", windows::large_maps),
     campaign(Part::Feed, "feed: large maps full of ties", ties::large_maps),
+    campaign(Part::Feed, "feed: four spans a place", ceilings::four_a_place),
     campaign(Part::Budget, "budget: worked runs", budgets::worked),
     campaign(Part::Budget, "budget: worked windows", windows::worked_within),
     campaign(Part::Budget, "budget: worked ties", ties::worked_within),
     campaign(Part::Budget, "budget: worked numbers of spans", span_counts::worked_within),
+    campaign(Part::Budget, "budget: worked ceilings", ceilings::worked_within),
     campaign(Part::Budget, "budget: lengths of the list of joints", lengths::joints_within),
     campaign(Part::Budget, "budget: lengths of the store", lengths::store_within),
     campaign(Part::Budget, "budget: two faulty spans, open or closed", windows::span_faults_within),
@@ -122,10 +128,13 @@ pub const ALL: [Campaign; 107] = [
     campaign(Part::Budget, "budget: random maps with windows", windows::random_within),
     campaign(Part::Budget, "budget: random maps, around every loss", budgets::random_maps),
     campaign(Part::Budget, "budget: calls one after another", budgets::one_after_another),
+    campaign(Part::Budget, "budget: dense maps", ceilings::dense_within),
+    campaign(Part::Budget, "budget: stars and chains", ceilings::stars_and_chains_within),
     campaign(Part::Budget, "budget: large maps", budgets::large_maps),
     campaign(Part::Budget, "budget: large maps, numbers of spans", span_counts::large_within),
     campaign(Part::Budget, "budget: large maps with windows", windows::large_within),
     campaign(Part::Budget, "budget: large maps full of ties", ties::large_within),
+    campaign(Part::Budget, "budget: four spans a place", ceilings::four_a_place_within),
     campaign(Part::Map, "map: numbers of a line", map_texts::lines),
     campaign(Part::Map, "map: one list shorter or longer", map_texts::one_list),
     campaign(Part::Map, "map: minutes and windows of any range", map_texts::ranges),
@@ -138,6 +147,7 @@ pub const ALL: [Campaign; 107] = [
     campaign(Part::QueueProgram, "queue program: zeros before every number", numbers::queue_program),
     campaign(Part::FeedProgram, "feed program: windows", programs::feed_at_minutes),
     campaign(Part::FeedProgram, "feed program: numbers of spans", span_counts::feed_program),
+    campaign(Part::FeedProgram, "feed program: ceilings", ceilings::feed_program),
     campaign(Part::FeedProgram, "feed program: ties", programs::feed_with_ties),
     campaign(Part::FeedProgram, "feed program", programs::feed),
     campaign(Part::FeedProgram, "feed program: zeros before every number", numbers::feed_program),

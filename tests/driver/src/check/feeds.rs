@@ -1,5 +1,6 @@
 //! Feed calls, in full and with a budget.
 
+use super::ceilings::Work;
 use super::{same, same_list, Checker, Guarded, Verdict};
 use crate::engine::{BudgetLists, FeedLists};
 use reference::feed::{self, Asked, Lent, Spans};
@@ -154,6 +155,22 @@ fn counts_spans<const FIGURES: usize, const LISTS: usize>(asked: Asked, fed: &Fe
     }
 }
 
+/// Links and cuts are at most the ceilings: of the call, where it is a full one, and of the map. This needs no reference.
+fn keeps_ceilings<const FIGURES: usize, const LISTS: usize>(asked: Asked, fed: &Fed<FIGURES, LISTS>) -> Verdict {
+    let work = Work {
+        places: asked.places.into(),
+        spans: asked.spans.from.len() as u64,
+        reached: fed.losses().iter().filter(|&&loss| loss != NONE).count() as u64,
+        links: fed.figures[0],
+        cuts: fed.figures[1],
+        examined: fed.figures[2].into(),
+    };
+    match fed.lists.get(4) {
+        Some(_) => work.keeps_map_ceilings(),
+        None => work.keeps_ceilings(),
+    }
+}
+
 fn same_fed<const FIGURES: usize, const LISTS: usize>(
     name: &str,
     asked: Asked,
@@ -162,8 +179,10 @@ fn same_fed<const FIGURES: usize, const LISTS: usize>(
 ) -> Verdict {
     same(name, &engine.code, &reference.code)?;
     if engine.code == 0 {
-        let laws = leads_back(asked, engine).and_then(|()| counts_spans(asked, engine));
-        laws.map_err(|fault| format!("{name}: {fault}"))?;
+        leads_back(asked, engine)
+            .and_then(|()| keeps_ceilings(asked, engine))
+            .and_then(|()| counts_spans(asked, engine))
+            .map_err(|fault| format!("{name}: {fault}"))?;
     }
     same(&format!("{name} figures"), &engine.figures, &reference.figures)?;
     for (number, list) in ["losses", "spans", "joints", "store", "places"].iter().take(LISTS).enumerate() {

@@ -39,7 +39,9 @@ impl Mock {
         let BudgetLists { best, last, joints, .. } = lists;
         self.spoil_closed(asked, best, last);
         figures[2] = self.examined(Within { asked, ..within }, best, figures[2]);
-        self.spoil_joints(within, Table { best, last, joints }, figures);
+        let mut table = Table { best, last, joints };
+        self.spoil_work(within, &mut table, figures);
+        self.spoil_joints(within, table, figures);
         0
     }
 

@@ -37,7 +37,9 @@ impl Mock {
         let FeedLists { best, last, joints, .. } = lists;
         self.spoil_closed(asked, best, last);
         figures[2] = self.examined(Within { asked, budget: NONE }, best, figures[2]);
-        self.spoil_joints(Within { asked: used, budget: NONE }, Table { best, last, joints }, figures);
+        let (within, mut table) = (Within { asked: used, budget: NONE }, Table { best, last, joints });
+        self.spoil_work(within, &mut table, figures);
+        self.spoil_joints(within, table, figures);
         0
     }
 

@@ -1,6 +1,7 @@
 //! Wrong engines: the reference with one deliberate fault each. The campaigns must catch them all.
 
 mod budgets;
+mod ceilings;
 mod counts;
 mod feeds;
 mod joints;
@@ -162,6 +163,10 @@ variants! {
         CountFromOne SpansCountedTwice CountCutTo8Bits CountCutTo12Bits;
     [Feed Budget] CountCutTo14Bits;
     [Budget] SpansBeyondTheBudgetCounted SpansOfWaitingPlacesCounted SpansOfTheFirstWaitingPlaceCounted;
+    // Links, cuts and spans examined by which a ceiling is broken. Up to the least ceiling only a comparison shows it.
+    [Feed Budget FeedProgram]
+        LinksCountedFiveFold CutsCountedTenFold FeedTallyNotReset LinksAtTheLargest CutsLessLinks OneAboveTheCeiling
+        OneSpanNotCounted SpansOfTheStartNotCounted StartNotReached EveryRootLinkedAtATaking AtTheCeiling;
     // Windows: what is refused.
     [Feed Budget FeedProgram]
         WindowTestedBeforeOrder WindowTestedBeforePlaces WindowsTestedAfterAllSpans AlwaysOpenWindowRefused

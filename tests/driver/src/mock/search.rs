@@ -1,6 +1,7 @@
 //! A search that makes its queue calls one by one: for faults in what is shown while places wait, in which chain is
 //! chosen, and in what is counted.
 
+use super::ceilings::take_linking_all;
 use super::Mock;
 use super::Variant::*;
 use reference::feed::Asked;
@@ -32,6 +33,8 @@ pub(super) struct Search<'a> {
     pub(super) entries: Vec<Entry>,
     pub(super) links: u32,
     pub(super) cuts: u32,
+    /// The sum over the calls made of all links until then.
+    pub(super) carried: u32,
     /// How often an entry changed for one of equal loss.
     pub(super) ties: u32,
 }
@@ -41,7 +44,7 @@ impl Mock {
     pub(super) fn search<'a>(&'a self, within: Within<'a>) -> Search<'a> {
         let Asked { places, start, .. } = within.asked;
         let (queues, entries) = (Queues::new(places), vec![Entry::NOTHING; places as usize]);
-        let mut search = Search { mock: self, queues, entries, links: 0, cuts: 0, ties: 0 };
+        let mut search = Search { mock: self, queues, entries, links: 0, cuts: 0, carried: 0, ties: 0 };
         search.offer(start, Entry { loss: 0, hops: 0, span: NONE });
         while search.first_waiting().is_some_and(|(_, loss)| loss <= within.budget) {
             let place = search.make(Call::ExtractMin { heap: 0 }).item;
@@ -110,9 +113,15 @@ impl Search<'_> {
     }
 
     fn make(&mut self, call: Call) -> Answer {
-        let answer = self.queues.answer(Some(call));
+        let answer = match call {
+            Call::ExtractMin { heap } if self.mock.is(EveryRootLinkedAtATaking) => {
+                take_linking_all(&mut self.queues, heap as usize)
+            }
+            _ => self.queues.answer(Some(call)),
+        };
         self.links += answer.links;
         self.cuts += answer.cuts;
+        self.carried = self.carried.wrapping_add(self.links);
         answer
     }
 }
