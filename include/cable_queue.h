@@ -119,8 +119,8 @@ uint32_t turn_store(const uint32_t *old, size_t old_len, uint32_t *turned, size_
  * With four spans a place the second is 1,348 for 64 places, 27,652 for 1,024 and 118,788 for 4,096. The third is that of
  * the call, where reached is the number of places with a loss in best, the start among them, and examined the figure:
  *   links + cuts <= reached + 4 * (examined + 1 - reached) + reached * R(reached)
- * Here reached is at most examined + 1. Closed spans count in spans and in examined as open ones do, so that the ceilings
- * hold at every minute. */
+ * Here reached is from 1 to examined + 1. Closed spans count in spans and in examined as open ones do, so that the
+ * ceilings hold at every minute. */
 uint32_t feed_table(uint32_t places, uint32_t start, uint32_t minute, const uint32_t *from, size_t from_len,
                     const uint32_t *to, size_t to_len, const uint32_t *loss, size_t loss_len, const uint32_t *opens,
                     size_t opens_len, const uint32_t *closes, size_t closes_len, uint32_t *best, size_t best_len,
@@ -137,8 +137,8 @@ uint32_t feed_table(uint32_t places, uint32_t start, uint32_t minute, const uint
  *
  * The figures are links, cuts, spans examined and places listed; four zeros after a refusal. Links and cuts are those made
  * until the first place waiting is beyond the budget. Spans examined is exactly the number of spans e for which from[e] is
- * a listed place, closed ones included; a span of a place beyond the budget does not count. Whatever the budget,
- * links + cuts is at most the first two ceilings of feed_table, and places listed is at most spans examined + 1. */
+ * a listed place, closed ones included; a span of a place beyond the budget does not count. The ceilings of feed_table
+ * hold with every budget; reached is then the number of places listed. */
 uint32_t feed_budget(uint32_t places, uint32_t start, uint32_t minute, const uint32_t *from, size_t from_len,
                      const uint32_t *to, size_t to_len, const uint32_t *loss, size_t loss_len, const uint32_t *opens,
                      size_t opens_len, const uint32_t *closes, size_t closes_len, uint32_t budget, uint32_t *best,

@@ -782,12 +782,13 @@ static uint32_t reached_in(words best) {
     return reached;
 }
 
-/* What holds for every call that is done: no term of a ceiling is negative, and the two ceilings of the map. */
-static int keeps_map_ceilings(uint32_t places, uint32_t spans, words best, words figures) {
-    uint32_t reached = reached_in(best), moves = figures.at[0] + figures.at[1];
+/* What holds for every call that is done: no term of a ceiling is negative, and links and cuts are at most that of the
+ * call and the two of the map. */
+static int are_within(uint32_t places, uint32_t spans, words best, words figures) {
+    uint32_t reached = reached_in(best), moves = figures.at[0] + figures.at[1], examined = figures.at[2];
     int is_sharper = places >= 5 && places <= spans + 1;
-    return reached >= 1 && reached <= figures.at[2] + 1 && moves <= map_ceiling(places, spans)
-           && (!is_sharper || moves <= ceiling(places, spans));
+    return reached >= 1 && reached <= examined + 1 && moves <= ceiling(reached, examined)
+           && moves <= map_ceiling(places, spans) && (!is_sharper || moves <= ceiling(places, spans));
 }
 
 /* The full call at noon has these figures, so many places reached, and keeps every ceiling. */
@@ -798,14 +799,13 @@ static int keeps_ceilings(uint32_t places, span_lists spans, uint32_t reached, u
     int same = feed_table(places, 0, 720, LENT_SPANS(spans), LENT(best), LENT(last), LENT(joints), LENT(store),
                           figures.at) == 0;
     same &= are(figures.at, links, cuts, examined) && reached_in(best) == reached;
-    same &= keeps_map_ceilings(places, (uint32_t)spans.from.len, best, figures);
-    same &= links + cuts <= ceiling(reached, examined);
+    same &= are_within(places, (uint32_t)spans.from.len, best, figures);
     words blocks[] = { best, last, joints, store, figures };
     for (size_t i = 0; i < sizeof blocks / sizeof *blocks; i++) free(blocks[i].at);
     return same;
 }
 
-/* The call at noon with this budget lists so many places, has these links and cuts, and keeps the map's ceilings. */
+/* The call at noon with this budget lists so many places, has these links and cuts, and keeps every ceiling. */
 static int keeps_within(uint32_t places, span_lists spans, uint32_t budget, uint32_t listed, uint32_t links,
                         uint32_t cuts) {
     words best = filled(places), last = filled(places), joints = filled(places), store = filled(STORE(places));
@@ -813,7 +813,7 @@ static int keeps_within(uint32_t places, span_lists spans, uint32_t budget, uint
     int same = feed_budget(places, 0, 720, LENT_SPANS(spans), budget, LENT(best), LENT(last), LENT(joints), LENT(list),
                            LENT(store), figures.at) == 0;
     same &= figures.at[0] == links && figures.at[1] == cuts && figures.at[3] == listed && reached_in(best) == listed;
-    same &= keeps_map_ceilings(places, (uint32_t)spans.from.len, best, figures);
+    same &= are_within(places, (uint32_t)spans.from.len, best, figures);
     words blocks[] = { best, last, joints, store, list, figures };
     for (size_t i = 0; i < sizeof blocks / sizeof *blocks; i++) free(blocks[i].at);
     return same;

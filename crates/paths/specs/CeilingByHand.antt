@@ -36,13 +36,13 @@ down i zero = []
 down i (suc k) = (i + suc k) ∷ down i k
 
 -- Each of 11 places has spans to all places after it, the last first. Place i is taken with loss i. It offers the next
--- place i + 1, and the others 40 - i, which is one less than they have from the place before. So nearly all of the 55
+-- place i + 1, and the others 22 - i, which is one less than they have from the place before. So nearly all of the 55
 -- spans lower a place.
 unfoldable pub denseMap : Map
 denseMap =
     mapOf 11 0
     (spanLists (placeByPlace (λ i. replicate (10 - i) i) 10) (placeByPlace (λ i. down i (10 - i)) 10)
-    (placeByPlace (λ i. replicate (9 - i) (40 - 2 * i) ++ (1 ∷ [])) 10))
+    (placeByPlace (λ i. replicate (9 - i) (22 - 2 * i) ++ (1 ∷ [])) 10))
 
 unfoldable pub ceilingMaps : List Map
 ceilingMaps = aloneMap ∷ eightMap ∷ closedMap ∷ denseMap ∷ []

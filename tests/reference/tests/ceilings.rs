@@ -56,19 +56,16 @@ impl Map {
         Done { moves, examined: figures.examined.into(), reached, figures, best }
     }
 
-    /// Tests all that is claimed for a full call, and for those with the given budgets.
+    /// Tests all that is claimed, for a full call and for those with the given budgets.
     fn keeps_ceilings(&self, budgets: impl Iterator<Item = u32>) {
-        let full = self.fed(None);
-        self.keeps_map_ceilings(&full);
-        assert!(full.moves <= ceiling(full.reached, full.examined));
-        budgets.for_each(|budget| self.keeps_map_ceilings(&self.fed(Some(budget))));
-    }
-
-    fn keeps_map_ceilings(&self, done: &Done) {
         let (places, spans) = (u64::from(self.places), self.spans.len() as u64);
-        assert!(1 <= done.reached && done.reached <= done.examined + 1);
-        assert!(done.moves <= map_ceiling(places, spans));
-        assert!(sharp_map_ceiling(places, spans).is_none_or(|most| done.moves <= most));
+        for budget in budgets.map(Some).chain([None]) {
+            let Done { moves, examined, reached, .. } = self.fed(budget);
+            assert!(1 <= reached && reached <= examined + 1);
+            assert!(moves <= ceiling(reached, examined));
+            assert!(moves <= map_ceiling(places, spans));
+            assert!(sharp_map_ceiling(places, spans).is_none_or(|most| moves <= most));
+        }
     }
 }
 

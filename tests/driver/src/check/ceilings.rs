@@ -17,23 +17,15 @@ pub(super) struct Work {
 }
 
 impl Work {
-    /// What holds for a full call: its own ceiling, and those of the map.
+    /// The ceilings of the map, the higher one first, and that of the call, which is the lowest.
     pub(super) fn keeps_ceilings(&self) -> Verdict {
-        let Work { reached, examined, .. } = *self;
-        self.has_a_ceiling()?;
-        self.is_within(ceiling(reached, examined), format!("{reached} places reached and {examined} spans examined"))?;
-        self.keeps_map_ceilings()
-    }
-
-    /// What holds for every call, with a budget too.
-    pub(super) fn keeps_map_ceilings(&self) -> Verdict {
-        let Work { places, spans, .. } = *self;
+        let Work { places, spans, reached, examined, .. } = *self;
         self.has_a_ceiling()?;
         self.is_within(map_ceiling(places, spans), format!("a map of {places} places and {spans} spans"))?;
-        match sharp_map_ceiling(places, spans) {
-            Some(most) => self.is_within(most, format!("a map of {places} places, at least 5, and {spans} spans")),
-            None => Ok(()),
+        if let Some(most) = sharp_map_ceiling(places, spans) {
+            self.is_within(most, format!("a map of {places} places, at least 5, and {spans} spans"))?;
         }
+        self.is_within(ceiling(reached, examined), format!("{reached} places reached and {examined} spans examined"))
     }
 
     /// The start is reached, and every other place over a span of its own: no term of the ceiling is negative.
@@ -78,4 +70,34 @@ fn printed_work(map: &[u8], table: &[&[u8]], figures: &[u8]) -> Verdict<Work> {
         cuts,
         examined: examined.into(),
     })
+}
+
+#[cfg(test)]
+mod tests {
+    use super::Work;
+
+    fn fault(reached: u64, examined: u64, moves: u32) -> String {
+        let work = Work { places: 11, spans: 55, reached, examined, links: moves - 1, cuts: 1 };
+        work.keeps_ceilings().err().unwrap_or_default()
+    }
+
+    /// Of 11 places and 55 spans the ceilings are 265 and 235, of 5 places reached and 20 spans examined 84. Each is
+    /// tested: one more than the lower ones is within the next.
+    #[test]
+    fn each_ceiling_by_itself() {
+        assert_eq!(fault(5, 20, 84), "");
+        assert!(fault(5, 20, 85).contains("above 84, the ceiling of 5 places reached and 20 spans examined"));
+        assert!(fault(5, 20, 235).contains("above 84, "));
+        assert!(fault(5, 20, 236).contains("above 235, the ceiling of a map of 11 places, at least 5, and 55 spans"));
+        assert!(fault(5, 20, 265).contains("above 235, "));
+        assert!(fault(5, 20, 266).contains("above 265, the ceiling of a map of 11 places and 55 spans"));
+    }
+
+    #[test]
+    fn places_within_the_spans() {
+        assert_eq!(fault(1, 0, 1), "");
+        assert_eq!(fault(8, 7, 1), "");
+        assert!(fault(0, 0, 1).contains("0 places are reached"));
+        assert!(fault(8, 6, 1).contains("8 places are reached and 6 spans examined"));
+    }
 }

@@ -155,7 +155,7 @@ fn counts_spans<const FIGURES: usize, const LISTS: usize>(asked: Asked, fed: &Fe
     }
 }
 
-/// Links and cuts are at most the ceilings: of the call, where it is a full one, and of the map. This needs no reference.
+/// Links and cuts are at most the ceilings of the map and of the call. This needs no reference.
 fn keeps_ceilings<const FIGURES: usize, const LISTS: usize>(asked: Asked, fed: &Fed<FIGURES, LISTS>) -> Verdict {
     let work = Work {
         places: asked.places.into(),
@@ -165,10 +165,7 @@ fn keeps_ceilings<const FIGURES: usize, const LISTS: usize>(asked: Asked, fed: &
         cuts: fed.figures[1],
         examined: fed.figures[2].into(),
     };
-    match fed.lists.get(4) {
-        Some(_) => work.keeps_map_ceilings(),
-        None => work.keeps_ceilings(),
-    }
+    work.keeps_ceilings()
 }
 
 fn same_fed<const FIGURES: usize, const LISTS: usize>(

@@ -4,7 +4,7 @@ use super::joints::Table;
 use super::search::Within;
 use super::Mock;
 use super::Variant::*;
-use reference::ceiling::{ceiling, map_ceiling, sharp_map_ceiling};
+use reference::ceiling::ceiling;
 use reference::feed::Asked;
 use reference::queue::link;
 use reference::{Answer, Queues, NONE};
@@ -20,8 +20,8 @@ impl Mock {
             Some(FeedTallyNotReset) => figures[0] = self.search(within).carried,
             Some(LinksAtTheLargest) => figures[0] = NONE,
             Some(CutsLessLinks) => figures[1] = cuts.wrapping_sub(links),
-            Some(AtTheCeiling) => figures[0] = least_ceiling(within, table, figures) - cuts,
-            Some(OneAboveTheCeiling) => figures[0] = least_ceiling(within, table, figures) - cuts + 1,
+            Some(AtTheCeiling) => figures[0] = ceiling_of(table, examined) - cuts,
+            Some(OneAboveTheCeiling) => figures[0] = ceiling_of(table, examined) - cuts + 1,
             Some(OneSpanNotCounted) => figures[2] = examined.saturating_sub(1),
             Some(SpansOfTheStartNotCounted) => {
                 figures[2] -= spans.from.iter().filter(|&&from| from == start).count() as u32;
@@ -39,15 +39,10 @@ impl Mock {
     }
 }
 
-/// The least of the ceilings that a call has: its own if it is a full one, else the map's.
-fn least_ceiling(within: Within, table: &Table, figures: &[u32]) -> u32 {
-    let (places, spans) = (u64::from(within.asked.places), within.asked.spans.from.len() as u64);
+/// The ceiling of a call with this table.
+fn ceiling_of(table: &Table, examined: u32) -> u32 {
     let reached = table.best.iter().filter(|&&loss| loss != NONE).count() as u64;
-    let least = match figures {
-        [_, _, examined] => ceiling(reached, u64::from(*examined)),
-        _ => sharp_map_ceiling(places, spans).unwrap_or(map_ceiling(places, spans)),
-    };
-    least as u32
+    ceiling(reached, examined.into()) as u32
 }
 
 /// Takes the first item, and links all roots into one tree, whatever their ranks.

@@ -163,7 +163,7 @@ variants! {
         CountFromOne SpansCountedTwice CountCutTo8Bits CountCutTo12Bits;
     [Feed Budget] CountCutTo14Bits;
     [Budget] SpansBeyondTheBudgetCounted SpansOfWaitingPlacesCounted SpansOfTheFirstWaitingPlaceCounted;
-    // Links, cuts and spans examined by which a ceiling is broken. Up to the least ceiling only a comparison shows it.
+    // Links, cuts and spans examined by which a ceiling is broken. Up to the call's own only a comparison shows it.
     [Feed Budget FeedProgram]
         LinksCountedFiveFold CutsCountedTenFold FeedTallyNotReset LinksAtTheLargest CutsLessLinks OneAboveTheCeiling
         OneSpanNotCounted SpansOfTheStartNotCounted StartNotReached EveryRootLinkedAtATaking AtTheCeiling;
