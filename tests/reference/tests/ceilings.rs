@@ -164,6 +164,16 @@ fn lower_bounds_are_broken() {
     }
 }
 
+/// So is the ceiling of a map without its term for the takings, on a star whose losses are scattered over the list.
+#[test]
+fn lower_bound_of_a_map_is_broken() {
+    let star = Map::open(101, (1..=100).map(|to| [0, to, 1 + 7 * to % 101]));
+    let done = star.fed(None);
+    assert_eq!((done.reached, done.examined), (101, 100));
+    assert!(done.moves > 4 * 100 + 1);
+    star.keeps_ceilings([0, 50, NONE].into_iter());
+}
+
 /// Four spans a place. F(10) = 55 is the last up to 64, F(16) = 987 up to 1,024, and F(18) = 2,584 up to 4,096.
 #[test]
 fn four_spans_a_place() {
