@@ -4,18 +4,18 @@ use mathlib.Core.Path.{_≡_, refl, ap, _∙_}
 use mathlib.Core.List.{List}
 use native.Mathlib.Nat.{le-refl}
 use native.Mathlib.Omega.{arith}
-use lib.ListN.{length, getD, take, drop}
+use lib.ListN.{length, getD, drop}
 use lib.Seq.{take-append-seam, drop-append-seam}
 use mathlib.Core.Bool.{false}
 use lib.Dec.{ltb}
 use borrow.Author.Tests.{le-ltb}
 use Rattle.rules.specs.Forests.{none}
 use Rattle.paths.specs.Map.{Map, Accepted}
-use Rattle.paths.specs.Table.{unlimited, upTo, Listing}
+use Rattle.paths.specs.Table.{unlimited, upTo}
 use Rattle.paths.specs.Queue.{NextPlace, halts, takes, next}
 use Rattle.paths.specs.Search.{Search, step, steps, never, beyond, search, find, placesTaken}
 use Rattle.paths.specs.Feed.{ResultLists, codeFor, feedAs, feedResult, budgetAs, budgetResult}
-use Rattle.paths.specs.Theorems.{Right, RightList, BudgetDone, LargestBudget}
+use Rattle.paths.specs.Theorems.{RightList, BudgetDone, LargestBudget}
 use Rattle.paths.proofs.Waiting.{next-takes}
 use Rattle.paths.proofs.Stopping.{stopped, next-stopped}
 use Rattle.paths.proofs.Chains.{met-small}
@@ -43,17 +43,24 @@ module _ (b : ℕ) (m : Map) (lent : ResultLists) (listed : List ℕ) where
         examined = rw taken (listed-count m _ places L);
       }
 
-pub budgetDone : BudgetDone
+-- a result with code 0 is that of a call which is done
+pub budget-code : (b : ℕ) (m : Map) (lent : ResultLists) (listed : List ℕ)
+    → (budgetResult b m lent listed) .feed .code ≡ 0
+    → (codeFor m lent (length listed) ≡ 0) × (budgetResult b m lent listed ≡ budgetAs 0 b m lent listed)
 unfolding budgetResult budgetAs feedAs
-budgetDone b m lent listed = go (codeFor m lent (length listed)) refl
+budget-code b m lent listed = go (codeFor m lent (length listed)) refl
   where
     go : (c : ℕ) → codeFor m lent (length listed) ≡ c → (budgetAs c b m lent listed) .feed .code ≡ 0
-        → Right (upTo b) m ((budgetAs c b m lent listed) .feed) × RightList m listed (budgetAs c b m lent listed)
-    go zero e _ = (
-      done-right (upTo b) m lent (done-accepted m lent (length listed) e),
-      list-right b m lent listed e,
-    )
+        → (codeFor m lent (length listed) ≡ 0) × (budgetAs c b m lent listed ≡ budgetAs 0 b m lent listed)
+    go zero e _ = (e, refl)
     go (suc c) e z = absurd (omega (arith, z))
+
+pub budgetDone : BudgetDone
+unfolding budgetAs
+budgetDone b m lent listed z =
+    let D = budget-code b m lent listed z in
+    rw (D .1)
+    (done-right (upTo b) m lent (done-accepted m lent (length listed) (D .0)), list-right b m lent listed (D .0))
 
 -- ---- the largest budget
 
@@ -93,29 +100,23 @@ unfolding search
 find-same m A = steps-same m A (m .places)
 
 pub largestBudget : LargestBudget
-unfolding budgetResult feedResult budgetAs feedAs
-largestBudget m lent listed = go (codeFor m lent (length listed)) refl
-  where
-    go : (c : ℕ) → codeFor m lent (length listed) ≡ c → (budgetAs c none m lent listed) .feed .code ≡ 0
-        → ((budgetAs c none m lent listed) .feed ≡ feedAs (codeFor m lent (m .places)) unlimited m lent)
-        × Listing ((feedAs (codeFor m lent (m .places)) unlimited m lent) .left .best)
-        (take ((budgetAs c none m lent listed) .number) ((budgetAs c none m lent listed) .listed))
-    go zero e _ =
-        let F =
-        codeZero .only m (length (lent .best)) (length (lent .last)) (length (lent .joints)) (length listed)
-        (length (lent .store)) e in
-        let full : codeFor m lent (m .places) ≡ 0 =
-        codeZero .accepts m (length (lent .best)) (length (lent .last)) (length (lent .joints)) (m .places)
-        (length (lent .store))
-        (record {
-          accepted = F .accepted;
-          best = F .best;
-          last = F .last;
-          joints = F .joints;
-          listed = le-refl _;
-          store = F .store;
-        }) in
-        let s = find-same m (F .accepted) in
-        let l = list-right none m lent listed e .listing in
-        rw full (rw s, rw s at l)
-    go (suc c) e z = absurd (omega (arith, z))
+unfolding feedResult budgetAs feedAs
+largestBudget m lent listed z =
+    let D = budget-code none m lent listed z in
+    let F =
+    codeZero .only m (length (lent .best)) (length (lent .last)) (length (lent .joints)) (length listed)
+    (length (lent .store)) (D .0) in
+    let full : codeFor m lent (m .places) ≡ 0 =
+    codeZero .accepts m (length (lent .best)) (length (lent .last)) (length (lent .joints)) (m .places)
+    (length (lent .store))
+    (record {
+      accepted = F .accepted;
+      best = F .best;
+      last = F .last;
+      joints = F .joints;
+      listed = le-refl _;
+      store = F .store;
+    }) in
+    let s = find-same m (F .accepted) in
+    let l = list-right none m lent listed (D .0) .listing in
+    rw (D .1, full) (rw s, rw s at l)

@@ -32,11 +32,16 @@ done-right limit m lent A =
       atMost = count-most m (shownBest (find limit m));
     }
 
-pub feedDone : FeedDone
+-- a result with code 0 is that of a call which is done
+pub feed-code : (m : Map) (lent : ResultLists) → (feedResult m lent) .code ≡ 0
+    → Accepted m × (feedResult m lent ≡ feedAs 0 unlimited m lent)
 unfolding feedResult feedAs
-feedDone m lent = go (codeFor m lent (m .places)) refl
+feed-code m lent = go (codeFor m lent (m .places)) refl
   where
     go : (c : ℕ) → codeFor m lent (m .places) ≡ c → (feedAs c unlimited m lent) .code ≡ 0
-        → Right unlimited m (feedAs c unlimited m lent)
-    go zero e _ = done-right unlimited m lent (done-accepted m lent (m .places) e)
+        → Accepted m × (feedAs c unlimited m lent ≡ feedAs 0 unlimited m lent)
+    go zero e _ = (done-accepted m lent (m .places) e, refl)
     go (suc c) e z = absurd (omega (arith, z))
+
+pub feedDone : FeedDone
+feedDone m lent z = let D = feed-code m lent z in rw (D .1) (done-right unlimited m lent (D .0))

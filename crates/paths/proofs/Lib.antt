@@ -44,8 +44,8 @@ pub mod Codes
 pub mod Supply
 pub mod Accepts
 pub mod FeedDone
-pub mod ReachedPlaces
-pub mod WithinCeiling
 pub mod ChainsOpen
 pub mod AllDay
 pub mod BudgetDone
+pub mod ReachedPlaces
+pub mod WithinCeiling

@@ -1,5 +1,5 @@
--- R, summed over p takings from a queue that has p + d items at most, and one less after each. The d items that are left
--- add no more than 3 each to p * R p.
+-- R, summed over p takings from a queue that has p + d items at most, and one less after each. The d items that are
+-- left add no more than 3 each to p * R p.
 use Prim.Native.Nat.{ℕ, zero, suc, _+_, _*_, _-_, _≤_, _<_, zero-le}
 use mathlib.Core.Path.{_≡_, refl}
 use mathlib.Core.Bool.{Bool, true, false}

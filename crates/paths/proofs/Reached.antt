@@ -1,5 +1,5 @@
 -- The places that count as reached, and those that are listed: a chain within the limit leads to each, and to no other.
-use Prim.Native.Nat.{ℕ, _≤_, _<_}
+use Prim.Native.Nat.{ℕ, _≤_}
 use mathlib.Core.Path.{_≡_, _∙_}
 use mathlib.Core.Logic.{_≢_}
 use native.Mathlib.Omega.{arith}
@@ -12,9 +12,9 @@ use Rattle.paths.proofs.Waiting.{word-in}
 use Rattle.paths.proofs.Least.{entry-chain}
 use Rattle.paths.proofs.Table.{noneUnreached}
 
-is-reached : (l : ℕ) → l < none → isReached l ≡ 1
+pub is-reached : (l : ℕ) → l ≢ none → isReached l ≡ 1
 unfolding isReached
-is-reached l h = rw (ne-eqb l none (λ e. omega arith))
+is-reached l n = rw (ne-eqb l none n)
 
 reached-is : (l : ℕ) → 1 ≤ isReached l → l ≢ none
 unfolding isReached
@@ -25,7 +25,7 @@ reachedExactly =
     record {
       reached =
           λ limit m A best last joints T p c h i.
-          is-reached (getD best p none) (noneUnreached limit m A best last joints T p c h i);
+          is-reached (getD best p none) (λ e. omega (arith, noneUnreached limit m A best last joints T p c h i));
       only =
           λ limit m best last joints T p h.
           let n = reached-is (getD best p none) h in

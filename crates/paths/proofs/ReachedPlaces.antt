@@ -7,14 +7,16 @@ use mathlib.Core.Bool.{Bool, true, false, cond, not}
 use native.Mathlib.Omega.{arith}
 use lib.ListN.{length, getD, List·getD-eq-default}
 use lib.Dec.{eqb}
-use borrow.Author.Tests.{eqb-true, eqb-false, ne-eqb}
+use borrow.Author.Tests.{eqb-true, eqb-false}
 use Rattle.rules.specs.Lists.{indicator, sumBy}
 use Rattle.rules.specs.Forests.{none}
+use Rattle.rules.proofs.Follow.{sum-ones}
 use Rattle.rules.proofs.SumTo.{sumTo-cong, sumBy-occurs, sumBy-places}
 use Rattle.paths.specs.Table.{isReached, Listing}
 use Rattle.paths.specs.Search.{hideWaiting}
 use Rattle.paths.specs.Ceiling.{reachedPlaces}
 use Rattle.paths.proofs.Invariant.{isNone, Waits, Met}
+use Rattle.paths.proofs.Reached.{is-reached}
 
 pub reached-or-none : (l : List ℕ) → sumBy isReached l + sumBy isNone l ≡ length l
 unfolding sumBy isReached isNone
@@ -25,10 +27,6 @@ reached-or-none (x ∷ l) = go (eqb x none) (reached-or-none l)
         → (indicator (not t) + sumBy isReached l) + (indicator t + sumBy isNone l) ≡ suc (length l)
     go true h = omega arith
     go false h = omega arith
-
-met-reached : (l : ℕ) → l ≢ none → isReached l ≡ 1
-unfolding isReached
-met-reached l n = rw (ne-eqb l none n)
 
 pub none-reached : isReached none ≡ 0
 unfolding isReached
@@ -51,18 +49,13 @@ shown-or-waits (w ∷ waits) (x ∷ best) e bit met =
         ≡ isReached x + sumBy isReached best
     go true q h = omega (arith, eqb-true w 0 q)
     go false q h =
-        let n : w ≢ 0 = eqb-false w 0 q in omega (arith, bit 0, met-reached x (met 0 n), none-reached)
-
-ones : (l : List ℕ) → length l ≡ sumBy (λ _. 1) l
-unfolding sumBy
-ones [] = refl
-ones (x ∷ l) = omega (arith, ones l)
+        let n : w ≢ 0 = eqb-false w 0 q in omega (arith, bit 0, is-reached x (met 0 n), none-reached)
 
 -- a place list has as many places as its table shows a loss for
 pub listed-reached : (best listed : List ℕ) → Listing best listed → length listed ≡ reachedPlaces best
 unfolding reachedPlaces
 listed-reached best listed L =
-    ones listed ∙ sumBy-occurs (length best) (λ _. 1) listed (λ p h. L .once p ∙ not-in p h)
+    sym (sum-ones listed) ∙ sumBy-occurs (length best) (λ _. 1) listed (λ p h. L .once p ∙ not-in p h)
     ∙ sumTo-cong (length best) _ _ (λ p _. omega (arith, L .once p)) ∙ sym (sumBy-places isReached none best)
   where
     not-in : (p : ℕ) → length best ≤ p → isReached (getD best p none) ≡ 0

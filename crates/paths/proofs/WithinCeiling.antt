@@ -1,5 +1,5 @@
 -- Links and cuts of a feed call that is done are within the ceilings of what it counts and of its map.
-use Prim.Native.Nat.{ℕ, zero, suc, _+_, _-_, _≤_}
+use Prim.Native.Nat.{ℕ, _+_, _-_, _≤_}
 use mathlib.Core.Path.{_≡_, refl}
 use mathlib.Core.List.{[]}
 use native.Mathlib.Nat.{le-trans, mul-le-mul-left, mul-le-mul-right, add-mul}
@@ -13,17 +13,7 @@ use Rattle.rules.proofs.Sums.{sumBy-set}
 use Rattle.paths.specs.Map.{Map, spans, Accepted}
 use Rattle.paths.specs.Table.{Limit, unlimited, upTo, isReached, leavingReached}
 use Rattle.paths.specs.Search.{Search, beyond, search, find, shownBest, placesTaken}
-use Rattle.paths.specs.Feed.{
-  linksOf,
-  cutsOf,
-  Feed,
-  codeFor,
-  feedAs,
-  feedResult,
-  BudgetFeed,
-  budgetAs,
-  budgetResult,
-}
+use Rattle.paths.specs.Feed.{linksOf, cutsOf, feedAs, budgetAs}
 use Rattle.paths.specs.Ceiling.{reachedPlaces, ceiling, mapCeiling, WithinCeilings}
 use Rattle.paths.specs.Theorems.{FeedCeiling, BudgetCeiling}
 use Rattle.paths.proofs.Invariant.{unsettled}
@@ -38,7 +28,8 @@ use Rattle.paths.proofs.RankSums.{ranks-excess}
 use Rattle.paths.proofs.Costs.{Costs, costs}
 use Rattle.paths.proofs.Counts.{moves-le}
 use Rattle.paths.proofs.ReachedPlaces.{reached-or-none, none-reached, shown-or-waits, listed-reached}
-use Rattle.paths.proofs.FeedDone.{done-accepted}
+use Rattle.paths.proofs.FeedDone.{done-accepted, feed-code}
+use Rattle.paths.proofs.BudgetDone.{budget-code}
 
 -- ---- from the ceiling of the counts to those of the map
 
@@ -157,28 +148,13 @@ module _ (limit : Limit) (m : Map) (A : Accepted m) where
 -- ---- the calls
 
 pub feedCeiling : FeedCeiling
-unfolding feedResult feedAs
-feedCeiling m lent = go (codeFor m lent (m .places)) refl
-  where
-    go : (c : ℕ) → codeFor m lent (m .places) ≡ c →
-        let r : Feed = feedAs c unlimited m lent in
-        r .code ≡ 0
-        → WithinCeilings (m .places) (spans m) (reachedPlaces (r .left .best)) (r .examined) (r .links + r .cuts)
-    go zero e _ = within unlimited m (done-accepted m lent (m .places) e)
-    go (suc c) e z = absurd (omega (arith, z))
+unfolding feedAs
+feedCeiling m lent z = let D = feed-code m lent z in rw (D .1) (within unlimited m (D .0))
 
 pub budgetCeiling : BudgetCeiling
-unfolding budgetResult budgetAs feedAs
-budgetCeiling b m lent listed = go (codeFor m lent (length listed)) refl
-  where
-    go : (c : ℕ) → codeFor m lent (length listed) ≡ c →
-        let r : BudgetFeed = budgetAs c b m lent listed in
-        let f : Feed = r .feed in
-        f .code ≡ 0
-        → (r .number ≡ reachedPlaces (f .left .best))
-        × WithinCeilings (m .places) (spans m) (r .number) (f .examined) (f .links + f .cuts)
-    go zero e _ =
-        let A = done-accepted m lent (length listed) e in
-        let n = listed-reached (shownBest (find (upTo b) m)) (placesTaken (upTo b) m) (finderListing (upTo b) m A) in
-        (n, rw n (within (upTo b) m A))
-    go (suc c) e z = absurd (omega (arith, z))
+unfolding budgetAs feedAs
+budgetCeiling b m lent listed z =
+    let D = budget-code b m lent listed z in
+    let A = done-accepted m lent (length listed) (D .0) in
+    let n = listed-reached (shownBest (find (upTo b) m)) (placesTaken (upTo b) m) (finderListing (upTo b) m A) in
+    rw (D .1) (n, rw n (within (upTo b) m A))

@@ -1,5 +1,5 @@
--- Ceilings (upper bounds) for the links and cuts of a feed call, by what the ledger allows its insertions, lowerings and
--- takings (request 9): one by what the call counts, one by the map alone.
+-- Ceilings (upper bounds) for the links and cuts of a feed call, by what the ledger allows its insertions, lowerings
+-- and takings (request 9): one by what the call counts, one by the map alone.
 use Prim.Native.Nat.{ℕ, _+_, _*_, _-_, _≤_}
 use mathlib.Core.List.{List}
 use Rattle.rules.specs.Lists.{sumBy}
@@ -10,9 +10,9 @@ use Rattle.paths.specs.Table.{isReached}
 unfoldable pub reachedPlaces : List ℕ → ℕ
 reachedPlaces best = sumBy isReached best
 
--- By p places reached and e spans examined. Each of the places is inserted, for 1, and taken, for R(p). All but the start
--- are met by a span of their own, which leaves e + 1 - p spans that may lower, for 4. (The paper writes e - p + 1.) Places
--- that a budget leaves waiting cost no more than the spans that met them are counted for here.
+-- By p places reached and e spans examined. Each of the places is inserted, for 1, and taken, for R(p). All but the
+-- start are met by a span of their own, which leaves e + 1 - p spans that may lower, for 4. (The paper writes e - p +
+-- 1.) Places that a budget leaves waiting cost no more than the spans that met them are counted for here.
 unfoldable pub ceiling : ℕ → ℕ → ℕ
 ceiling p e = p + 4 * (e + 1 - p) + p * R p
 

@@ -10,7 +10,7 @@ use reference::queue::link;
 use reference::{Answer, Queues, NONE};
 
 impl Mock {
-    /// Faults in the figures of a call that is done, and in the entry of its start. A full call has three figures.
+    /// Faults in the figures of a call that is done, and in the entry of its start.
     pub(super) fn spoil_work(&self, within: Within, table: &mut Table, figures: &mut [u32]) {
         let Asked { start, spans, .. } = within.asked;
         let [links, cuts, examined] = [figures[0], figures[1], figures[2]];
