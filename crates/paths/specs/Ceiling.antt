@@ -11,8 +11,8 @@ unfoldable pub reachedPlaces : List ℕ → ℕ
 reachedPlaces best = sumBy isReached best
 
 -- By p places reached and e spans examined. Each of the places is inserted, for 1, and taken, for R(p). All but the
--- start are met by a span of their own, which leaves e + 1 - p spans that may lower, for 4. (The paper writes e - p +
--- 1.) Places that a budget leaves waiting cost no more than the spans that met them are counted for here.
+-- start are met by a span of their own, which leaves e + 1 - p spans that may lower, for 4 (e - p + 1 in the paper).
+-- Places that a budget leaves waiting cost no more than the spans that met them are counted for here.
 unfoldable pub ceiling : ℕ → ℕ → ℕ
 ceiling p e = p + 4 * (e + 1 - p) + p * R p
 

@@ -75,10 +75,9 @@ Keeps m =
     let r : Feed = fed m in
     WithinCeilings (m .places) (spans m) (reachedPlaces (r .left .best)) (r .examined) (r .links + r .cuts)
 
--- The start alone is one place more than spans are examined. Its eight spans make 10 links, where the ceiling without p
--- * R p would be 9; the dense map makes 60 moves, where the ceiling without 4 * (e + 1 - p) would be 55. A budget of 4
--- reaches as many places as the closed map, over as many spans, so the ceiling is the same, 36; all eight were
--- inserted.
+-- The start alone is one place more than spans are examined. Its eight spans make 10 links, where the ceiling would be
+-- 9 without p * R p; the dense map makes 60 moves, where it would be 55 without 4 * (e + 1 - p). A budget of 4 reaches
+-- as many places as the closed map, over as many spans, so the ceiling is the same, 36; all eight were inserted.
 pub record WorkedCeilings : Type 0 where
   pub figures :
       map counted ceilingMaps

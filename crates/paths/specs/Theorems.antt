@@ -300,8 +300,7 @@ BudgetDone =
     r .feed .code ≡ 0 → Right (upTo budget) m (r .feed) × RightList m listed r
 
 -- Links and cuts of a feed call that is done are within the ceilings: of the map, and of the places that the table left
--- shows a loss for and the spans answered. With a budget the number of these places is answered, as that of those
--- listed.
+-- shows a loss for and the spans answered. With a budget the call answers how many places these are: those listed.
 abbrev pub FeedCeiling : Type 0
 FeedCeiling =
     (m : Map) (lent : ResultLists) →
