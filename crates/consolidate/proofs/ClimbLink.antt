@@ -61,7 +61,7 @@ module _ {n h base : ℕ} {rest : List ℕ} {amounts : ℕ → ℕ} {goal : Link
   abbrev second : ℕ
   second = loser (t .key) (getD ps r none) x
 
-  -- one place fewer is taken, so the tally has room for the link
+  -- one place fewer is taken, so there is room for the link
   fewer : length (occupied (set ps r none)) + 1 ≡ length (occupied ps)
   unfolding busy
   fewer =
@@ -69,7 +69,7 @@ module _ {n h base : ℕ} {rest : List ℕ} {amounts : ℕ → ℕ} {goal : Link
       let b : busy (getD ps r none) ≡ 1 = rw (ne-eqb (getD ps r none) none (taken G e z)) in
       omega (arith, length-occupied (set ps r none), length-occupied ps, sumBy-set busy ps r none none k)
 
-  pub links-fit : links < 4294967295
+  pub links-fit : links < 4096
   links-fit = omega (arith, G .fits, fewer)
 
   -- after the link

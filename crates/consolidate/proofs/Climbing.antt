@@ -35,13 +35,13 @@ pub record Climbing (n h base : ℕ) (rest : List ℕ) (amounts : ℕ → ℕ) (
   pub state : Consolidating n h w ps (x ∷ rest) rest amounts here
   pub rank : rankOf here x ≡ r
   pub tallied : links ≡ base + made
-  pub fits : links + length (occupied ps) ≤ 4294967295
+  pub fits : links + length (occupied ps) ≤ 4096
   pub enough : 18 ≤ fuel + r
   pub whole : climb fuel (isFree ps r) r x (record { places = ps; links = made; forests = here }) ≡ goal
 
 -- a tree comes to the places
 pub climb-starts : (n h base k : ℕ) (rest w ps : List ℕ) (amounts : ℕ → ℕ) (t : Forests) (x links r : ℕ)
-    → Consolidating n h w ps (x ∷ rest) rest amounts t → links ≡ base + k → links + length (occupied ps) ≤ 4294967295
+    → Consolidating n h w ps (x ∷ rest) rest amounts t → links ≡ base + k → links + length (occupied ps) ≤ 4096
     → r ≡ look n w Rank x → Climbing n h base rest amounts (climbTree ps k t x) w ps x r links
 unfolding climbTree
 climb-starts n h base k rest w ps amounts t x links r C e f q =

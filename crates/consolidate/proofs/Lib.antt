@@ -13,6 +13,7 @@ pub mod RowWords
 pub mod Climbing
 pub mod ClimbMeeting
 pub mod ClimbLink
+pub mod ClimbPlaces
 pub mod Releasing
 pub mod TreesToCome
 pub mod LinkingRow

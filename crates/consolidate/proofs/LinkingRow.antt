@@ -30,15 +30,15 @@ pub record LinkingRow (n h base : ℕ) (amounts : ℕ → ℕ) (goal : Linking) 
   pub state : Consolidating n h w ps rest rest amounts here
   pub head : x ≡ headOr none rest
   pub tallied : links ≡ base + made
-  pub fits : links + length (occupied ps) + length rest ≤ 4294967295
+  pub fits : links + length (occupied ps) + length rest ≤ 4096
   pub whole : linkTrees 18 rest (record { places = ps; links = made; forests = here }) ≡ goal
 
 -- all trees of the row are to come, and all places are free
-pub walk-starts : {n h m : ℕ} {w : List ℕ} {amounts : ℕ → ℕ} {t : Forests} (x links : ℕ) → Rowed n h m w amounts t
-    → WellFormed t → h < 8 → x ≡ look n w FirstTree h → links + 4096 ≤ 4294967295
-    → LinkingRow n h links amounts (linkRow h t) w (replicate 17 none) x links
+pub walk-starts : {n h m : ℕ} {w : List ℕ} {amounts : ℕ → ℕ} {t : Forests} (x : ℕ) → Rowed n h m w amounts t
+    → WellFormed t → h < 8 → x ≡ look n w FirstTree h
+    → LinkingRow n h 0 amounts (linkRow h t) w (replicate 17 none) x 0
 unfolding linkRow KeysFit occupied
-walk-starts {n} {h} {m} {w} {amounts} {t} x links R W k e f =
+walk-starts {n} {h} {m} {w} {amounts} {t} x R W k e =
     let H = held-start h t k (to-formed t W) in
     let C : Consolidating n h w (replicate 17 none) (rowOf t h) (rowOf t h) amounts t =
     record {
@@ -67,6 +67,9 @@ module _ {n h base : ℕ} {amounts : ℕ → ℕ} {goal : Linking} {w ps : List 
   -- as many are to come as the next words lead to
   pub walk-left : length (follow n (look n w Next) x) ≡ length (G .rest)
   walk-left = rw (G .head) (ap length (follows (G .state)))
+
+  pub links-few : links ≤ 4096
+  links-few = omega (arith, G .fits)
 
   -- ---- no tree is left
 
@@ -128,7 +131,7 @@ module _ {n h base : ℕ} {amounts : ℕ → ℕ} {goal : Linking} {w ps : List 
               omega (arith, head-out x (first .tail) (comes-once C), ap (λ z. occurs z (first .tail)) e)));
         }
 
-    room : links + length (occupied ps) + suc (length (first .tail)) ≤ 4294967295
+    room : links + length (occupied ps) + suc (length (first .tail)) ≤ 4096
     room = rw (first .is) at (G .fits)
 
     pub walk-ready : ClimbReady n h w ps x links

@@ -33,13 +33,13 @@ unfoldable pub climbTree : List ℕ → ℕ → Forests → ℕ → Linking
 climbTree ps k t x =
     climb 18 (isFree ps (rankOf t x)) (rankOf t x) x (record { places = ps; links = k; forests = t })
 
--- the tree x may come: there is room in the tally for a link with each tree at the places
+-- the tree x may come; links so far and trees at the places are no more than a table has items
 pub record ClimbReady (n h : ℕ) (w ps : List ℕ) (x links : ℕ) : Type 0 where
   pub rest : List ℕ
   pub amounts : ℕ → ℕ
   pub forests : Forests
   pub state : Consolidating n h w ps (x ∷ rest) rest amounts forests
-  pub fits : links + length (occupied ps) ≤ 4294967295
+  pub fits : links + length (occupied ps) ≤ 4096
 
 -- after a step: the places and links are those of the rules, and the words are as the next step needs them
 pub record Climbed (n h base : ℕ) (rest w ps : List ℕ) (links : ℕ) (amounts : ℕ → ℕ) (l : Linking) : Type 0 where
@@ -68,10 +68,9 @@ pub record ConsolidateReady (n : ℕ) (w : List ℕ) (h links : ℕ) : Type 0 wh
 unfoldable pub linkRow : ℕ → Forests → Linking
 linkRow h t = linkTrees 18 (rowOf t h) (record { places = replicate 17 none; links = 0; forests = t })
 
-unfoldable pub LinksRow : ℕ → List ℕ → ℕ → ℕ → List ℕ → List ℕ → ℕ → Type 0
-LinksRow n w h links w′ ps links′ =
-    (m : ℕ) (a : ℕ → ℕ) (t : Forests) → Rowed n h m w a t → WellFormed t
-    → Climbed n h links [] w′ ps links′ a (linkRow h t)
+unfoldable pub LinksRow : ℕ → List ℕ → ℕ → List ℕ → List ℕ → ℕ → Type 0
+LinksRow n w h w′ ps links =
+    (m : ℕ) (a : ℕ → ℕ) (t : Forests) → Rowed n h m w a t → WellFormed t → Climbed n h 0 [] w′ ps links a (linkRow h t)
 
 -- the row is written anew from the places
 pub record RowReady (n : ℕ) (w : List ℕ) (h : ℕ) (ps : List ℕ) : Type 0 where

@@ -1,22 +1,28 @@
 // Linking, and taking a heap's minimum, on a store for n items.
 ghost use mathlib.Core.Path.{_≡_};
 ghost use mathlib.Core.Bool.{cond};
-ghost use Prim.Native.Nat.{_<_};
+ghost use Prim.Native.Nat.{_≤_, _<_};
+ghost use lib.ListN.{getD};
 ghost use Rattle.rules.specs.declared.Field.the-variants.{Key};
 ghost use Rattle.rules.specs.Order.{comesBefore};
 ghost use Rattle.rules.specs.Words.{decode, look};
 ghost use Rattle.store.specs.ItemOrder.{itemKey};
 ghost use Rattle.store.specs.Says.{Within};
 ghost use Rattle.linking_places.specs.Places.{treesOf};
+ghost use Rattle.linking_places.specs.Taken.{takenOf, TakenAt};
 ghost use Rattle.consolidate.specs.Consolidating.{ClimbReady, ConsolidateReady, RowReady};
 ghost use Rattle.consolidate.specs.Consolidating.{Consolidates, LinksRow, Climbs, WritesRow};
 ghost use Rattle.consolidate.specs.Extract.{ExtractReady, Performs};
 ghost use Rattle.consolidate.specs.Released.{ReleaseReady, Releases};
 ghost use Rattle.consolidate.specs.Removed.{RemovesRoot, RootReady};
 ghost use Rattle.consolidate.specs.Writing.{TreeReady, WritesTree};
+use linking_places::free_place;
 use linking_places::free_places;
 use linking_places::hold;
 use linking_places::holder;
+use linking_places::is_taken;
+use linking_places::leave;
+use linking_places::take_place;
 use rules::Field;
 use rules::Tally;
 use store::NONE;
@@ -58,60 +64,85 @@ fn in_order(s: &[u32], n: usize, h: u32, a: u32, b: u32) -> Pair
     }
 }
 
-// The places, and the tally so far.
+// The links made so far in a row, which places are taken, and the places.
 struct Linked {
+    links: u32,
+    taken: u32,
     places: [u16; 17],
-    tally: Tally,
 }
 
 // A tree of heap h comes to the places: it is linked with the holder of the place of its rank, and the winner climbs
-// one rank, until it rests at a free place.
-fn climb(s: &mut [u32], n: usize, h: u32, held: [u16; 17], tree: u32, tally: Tally) -> Linked
-    requires { ⌜ ClimbReady n h (now s) (treesOf held) tree (tally .links) ⌝ }
-    ensures { λ r. ⌜ Climbs n h (now (s .entry)) (treesOf held) tree (tally .links)
-        (now (s .exit)) (treesOf (r .places)) (r .tally .links) ⌝ }
-    ensures { λ r. ⌜ r .tally .cuts ≡ tally .cuts ⌝ }
+// one rank, until it rests at a free place. Whether a place is taken is asked of `taken`, so that the test need not wait
+// for the comparison that decides which tree is there; holders are read from the places as they were before.
+fn climb(
+    s: &mut [u32],
+    n: usize,
+    h: u32,
+    held: [u16; 17],
+    held_taken: u32,
+    tree: u32,
+    made: u32,
+) -> Linked
+    requires { ⌜ ClimbReady n h (now s) (treesOf held) tree made ⌝ }
+    requires { ⌜ «held_taken» ≡ takenOf (treesOf held) ⌝ }
+    ensures { λ r. ⌜ Climbs n h (now (s .entry)) (treesOf held) tree made
+        (now (s .exit)) (treesOf (r .places)) (r .links) ⌝ }
+    ensures { λ r. ⌜ r .taken ≡ takenOf (treesOf (r .places)) ⌝ }
 {
     let mut places = held;
+    let mut taken = held_taken;
     let mut x = tree;
-    let mut t = tally;
-    let mut r = get(s, n, Field::Rank, x);
+    let mut links = made;
+    let mut r = get(s, n, Field::Rank, x) as u16;
     let rank = loop {
-        let y = holder(&places, r);
-        if y == NONE {
+        if !is_taken(taken, r) {
             break r;
         }
+        let y = holder(&held, r);
         let pair = in_order(s, n, h, y, x);
         let w = pair.first;
         append(s, n, Owner::Children(w), pair.second);
-        hold(&mut places, r, NONE);
-        t = t.link();
+        let left = leave(places, y);
+        places = left;
+        taken = free_place(taken, r);
+        links += 1;
         x = w;
         r += 1;
     };
-    hold(&mut places, rank, x);
-    Linked { places, tally: t }
+    let now_taken = take_place(taken, rank);
+    let now_held = hold(places, rank, x);
+    Linked {
+        links,
+        taken: now_taken,
+        places: now_held,
+    }
 }
 
 // The trees of the row of heap h come to the places, left to right. Its links are left as they are.
-fn link_row(s: &mut [u32], n: usize, h: u32, tally: Tally) -> Linked
-    requires { ⌜ ConsolidateReady n (now s) h (tally .links) ⌝ }
-    ensures { λ r. ⌜ LinksRow n (now (s .entry)) h (tally .links)
-        (now (s .exit)) (treesOf (r .places)) (r .tally .links) ⌝ }
-    ensures { λ r. ⌜ r .tally .cuts ≡ tally .cuts ⌝ }
+fn link_row(s: &mut [u32], n: usize, h: u32) -> Linked
+    requires { ⌜ ConsolidateReady n (now s) h 0 ⌝ }
+    ensures { λ r. ⌜ LinksRow n (now (s .entry)) h (now (s .exit)) (treesOf (r .places)) (r .links) ⌝ }
+    ensures { λ r. ⌜ r .links ≤ 4096 ⌝ }
+    ensures { λ r. ⌜ r .taken ≡ takenOf (treesOf (r .places)) ⌝ }
 {
     let mut places = free_places();
-    let mut t = tally;
+    let mut taken = 0;
+    let mut links = 0;
     let mut x = get(s, n, Field::FirstTree, h);
     while x != NONE {
         let next = get(s, n, Field::Next, x);
-        let c = climb(s, n, h, places, x, t);
+        let c = climb(s, n, h, places, taken, x, links);
         let q = c.places;
         places = q;
-        t = c.tally;
+        taken = c.taken;
+        links = c.links;
         x = next;
     }
-    Linked { places, tally: t }
+    Linked {
+        links,
+        taken,
+        places,
+    }
 }
 
 // The siblings from `child` on, `count` of them, become roots of heap h, unmarked.
@@ -146,21 +177,33 @@ pub fn remove_root(s: &mut [u32], n: usize, h: u32, x: u32)
     put(s, n, Field::Count, h, count - 1);
 }
 
-// The tree x, unless it is NONE, put at the end of the row of heap h, whose least item was m. Gives the least item.
-fn write_tree(s: &mut [u32], n: usize, h: u32, m: u32, x: u32) -> u32
-    requires { ⌜ TreeReady n (now s) h m x ⌝ }
-    ensures { λ r. ⌜ WritesTree n (now (s .entry)) h m x (now (s .exit)) r ⌝ }
+// The tree at place r, unless that is free, put at the end of the row of heap h, whose least item was m. Gives the
+// least item.
+fn write_tree(
+    s: &mut [u32],
+    n: usize,
+    h: u32,
+    m: u32,
+    places: &[u16; 17],
+    taken: u32,
+    r: u16,
+) -> u32
+    requires { ⌜ TreeReady n (now s) h m (getD (treesOf (now places)) r 0) ⌝ }
+    requires { ⌜ TakenAt (treesOf (now places)) taken r ⌝ }
+    ensures { λ q. ⌜ WritesTree n (now (s .entry)) h m (getD (treesOf (now (places .entry))) r 0) (now (s .exit)) q ⌝ }
 {
-    if x == NONE {
+    if !is_taken(taken, r) {
         return m;
     }
+    let x = holder(places, r);
     append(s, n, Owner::Row(h), x);
     lesser_of(s, n, h, m, x)
 }
 
 // The row of heap h written anew from the places, by ascending rank, with its minimum.
-fn write_row(s: &mut [u32], n: usize, h: u32, places: [u16; 17])
+fn write_row(s: &mut [u32], n: usize, h: u32, places: [u16; 17], taken: u32)
     requires { ⌜ RowReady n (now s) h (treesOf places) ⌝ }
+    requires { ⌜ taken ≡ takenOf (treesOf places) ⌝ }
     ensures { λ r. ⌜ WritesRow n (now (s .entry)) h (treesOf places) (now (s .exit)) ⌝ }
 {
     put(s, n, Field::FirstTree, h, NONE);
@@ -168,8 +211,7 @@ fn write_row(s: &mut [u32], n: usize, h: u32, places: [u16; 17])
     let mut m = NONE;
     let mut r = 0;
     while r < 17 {
-        let x = holder(&places, r);
-        m = write_tree(s, n, h, m, x);
+        m = write_tree(s, n, h, m, &places, taken, r);
         r += 1;
     }
     put(s, n, Field::Minimum, h, m);
@@ -181,10 +223,10 @@ fn consolidate(s: &mut [u32], n: usize, h: u32, tally: Tally) -> Tally
     ensures { λ r. ⌜ Consolidates n (now (s .entry)) h (tally .links) (now (s .exit)) (r .links) ⌝ }
     ensures { λ r. ⌜ r .cuts ≡ tally .cuts ⌝ }
 {
-    let linked = link_row(s, n, h, tally);
+    let linked = link_row(s, n, h);
     let places = linked.places;
-    write_row(s, n, h, places);
-    linked.tally
+    write_row(s, n, h, places, linked.taken);
+    tally.link(linked.links)
 }
 
 // The item that a call took out, its key, and the tally.

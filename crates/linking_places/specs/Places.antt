@@ -3,7 +3,7 @@ use Prim.Native.Nat.{ℕ, _<_}
 use mathlib.Core.Logic.{_≢_}
 use mathlib.Core.List.{List, map}
 use mathlib.Core.Bool.{cond}
-use lib.Dec.{ltb}
+use lib.Dec.{eqb, ltb}
 use Rattle.rules.specs.Forests.{none}
 
 -- the number at a free place, the largest of 16 bits
@@ -21,3 +21,7 @@ treesOf = map treeOf
 -- `none`, or an item that 16 bits tell from a free place
 abbrev pub Holdable : ℕ → Type 0
 Holdable x = x ≢ none → x < freePlace
+
+-- the places when the tree x has left
+unfoldable pub without : ℕ → List ℕ → List ℕ
+without x = map (λ y. cond (eqb y x) none y)

@@ -1,13 +1,15 @@
-// The seventeen places of linking, one to a rank (the array of roots by rank). Only this crate knows what the 16 bits of
-// a place stand for.
+// The seventeen places of linking, one to a rank (the array of roots by rank), and which of them are taken. Only this
+// crate knows what the 16 bits of a place stand for, and what the bits of the taken places do.
 ghost use mathlib.Core.Path.{_≡_};
-ghost use mathlib.Core.Bool.{cond};
-ghost use Prim.Native.Nat.{_<_};
+ghost use mathlib.Core.Logic.{_≢_};
+ghost use mathlib.Core.List.{List};
+ghost use mathlib.Core.Bool.{cond, not};
+ghost use Prim.Native.Nat.{ℕ, _<_};
 ghost use lib.Dec.{eqb};
 ghost use lib.ListN.{getD, replicate, set};
 ghost use Rattle.rules.specs.Forests.{none};
-ghost use Rattle.linking_places.specs.Places.{Holdable, treesOf};
-use store::NONE;
+ghost use Rattle.linking_places.specs.Places.{freePlace, Holdable, treesOf, without};
+ghost use Rattle.linking_places.specs.Taken.{takenOf, TakenAt};
 
 // What a place holds that has no tree.
 const FREE: u16 = 65535;
@@ -19,13 +21,13 @@ pub fn free_places() -> [u16; 17]
     [FREE; 17]
 }
 
-// The tree at place r, or NONE.
-pub fn holder(places: &[u16; 17], r: u32) -> u32
+// The tree at place r, which is taken.
+pub fn holder(places: &[u16; 17], r: u16) -> u32
     requires { ⌜ r < 17 ⌝ }
+    requires { ⌜ getD (treesOf (now places)) r 0 ≢ none ⌝ }
     ensures { λ x. ⌜ x ≡ getD (treesOf (now (places .entry))) r 0 ⌝ }
 {
-    let place = places[r as usize];
-    if place < FREE { place as u32 } else { NONE }
+    places[r as usize] as u32
 }
 
 // What place i holds when `place` is put at place r: that, or what it held.
@@ -35,19 +37,70 @@ fn choose(i: u16, r: u16, place: u16, held: u16) -> u16
     if i == r { place } else { held }
 }
 
-// The tree x, or NONE, put at place r. NONE cut to 16 bits is FREE. Every place is written anew: a step copies all
-// places at once, and after a store to one of them the copy would have to wait for it.
-pub fn hold(places: &mut [u16; 17], r: u32, x: u32)
+// The tree x put at place r. Every place is chosen anew, so that all of them stay in registers: after a store to one
+// place, a copy of all would have to wait for it. For the same reason ranks have the width of a place.
+pub fn hold(held: [u16; 17], r: u16, x: u32) -> [u16; 17]
     requires { ⌜ r < 17 ⌝ }
     requires { ⌜ Holdable x ⌝ }
-    ensures { λ q. ⌜ treesOf (now (places .exit)) ≡ set (treesOf (now (places .entry))) r x ⌝ }
+    ensures { λ q. ⌜ treesOf q ≡ set (treesOf held) r x ⌝ }
 {
     let place = (x % 65536) as u16;
-    let rank = r as u16;
+    let mut places = held;
     let mut i = 0;
     while i < 17 {
-        let held = places[i as usize];
-        places[i as usize] = choose(i, rank, place, held);
+        let old = places[i as usize];
+        places[i as usize] = choose(i, r, place, old);
         i += 1;
     }
+    places
+}
+
+// What a place holds when `gone` has left.
+fn free_if(held: u16, gone: u16) -> u16
+    ensures { λ p. ⌜ p ≡ cond (eqb held gone) freePlace held ⌝ }
+{
+    if held == gone { FREE } else { held }
+}
+
+// The places without the tree x, found by what they hold: a comparison of ranks would be made place by place.
+pub fn leave(held: [u16; 17], x: u32) -> [u16; 17]
+    requires { ⌜ x < freePlace ⌝ }
+    ensures { λ q. ⌜ treesOf q ≡ without x (treesOf held) ⌝ }
+{
+    let gone = x as u16;
+    let mut places = held;
+    let mut i: usize = 0;
+    while i < 17 {
+        let old = places[i];
+        places[i] = free_if(old, gone);
+        i += 1;
+    }
+    places
+}
+
+// Whether place r is taken, by the number of the taken places: known before the tree there is.
+pub fn is_taken(taken: u32, r: u16) -> bool
+    requires { ⌜ r < 17 ⌝ }
+    ensures { λ b. ⌜ ((ps : List ℕ) → TakenAt ps taken r → b ≡ not (eqb (getD ps r 0) none)) ⌝ }
+{
+    (taken >> (r as u32)) % 2 == 1
+}
+
+// The number of the taken places when place r, which was free, is taken.
+pub fn take_place(taken: u32, r: u16) -> u32
+    requires { ⌜ r < 17 ⌝ }
+    requires { ⌜ ((ps : List ℕ) × TakenAt ps taken r × (getD ps r 0 ≡ none)) ⌝ }
+    ensures { λ q. ⌜ ((ps : List ℕ) (x : ℕ) → TakenAt ps taken r → getD ps r 0 ≡ none → x ≢ none
+        → q ≡ takenOf (set ps r x)) ⌝ }
+{
+    taken + (1 << (r as u32))
+}
+
+// The same when place r, which was taken, is free.
+pub fn free_place(taken: u32, r: u16) -> u32
+    requires { ⌜ r < 17 ⌝ }
+    requires { ⌜ ((ps : List ℕ) × TakenAt ps taken r × (getD ps r 0 ≢ none)) ⌝ }
+    ensures { λ q. ⌜ ((ps : List ℕ) → TakenAt ps taken r → getD ps r 0 ≢ none → q ≡ takenOf (set ps r none)) ⌝ }
+{
+    taken - (1 << (r as u32))
 }

@@ -59,13 +59,13 @@ pub struct Tally {
 }
 
 impl Tally {
-    // One link more.
-    pub fn link(self) -> Tally
-        requires { ⌜ self .links < 4294967295 ⌝ }
-        ensures { λ r. ⌜ (r .links ≡ self .links + 1) × (r .cuts ≡ self .cuts) ⌝ }
+    // So many links more.
+    pub fn link(self, links: u32) -> Tally
+        requires { ⌜ self .links + links ≤ 4294967295 ⌝ }
+        ensures { λ r. ⌜ (r .links ≡ self .links + links) × (r .cuts ≡ self .cuts) ⌝ }
     {
         Tally {
-            links: self.links + 1,
+            links: self.links + links,
             cuts: self.cuts,
         }
     }

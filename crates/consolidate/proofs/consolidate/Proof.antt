@@ -1,5 +1,6 @@
 -- `consolidate::consolidate` meets its contract.
 use mathlib.Core.Path.{ap, _∙_}
+use native.Mathlib.Omega.{arith}
 use borrow.Author.Needs.{needs}
 use Rattle.rules.specs.Consolidate.{consolidate, consolidateWithin, occupied}
 use Rattle.rules.specs.Forests.{setRow}
@@ -8,14 +9,34 @@ use Rattle.consolidate.specs.Consolidating.{Consolidates, LinksRow, Writ
 use Rattle.consolidate.proofs.consolidate.Statement.{statement}
 use Rattle.consolidate.proofs.consolidate.Tie as tie
 
+link-row-requires : tie.Need-link-row-requires
+link-row-requires c κs =
+    let p = c .before .before .pre in
+    record {
+      heap = p .heap;
+      least = p .least;
+      amounts = p .amounts;
+      forests = p .forests;
+      rowed = p .rowed;
+      formed = p .formed;
+      fits = omega arith;
+    }
+
 write-row-requires : tie.Need-write-row-requires
 unfolding LinksRow
 write-row-requires c κs =
     let c4 = c .before .before .before .before in
     let c7 = c4 .before .before .before in
     let p = c7 .pre in
-    let S = c4 .link-row .ensures .0 (p .least) (p .amounts) (p .forests) (p .rowed) (p .formed) in
-    record { amounts = p .amounts; forests = linkRow (c7 .args .h) (p .forests) .forests; state = S .state }
+    let S = c4 .link-row .ensures .0 (p .least) (p .amounts) (p .forests) (p .rowed) (p .formed) in (
+      record { amounts = p .amounts; forests = linkRow (c7 .args .h) (p .forests) .forests; state = S .state },
+      c4 .link-row .ensures .1 .1,
+    )
+
+link-requires : tie.Need-link-requires
+link-requires c κs =
+    let c7 = c .before .before .before .before .before .before .before in
+    omega (arith, c7 .link-row .ensures .1 .0, c7 .before .before .before .pre .fits)
 
 returns : tie.Need-returns
 unfolding LinksRow WritesRow Consolidates consolidate consolidateWithin linkRow
@@ -29,11 +50,11 @@ returns c =
           record {
             words = c3 .write-row .ensures a (l .forests) (S .state)
                 ∙ ap (λ q. wordsWith a (setRow (c11 .args .h) (occupied q) (l .forests))) (S .places);
-            tallied = S .tallied;
+            tallied = omega (arith, c .link .ensures .0, S .tallied);
           },
-      c8 .link-row .ensures .1,
+      c .link .ensures .1,
     )
 
 pub consolidate-spec : {M : Type 1} → statement M
 consolidate-spec =
-    tie.close (tie.spec (λ c κs. c .before .before .pre) write-row-requires (λ c. search needs) returns)
+    tie.close (tie.spec link-row-requires write-row-requires link-requires (λ c. search needs) returns)

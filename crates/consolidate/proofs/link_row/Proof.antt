@@ -1,6 +1,6 @@
 -- `consolidate::link_row` meets its contract.
 use Prim.Native.Nat.{ℕ}
-use mathlib.Core.Path.{_≡_, refl, _∙_}
+use mathlib.Core.Path.{_≡_, refl, sym, ap}
 use native.Mathlib.Omega.{arith}
 use borrow.Author.Needs.{needs}
 use lib.ListN.{length}
@@ -9,10 +9,12 @@ use Rattle.rules.specs.Forests.{Forests}
 use Rattle.rules.specs.WellFormed.{WellFormed}
 use Rattle.rules.specs.Words.{follow, look}
 use Rattle.linking_places.specs.Places.{treesOf}
+use Rattle.linking_places.specs.Taken.{takenOf, treeBit}
 use Rattle.consolidate.specs.Consolidating.{LinksRow, linkRow}
 use Rattle.consolidate.specs.Stored.{Rowed}
 use Rattle.consolidate.proofs.LinkingRow.{
   LinkingRow,
+  links-few,
   walk-ends,
   walk-inside,
   walk-left,
@@ -24,20 +26,14 @@ use Rattle.consolidate.proofs.link_row.Statement.{statement}
 use Rattle.consolidate.proofs.link_row.Tie as tie
 
 abbrev Inv-loop : tie.InvT-loop
-Inv-loop s₀ n h places₀ t₀ x₀ s places t x =
-    (length s ≡ length s₀) × (t .cuts ≡ t₀ .cuts) ×
+Inv-loop s₀ n h places₀ taken₀ links₀ x₀ s places taken links x =
+    (length s ≡ length s₀) × (taken ≡ takenOf (treesOf places)) ×
     ((m : ℕ) (amounts : ℕ → ℕ) (u : Forests) → Rowed n h m s₀ amounts u → WellFormed u
-    → LinkingRow n h (t₀ .links) amounts (linkRow h u) s (treesOf places) x (t .links))
+    → LinkingRow n h 0 amounts (linkRow h u) s (treesOf places) x links)
 
 -- the trees to come, read off the words
 abbrev μ-loop : tie.MeasureT-loop
-μ-loop s₀ n h places₀ t₀ x₀ s places t x = length (follow n (look n s Next) x)
-
-returns : tie.Need-returns Inv-loop μ-loop
-unfolding LinksRow
-returns c =
-    let l = c .before .loop in
-    (λ m a u R W. walk-ends (l .inv .2 m a u R W) (c .loop-test .left), l .inv .1)
+μ-loop s₀ n h places₀ taken₀ links₀ x₀ s places taken links x = length (follow n (look n s Next) x)
 
 get-requires : tie.Need-get-requires Inv-loop μ-loop
 get-requires c κs =
@@ -45,23 +41,30 @@ get-requires c κs =
     record { sized = p .rowed .says .sized; inside = p .heap }
 
 loop-holds : tie.Need-loop-holds Inv-loop μ-loop
+unfolding takenOf treeBit
 loop-holds c =
     let c2 = c .before .before in
     let p = c2 .before .before .pre in (
       refl,
-      refl,
-      λ m a u R W. rw (c2 .free-places .ensures) (walk-starts _ _ R W (p .heap) (c .get .ensures) (p .fits)),
+      sym (ap takenOf (c2 .free-places .ensures)),
+      λ m a u R W. rw (c2 .free-places .ensures) (walk-starts _ R W (p .heap) (c .get .ensures)),
     )
 
 -- the state at the loop's head, for the forests that the caller has
 here : (c : tie.At-loop Inv-loop μ-loop) →
     let a = c .before .before .before .before .before .args in
     let p = c .before .before .before .before .before .pre in
-    LinkingRow (a .n) (a .h) (a .tally .links) (p .amounts) (linkRow (a .h) (p .forests)) (c .loop .s)
-    (treesOf (c .loop .places)) (c .loop .x) (c .loop .t .links)
+    LinkingRow (a .n) (a .h) 0 (p .amounts) (linkRow (a .h) (p .forests)) (c .loop .s) (treesOf (c .loop .places))
+    (c .loop .x) (c .loop .links)
 here c =
     let p = c .before .before .before .before .before .pre in
     c .loop .inv .2 (p .least) (p .amounts) (p .forests) (p .rowed) (p .formed)
+
+returns : tie.Need-returns Inv-loop μ-loop
+unfolding LinksRow
+returns c =
+    let l = c .before .loop in
+    (λ m a u R W. walk-ends (l .inv .2 m a u R W) (c .loop-test .left), (links-few (here (c .before)), l .inv .1))
 
 get-requires-2 : tie.Need-get-requires-2 Inv-loop μ-loop
 get-requires-2 c κs =
@@ -71,35 +74,32 @@ get-requires-2 c κs =
 climb-requires : tie.Need-climb-requires Inv-loop μ-loop
 climb-requires c κs =
     let c3 = c .before .before .before in
-    walk-ready (here (c3 .before)) (c3 .loop-test .taken)
+    (walk-ready (here (c3 .before)) (c3 .loop-test .taken), c3 .before .loop .inv .1)
 
 loop-less : tie.Need-loop-less Inv-loop μ-loop
 loop-less c =
-    let c4 = c .before .before .before .before in
-    let c6 = c4 .before .before in
-    let c8 = c6 .before .before in
-    let g = here (c8 .before) in
-    let s = walk-step g (c8 .loop-test .taken) (c6 .get2 .ensures) (c4 .climb .ensures .0) in
+    let c3 = c .before .before .before in
+    let c5 = c3 .before .before in
+    let c7 = c5 .before .before in
+    let g = here (c7 .before) in
+    let s = walk-step g (c7 .loop-test .taken) (c5 .get2 .ensures) (c3 .climb .ensures .0) in
     omega (arith, walk-left g, walk-left (s .next), s .less)
 
 loop-again : tie.Need-loop-again Inv-loop μ-loop
 loop-again c =
-    let c4 = c .before .before .before .before in
-    let c6 = c4 .before .before in
-    let c8 = c6 .before .before in
-    let c9 = c8 .before in (
-      omega (arith, c4 .climb .kept .0, c9 .loop .inv .0),
-      c4 .climb .ensures .1 ∙ c9 .loop .inv .1,
+    let c3 = c .before .before .before in
+    let c5 = c3 .before .before in
+    let c7 = c5 .before .before in
+    let c8 = c7 .before in (
+      omega (arith, c3 .climb .kept .0, c8 .loop .inv .0),
+      c3 .climb .ensures .1,
       λ m a u R W.
-          walk-step (c9 .loop .inv .2 m a u R W) (c8 .loop-test .taken) (c6 .get2 .ensures)
-          (c4 .climb .ensures .0) .next,
+          walk-step (c8 .loop .inv .2 m a u R W) (c7 .loop-test .taken) (c5 .get2 .ensures)
+          (c3 .climb .ensures .0) .next,
     )
-
-same-length : tie.Need-same-length Inv-loop μ-loop
-same-length c = search needs
 
 pub link-row-spec : {M : Type 1} → statement M
 link-row-spec =
     tie.close
     (tie.spec Inv-loop μ-loop (λ c κs. search needs) get-requires loop-holds get-requires-2 climb-requires loop-less
-    loop-again same-length returns)
+    loop-again (λ c. search needs) returns)

@@ -23,24 +23,24 @@ use Rattle.consolidate.proofs.write_row.Statement.{statement}
 use Rattle.consolidate.proofs.write_row.Tie as tie
 
 abbrev Inv-loop : tie.InvT-loop
-Inv-loop s₀ n h places m₀ r₀ s m r =
+Inv-loop s₀ n h taken places m₀ r₀ s m r =
     (length s ≡ length s₀) ×
     ((amounts : ℕ → ℕ) (t : Forests) → Disjoint t → KeysFit t → rowOf t h ≡ occupied (treesOf places)
     → WritingRow n h s₀ [] none amounts t → WritingRow n h s (occupied (take r (treesOf places))) m amounts t)
 
 abbrev μ-loop : tie.MeasureT-loop
-μ-loop s₀ n h places m₀ r₀ s m r = 17 - r
+μ-loop s₀ n h taken places m₀ r₀ s m r = 17 - r
 
 put-requires : tie.Need-put-requires Inv-loop μ-loop
 put-requires c κs =
-    let p = c .before .before .pre in
+    let p = c .before .before .pre .0 in
     record { sized = p .state .says .sized; inside = p .state .heap }
 
 put-requires-2 : tie.Need-put-requires-2 Inv-loop μ-loop
 put-requires-2 c κs =
     let c3 = c .before .before .before in
     let c6 = c3 .before .before .before in
-    record { sized = c3 .put .ensures .sized; inside = c6 .pre .state .heap }
+    record { sized = c3 .put .ensures .sized; inside = c6 .pre .0 .state .heap }
 
 loop-holds : tie.Need-loop-holds Inv-loop μ-loop
 unfolding occupied
@@ -51,61 +51,64 @@ here : (c : tie.At-loop Inv-loop μ-loop) →
     let c10 = c .before .before .before .before .before .before .before .before .before .before in
     let ps = treesOf (c10 .args .t4) in
     WritingRow (c10 .args .n) (c10 .args .h) (c .loop .s) (occupied (take (c .loop .r) ps)) (c .loop .m)
-    (c10 .pre .amounts) (setRow (c10 .args .h) (occupied ps) (c10 .pre .forests))
+    (c10 .pre .0 .amounts) (setRow (c10 .args .h) (occupied ps) (c10 .pre .0 .forests))
 here c =
     let c3 = c .before .before .before in
     let c7 = c3 .before .before .before .before in
     let c10 = c7 .before .before .before in
-    let C = c10 .pre .state in
+    let C = c10 .pre .0 .state in
     c .loop .inv .1 _ _ (places-formed C .disjoint) (places-formed C .keys) (places-row C)
     (writing-starts C (c7 .put .ensures) (c3 .put2 .ensures))
 
 write-tree-requires : tie.Need-write-tree-requires Inv-loop μ-loop
 write-tree-requires c κs =
-    let c1 = c .before in
-    let c3 = c1 .before .before in
-    let c4 = c3 .before in
-    let c14 = c4 .before .before .before .before .before .before .before .before .before .before in
-    let C = c14 .pre .state in
-    let ps = treesOf (c14 .args .t4) in
-    let r = c4 .loop .r in
-    let t = setRow (c14 .args .h) (occupied ps) (c14 .pre .forests) in
-    record {
-      amounts = c14 .pre .amounts;
-      forests = t;
-      written = occupied (take r ps);
-      rest = occupied (drop (r + 1) ps);
-      coming = coming (c14 .args .h) ps r t (places-formed C .disjoint) (places-formed C .keys) (C .heap)
-          (places-row C) (C .long)
-          (c3 .loop-test .taken) (c1 .holder .ensures);
-      state = here c4;
-    }
+    let c2 = c .before .before in
+    let c3 = c2 .before in
+    let c13 = c3 .before .before .before .before .before .before .before .before .before .before in
+    let p = c13 .pre .0 in
+    let C = p .state in
+    let ps = treesOf (c13 .args .t4) in
+    let r = c3 .loop .r in
+    let t = setRow (c13 .args .h) (occupied ps) (p .forests) in (
+      record {
+        amounts = p .amounts;
+        forests = t;
+        written = occupied (take r ps);
+        rest = occupied (drop (r + 1) ps);
+        coming = coming (c13 .args .h) ps r t (places-formed C .disjoint) (places-formed C .keys) (C .heap)
+            (places-row C) (C .long) (c2 .loop-test .taken) refl;
+        state = here c3;
+      },
+      record {
+        places = omega (arith, C .long);
+        inside = omega (arith, C .long, c2 .loop-test .taken);
+        number = c13 .pre .1;
+      },
+    )
 
 loop-again : tie.Need-loop-again Inv-loop μ-loop
 unfolding WritesTree
 loop-again c =
     let c2 = c .before .before in
-    let c4 = c2 .before .before in
-    let c6 = c4 .before .before in
-    let c7 = c6 .before in
-    let c17 = c7 .before .before .before .before .before .before .before .before .before .before in
-    let C = c17 .pre .state in
-    let h = c17 .args .h in
-    let ps = treesOf (c17 .args .t4) in
-    let r = c7 .loop .r in (
-      omega (arith, c2 .write-tree .kept .0, c7 .loop .inv .0),
+    let c5 = c2 .before .before .before in
+    let c6 = c5 .before in
+    let c16 = c6 .before .before .before .before .before .before .before .before .before .before in
+    let C = c16 .pre .0 .state in
+    let h = c16 .args .h in
+    let ps = treesOf (c16 .args .t4) in
+    let r = c6 .loop .r in (
+      omega (arith, c2 .write-tree .kept .0, c6 .loop .inv .0),
       λ a t D K e W.
-          place-written h ps r t D K (C .heap) e (C .long) (c6 .loop-test .taken) (c4 .holder .ensures)
+          place-written h ps r t D K (C .heap) e (C .long) (c5 .loop-test .taken) refl
           (c2 .write-tree .ensures _ _ a t
-          (coming h ps r t D K (C .heap) e (C .long) (c6 .loop-test .taken) (c4 .holder .ensures))
-          (c7 .loop .inv .1 a t D K e W)),
+          (coming h ps r t D K (C .heap) e (C .long) (c5 .loop-test .taken) refl) (c6 .loop .inv .1 a t D K e W)),
     )
 
 put-requires-3 : tie.Need-put-requires-3 Inv-loop μ-loop
 put-requires-3 c κs =
     let c2 = c .before .before in
     let c12 = c2 .before .before .before .before .before .before .before .before .before .before in
-    record { sized = here c2 .says .sized; inside = c12 .pre .state .heap }
+    record { sized = here c2 .says .sized; inside = c12 .pre .0 .state .heap }
 
 same-length : tie.Need-same-length Inv-loop μ-loop
 same-length c =
@@ -139,7 +142,6 @@ write-row-spec =
     put-requires
     put-requires-2
     loop-holds
-    (λ c κs. c .before .loop-test .taken)
     write-tree-requires
     (λ c. search needs)
     (λ c. search needs)

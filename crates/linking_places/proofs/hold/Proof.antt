@@ -10,19 +10,19 @@ use Rattle.linking_places.proofs.hold.Statement.{statement}
 use Rattle.linking_places.proofs.hold.Tie as tie
 
 abbrev Inv-loop : tie.InvT-loop
-Inv-loop places₀ r x place rank i₀ places i = places ≡ written places₀ rank place i
+Inv-loop r x place places₀ i₀ places i = places ≡ written places₀ r place i
 
 abbrev μ-loop : tie.MeasureT-loop
-μ-loop places₀ r x place rank i₀ places i = 17 - i
+μ-loop r x place places₀ i₀ places i = 17 - i
 
 loop-holds : tie.Need-loop-holds Inv-loop μ-loop
-loop-holds c = sym (none-written (c .args .places .now) (c .args .r) _)
+loop-holds c = sym (none-written (c .args .held) (c .args .r) _)
 
 loop-again : tie.Need-loop-again Inv-loop μ-loop
 loop-again c =
-    let c3 = c .before .before .before in
-    let a = c3 .before .args in
-    rw (c .choose .ensures, c3 .loop .inv) (next-written (a .places .now) (a .r) _ (c3 .loop .i))
+    let c2 = c .before .before in
+    let a = c2 .before .args in
+    rw (c .choose .ensures, c2 .loop .inv) (next-written (a .held) (a .r) _ (c2 .loop .i))
 
 -- Not by `cutStands`: an item and none are shown apart, so that a wrong cut is refused where it is false.
 returns : tie.Need-returns Inv-loop μ-loop
@@ -30,9 +30,9 @@ returns c =
     let c1 = c .before in
     let a = c1 .before .args in
     let h = c1 .before .pre .1 in
-    ap treesOf (c1 .loop .inv ∙ is-set (a .places .now) (a .r) _ (c1 .loop .i)
+    ap treesOf (c1 .loop .inv ∙ is-set (a .held) (a .r) _ (c1 .loop .i)
     (omega (arith, c .loop-test .left, c1 .before .pre .0)))
-    ∙ tree-put (a .places .now) (a .r) _ (a .x)
+    ∙ tree-put (a .held) (a .r) _ (a .x)
     (tree-of _ (a .x) (λ d. (omega (arith, h d), h d)) (λ e. omega (arith, e)))
 
 pub hold-spec : {M : Type 1} → statement M
@@ -41,7 +41,6 @@ hold-spec =
     (tie.spec
     Inv-loop
     μ-loop
-    (λ c. search needs)
     (λ c. search needs)
     loop-holds
     (λ c. search needs)
