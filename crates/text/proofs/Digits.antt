@@ -1,7 +1,7 @@
 -- Runs of digits and their values, and the loop that reads them.
-use Prim.Native.Nat.{ℕ, suc, _+_, _-_, _*_, _^_, _<_, _≤_, min}
+use Prim.Native.Nat.{ℕ, suc, _+_, _-_, _*_, _%_, _^_, _<_, _≤_, min}
 use mathlib.Core.Path.{_≡_, refl, sym}
-use mathlib.Core.Logic.{⊎-elim}
+use mathlib.Core.Logic.{_⊎_, ⊎-elim, inl, inr}
 use mathlib.Core.List.{List, [], _∷_}
 use native.Mathlib.Nat.{pow-suc, pow-le-pow-right}
 use native.Mathlib.Numerals.{add-one}
@@ -30,18 +30,26 @@ module _ (b : ℕ) (bs : List ℕ) where
   unfolding digitRun isDigit
   run-high hi = let lo : 48 ≤ b = omega arith in simp (le-leb 48 b lo, lt-leb b 57 hi)
 
--- the same at a position of a text
+-- the byte b less 48 is d, wrapped to 32 bits
+abbrev WrapsTo : (b d : ℕ) → Type 0
+WrapsTo b d = (d + 48) % 2 ^ 32 ≡ b
+
+module _ {b d : ℕ} (wraps : WrapsTo b d) where
+  digit-byte : d ≤ 9 → b ≡ d + 48
+  digit-byte small = omega arith
+
+  other-byte : d < 2 ^ 32 → 9 < d → (b < 48) ⊎ (57 < b)
+  other-byte fits large = ⊎-elim (λ (h : 48 ≤ b). inr (omega arith)) inl (le-or-lt 48 b)
+
+-- the run at a position of a text
 module _ (s : List ℕ) (i : ℕ) where
   run-more :
       i < length s → 48 ≤ getD s i 0 → getD s i 0 ≤ 57
       → digitRun (drop i s) ≡ getD s i 0 ∷ digitRun (drop (i + 1) s)
   run-more h lo hi = rw (add-one, drop-cons s i 0 h) (run-digit _ _ lo hi)
 
-  ends-low : i < length s → getD s i 0 < 48 → digitRun (drop i s) ≡ []
-  ends-low h lo = rw (drop-cons s i 0 h) (run-low _ _ lo)
-
-  ends-high : i < length s → 57 < getD s i 0 → digitRun (drop i s) ≡ []
-  ends-high h hi = rw (drop-cons s i 0 h) (run-high _ _ hi)
+  ends-other : i < length s → (getD s i 0 < 48) ⊎ (57 < getD s i 0) → digitRun (drop i s) ≡ []
+  ends-other h other = rw (drop-cons s i 0 h) (⊎-elim (run-low _ _) (run-high _ _) other)
 
   ends-text : length s ≤ i → digitRun (drop i s) ≡ []
   ends-text h = rw (drop-of-length-le s h) run-nil
@@ -91,30 +99,30 @@ module _ {s : List ℕ} {at i v : ℕ} (r : DigitsReadTo s at i v) where
         let few : i - at ≤ 10 = omega arith in
         omega (arith, r .small, pow-le-pow-right {n = 10} (omega arith) few)
 
-    pub read-low : getD s i 0 < 48 → DigitsRead (firstDigits s at) at i v
-    read-low lo = run-read (ends-low s i inside lo)
+    module _ {d : ℕ} (wraps : WrapsTo (getD s i 0) d) where
+      pub other-read : d < 2 ^ 32 → 9 < d → DigitsRead (firstDigits s at) at i v
+      other-read fits large = run-read (ends-other s i inside (other-byte wraps fits large))
 
-    pub read-high : 57 < getD s i 0 → DigitsRead (firstDigits s at) at i v
-    read-high hi = run-read (ends-high s i inside hi)
+      module _ (small : d ≤ 9) where
+        next : toRead s at i ≡ (d + 48) ∷ toRead s at (i + 1)
+        next =
+            let byte = digit-byte wraps small in
+            let left : at + suc mostDigits - i ≡ suc (at + suc mostDigits - (i + 1)) = omega arith in
+            rw (left, run-more s i inside (omega arith) (omega arith), byte)
 
-    module _ (lo : 48 ≤ getD s i 0) (hi : getD s i 0 ≤ 57) where
-      next : toRead s at i ≡ getD s i 0 ∷ toRead s at (i + 1)
-      next =
-          let left : at + suc mostDigits - i ≡ suc (at + suc mostDigits - (i + 1)) = omega arith in
-          rw (left, run-more s i inside lo hi)
-
-      pub one-read : DigitsReadTo s at (i + 1) (v * 10 + (getD s i 0 - 48))
-      unfolding valueFrom
-      one-read =
-          let ends : at + length (firstDigits s at) ≡ i + length (getD s i 0 ∷ toRead s at (i + 1))
-          = rw next at (r .ends) in
-          let read : i + 1 - at ≡ suc (i - at) = omega (arith, r .from) in
-          record {
-            from = omega (arith, r .from);
-            ends = omega arith;
-            exact = rw next at (r .exact);
-            small = rw read (value-small (i - at) v (getD s i 0 - 48) (r .small) (omega arith));
-          }
+        pub one-read : DigitsReadTo s at (i + 1) (v * 10 + d)
+        unfolding valueFrom
+        one-read =
+            let ends : at + length (firstDigits s at) ≡ i + length ((d + 48) ∷ toRead s at (i + 1))
+            = rw next at (r .ends) in
+            let read : i + 1 - at ≡ suc (i - at) = omega (arith, r .from) in
+            let digit : d + 48 - 48 ≡ d = omega arith in
+            record {
+              from = omega (arith, r .from);
+              ends = omega arith;
+              exact = rw (next, valueFrom, digit) at (r .exact);
+              small = rw read (value-small (i - at) v d (r .small) small);
+            }
 
   -- reading ends at i: with the text, or with one digit more than a number may have
   pub read-end : min (length s) (at + suc mostDigits) ≤ i → DigitsRead (firstDigits s at) at i v

@@ -10,6 +10,10 @@ use Rattle.text.specs.Output.{Wrote}
 use Rattle.text.proofs.Decimal.{decimal-low, decimal-high, length-high, some-digit}
 use Rattle.text.proofs.Wrote.{sets-append, sets-set}
 
+-- a single digit is written at once
+pub digit-written : (l : List ℕ) (at n : ℕ) → n < 10 → Wrote l at (decimal n) (set l at (48 + n)) (at + 1)
+digit-written l at n h = rw (decimal-low n h) (record { left = refl; next = refl })
+
 -- the digits of n from i on stand in l; those of m are still to be written at `at`
 pub record DigitsWritten (l₀ : List ℕ) (at n : ℕ) (l : List ℕ) (i m : ℕ) : Type 0 where
   pub whole : sets l₀ at (decimal n) ≡ sets l at (decimal m)
@@ -44,6 +48,6 @@ module _ {l₀ l : List ℕ} {at n i m : ℕ} (w : DigitsWritten l₀ at n l i m
   pub all-written : (end : ℕ) → end ≡ at + length (decimal n) → m < 10 → Wrote l₀ at (decimal n) (set l at (48 + m)) end
   all-written end e h =
       record {
-        left = sym (w .whole ∙ ap (λ (ds : List ℕ). sets l at ds) (decimal-low m h));
+        left = digit-written l at m h .left ∙ sym (w .whole);
         next = e;
       }

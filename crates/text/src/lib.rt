@@ -46,14 +46,13 @@ fn digits_at(s: &[u8], at: usize) -> DigitRun
     let mut i = at;
     let mut v: u64 = 0;
     while i < stop {
-        let b = s[i];
-        if b < b'0' {
+        // A byte below `0` wraps to a number above 9, so one test instead of two finds a byte that is no digit, and d is
+        // the value of a digit as it is.
+        let d = std::num::wrapping_sub_u32(s[i] as u32, 48);
+        if d > 9 {
             break;
         }
-        if b > b'9' {
-            break;
-        }
-        v = v * 10 + ((b - b'0') as u64);
+        v = v * 10 + (d as u64);
         i += 1;
     }
     DigitRun { end: i, value: v }

@@ -2,7 +2,7 @@
 use borrow.Author.Needs.{needs}
 use native.Mathlib.Omega.{arith}
 use Prim.Native.Nat.{_-_}
-use Rattle.text.proofs.Digits.{DigitsReadTo, none-read, value-fits, one-read, read-low, read-high, read-end}
+use Rattle.text.proofs.Digits.{DigitsReadTo, none-read, value-fits, one-read, other-read, read-end}
 use Rattle.text.proofs.digits_at.Statement.{statement}
 use Rattle.text.proofs.digits_at.Tie as tie
 
@@ -18,8 +18,14 @@ reading-end-requires c κs = search needs
 loop-holds : tie.Need-loop-holds Inv-loop μ-loop
 loop-holds c = none-read _ _
 
-shared-slice-read-b : tie.Need-shared-slice-read-b Inv-loop μ-loop
-shared-slice-read-b c = search needs
+shared-slice-read-wrapping-sub-u32 : tie.Need-shared-slice-read-wrapping-sub-u32 Inv-loop μ-loop
+shared-slice-read-wrapping-sub-u32 c = search needs
+
+cast-wrapping-sub-u32 : tie.Need-cast-wrapping-sub-u32 Inv-loop μ-loop
+cast-wrapping-sub-u32 c = omega (arith, c .shared-slice-known2 .given (c .before .before .loop .i))
+
+wrapping-sub-u32-requires : tie.Need-wrapping-sub-u32-requires Inv-loop μ-loop
+wrapping-sub-u32-requires c κs = search needs
 
 mul-v : tie.Need-mul-v Inv-loop μ-loop
 mul-v c =
@@ -34,7 +40,7 @@ add-v : tie.Need-add-v Inv-loop μ-loop
 add-v c =
     let test = c .before .before .before in
     let more = rw (test .before .before .reading-end .ensures) at (test .loop-test .taken) in
-    omega (arith, value-fits (test .before .loop .inv) more, c .if2 .left)
+    omega (arith, value-fits (test .before .loop .inv) more, c .if1 .left)
 
 add-i : tie.Need-add-i Inv-loop μ-loop
 add-i c = search needs
@@ -46,22 +52,16 @@ loop-again : tie.Need-loop-again Inv-loop μ-loop
 loop-again c =
     let test = c .before .before .before in
     let more = rw (test .before .before .reading-end .ensures) at (test .loop-test .taken) in
-    one-read (test .before .loop .inv) more (c .before .if1 .left) (c .if2 .left)
+    one-read (test .before .loop .inv) more (c .before .wrapping-sub-u32 .ensures) (c .if1 .left)
 
 returns : tie.Need-returns Inv-loop μ-loop
 returns c = read-end (c .before .loop .inv) (rw (c .before .before .reading-end .ensures) at (c .loop-test .left))
 
 returns-2 : tie.Need-returns-2 Inv-loop μ-loop
 returns-2 c =
-    let test = c .before .before in
-    let more = rw (test .before .before .reading-end .ensures) at (test .loop-test .taken) in
-    read-low (test .before .loop .inv) more (c .if1 .taken)
-
-returns-3 : tie.Need-returns-3 Inv-loop μ-loop
-returns-3 c =
     let test = c .before .before .before in
     let more = rw (test .before .before .reading-end .ensures) at (test .loop-test .taken) in
-    read-high (test .before .loop .inv) more (c .if2 .taken)
+    other-read (test .before .loop .inv) more (c .before .wrapping-sub-u32 .ensures) (omega arith) (c .if1 .taken)
 
 pub digits-at-spec : {M : Type 1} → statement M
 digits-at-spec =
@@ -71,7 +71,9 @@ digits-at-spec =
     μ-loop
     reading-end-requires
     loop-holds
-    shared-slice-read-b
+    shared-slice-read-wrapping-sub-u32
+    cast-wrapping-sub-u32
+    wrapping-sub-u32-requires
     mul-v
     cast-v
     add-v
@@ -79,5 +81,4 @@ digits-at-spec =
     loop-less
     loop-again
     returns
-    returns-2
-    returns-3)
+    returns-2)
