@@ -29,7 +29,7 @@ typedef struct {
 } search;
 
 /* The code of the first faulty span, or 0. */
-static uint32_t span_fault(uint32_t places, const span_lists *s, size_t spans)
+static uint32_t first_fault(uint32_t places, const span_lists *s, size_t spans)
 {
     for (size_t i = 0; i < spans; i++) {
         if (s->from[i] >= places || s->to[i] >= places)
@@ -42,6 +42,24 @@ static uint32_t span_fault(uint32_t places, const span_lists *s, size_t spans)
             return 23;
     }
     return 0;
+}
+
+/* Whether any span is faulty. No branch depends on a span, and each is compared with the one before it in a pass of its
+   own, so that several are tested at a time. */
+static bool is_any_faulty(uint32_t places, const span_lists *s, size_t spans)
+{
+    uint32_t faulty = 0;
+    for (size_t i = 0; i < spans; i++)
+        faulty |= (s->from[i] >= places) | (s->to[i] >= places) | (s->loss[i] - 1 >= MAX_LOSS)
+                  | (s->closes[i] <= s->opens[i]) | (s->closes[i] > MINUTES);
+    for (size_t i = 1; i < spans; i++)
+        faulty |= s->from[i] < s->from[i - 1];
+    return faulty != 0;
+}
+
+static uint32_t span_fault(uint32_t places, const span_lists *s, size_t spans)
+{
+    return is_any_faulty(places, s, spans) ? first_fault(places, s, spans) : 0;
 }
 
 static void index_spans(uint32_t places, const uint32_t *from, size_t spans, uint32_t *first_span)
@@ -122,12 +140,16 @@ static uint32_t find_within(const store *s, const search *run, uint32_t budget, 
     return count;
 }
 
-/* What places beyond the budget were offered is not shown. */
+/* What places beyond the budget were offered is not shown. No branch depends on a place, so that several are hidden at
+   a time. */
 static void hide_beyond(const search *run, uint32_t places, uint32_t budget)
 {
-    for (uint32_t place = 0; place < places; place++)
-        if (run->best[place] > budget)
-            run->best[place] = run->last[place] = run->joints[place] = NONE;
+    for (uint32_t place = 0; place < places; place++) {
+        uint32_t hidden = run->best[place] > budget ? NONE : 0;
+        run->best[place] |= hidden;
+        run->last[place] |= hidden;
+        run->joints[place] |= hidden;
+    }
 }
 
 /* The lengths of what a feed call is lent. */

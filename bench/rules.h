@@ -62,19 +62,16 @@ static inline void link_under(const store *s, uint32_t loser, uint32_t winner)
     parent->rank++;
 }
 
-/* Gives a tree a place of its rank, linking it with each holder on the way. */
+/* Gives a tree a place of its rank, linking it with each holder on the way. Which of the two wins is chosen without a
+   branch: if the holder does, they are swapped. */
 static inline uint32_t climb(const store *s, uint32_t amount, uint32_t place[RANKS], uint32_t tree)
 {
     uint32_t links = 0, rank = s->item[tree].rank;
     while (place[rank] != NONE) {
-        uint32_t holder = place[rank];
+        uint32_t holder = place[rank], swap = (tree ^ holder) & -(uint32_t)precedes(s, amount, holder, tree);
         place[rank] = NONE;
-        if (precedes(s, amount, tree, holder)) {
-            link_under(s, holder, tree);
-        } else {
-            link_under(s, tree, holder);
-            tree = holder;
-        }
+        tree ^= swap;
+        link_under(s, holder ^ swap, tree);
         links++;
         rank++;
     }
@@ -82,11 +79,12 @@ static inline uint32_t climb(const store *s, uint32_t amount, uint32_t place[RAN
     return links;
 }
 
-/* Makes the row anew from the places, by ascending rank, and finds its minimum. */
+/* Makes the row anew from the places, by ascending rank, and finds its minimum, which is NONE in a row of no trees. */
 static inline void row_from_places(const store *s, uint32_t h, const uint32_t place[RANKS])
 {
     heap_words *heap = &s->heap[h];
-    uint32_t last = NONE, minimum = NONE;
+    uint32_t last = NONE;
+    uint64_t least = UINT64_MAX;
     heap->first = NONE;
     for (int rank = 0; rank < RANKS; rank++) {
         uint32_t tree = place[rank];
@@ -99,13 +97,13 @@ static inline void row_from_places(const store *s, uint32_t h, const uint32_t pl
         else
             s->item[last].next = tree;
         last = tree;
-        if (minimum == NONE || precedes(s, heap->amount, tree, minimum))
-            minimum = tree;
+        uint64_t order = order_of(s, heap->amount, tree);
+        least = order < least ? order : least;
     }
     if (last != NONE)
         s->item[last].next = NONE;
     heap->last = last;
-    heap->minimum = minimum;
+    heap->minimum = (uint32_t)least;
 }
 
 /* Removes the minimum and links the rest of the row and then the children of the minimum. An empty heap's amount is 0. */
@@ -140,8 +138,7 @@ static inline void insert(const store *s, uint32_t h, uint32_t item, uint32_t ke
     leaf->first_child = leaf->last_child = NONE;
     leaf->rank = 0;
     append_root(s, h, item);
-    if (heap->minimum == NONE || precedes(s, heap->amount, item, heap->minimum))
-        heap->minimum = item;
+    heap->minimum = heap->minimum == NONE ? item : lesser(s, heap->amount, heap->minimum, item);
     heap->count++;
 }
 
@@ -172,8 +169,7 @@ static inline uint32_t decrease_key(const store *s, uint32_t item, uint32_t key)
     s->item[item].key = key - amount;
     if (parent != NONE && precedes(s, amount, item, parent))
         cuts = cascading_cut(s, h, item);
-    if (precedes(s, amount, item, s->heap[h].minimum))
-        s->heap[h].minimum = item;
+    s->heap[h].minimum = lesser(s, amount, s->heap[h].minimum, item);
     return cuts;
 }
 
@@ -194,18 +190,19 @@ static uint32_t delete_other(const store *s, uint32_t h, uint32_t item)
     return cuts;
 }
 
-/* The items that come keep their keys under the amount of the heap that they come into. */
+/* The items that come keep their keys under the amount of the heap that they come into. No branch in the pass depends
+   on an item. */
 static void meld(const store *s, uint32_t into, uint32_t from)
 {
     heap_words *a = &s->heap[into], *b = &s->heap[from];
     if (b->count == 0)
         return;
     uint32_t turn = 2 * into - 2 * from, more = b->amount - a->amount;
-    for (uint32_t item = 0; item < s->items; item++)
-        if (is_in(s, from, item)) {
-            s->item[item].state += turn;
-            s->item[item].key += more;
-        }
+    for (uint32_t item = 0; item < s->items; item++) {
+        uint32_t comes = -(uint32_t)is_in(s, from, item);
+        s->item[item].state += turn & comes;
+        s->item[item].key += more & comes;
+    }
     if (a->count == 0) {
         *a = *b;
         a->amount = 0;
@@ -213,8 +210,7 @@ static void meld(const store *s, uint32_t into, uint32_t from)
         s->item[a->last].next = b->first;
         s->item[b->first].previous = a->last;
         a->last = b->last;
-        if (precedes(s, a->amount, b->minimum, a->minimum))
-            a->minimum = b->minimum;
+        a->minimum = lesser(s, a->amount, a->minimum, b->minimum);
         a->count += b->count;
     }
     *b = empty_heap;

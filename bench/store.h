@@ -34,11 +34,22 @@ static inline store store_at(uint32_t *words, uint32_t items)
 /* The key of an item in a heap of the amount. */
 static inline uint32_t key_of(const store *s, uint32_t amount, uint32_t item) { return s->item[item].key + amount; }
 
-/* Item order in a heap of the amount: the smaller key, then the smaller number, in one comparison. */
+/* Item order in a heap of the amount as one number: the smaller key, then the smaller item. */
+static inline uint64_t order_of(const store *s, uint32_t amount, uint32_t item)
+{
+    return (uint64_t)key_of(s, amount, item) << 32 | item;
+}
+
 static inline bool precedes(const store *s, uint32_t amount, uint32_t a, uint32_t b)
 {
-    uint64_t order_a = (uint64_t)key_of(s, amount, a) << 32 | a, order_b = (uint64_t)key_of(s, amount, b) << 32 | b;
-    return order_a < order_b;
+    return order_of(s, amount, a) < order_of(s, amount, b);
+}
+
+/* The item that comes first, read off the lesser number, so that no branch depends on keys. */
+static inline uint32_t lesser(const store *s, uint32_t amount, uint32_t a, uint32_t b)
+{
+    uint64_t order_a = order_of(s, amount, a), order_b = order_of(s, amount, b);
+    return (uint32_t)(order_b < order_a ? order_b : order_a);
 }
 
 static inline uint32_t unmarked(uint32_t heap) { return 1 + 2 * heap; }

@@ -136,12 +136,24 @@ static inline uint8_t *write_answer(uint8_t *out, answer a)
     return write_field(out, a.cuts, '\n');
 }
 
-/* A sheet within its limit has few enough lines for 32 bits, which makes the sum cheaper. */
+enum { PART = 255 };
+
+/* The line feeds of at most PART bytes. A byte counts them, so that many bytes are compared at a time. */
+static inline uint8_t line_feeds_in(const uint8_t *part, size_t len)
+{
+    uint8_t count = 0;
+    for (size_t i = 0; i < len; i++)
+        count = (uint8_t)(count + (part[i] == '\n'));
+    return count;
+}
+
 static inline uint32_t count_lines(const uint8_t *sheet, size_t len)
 {
     uint32_t lines = 0;
-    for (size_t i = 0; i < len; i++)
-        lines += sheet[i] == '\n';
+    size_t at = 0;
+    for (; len - at > PART; at += PART)
+        lines += line_feeds_in(sheet + at, PART);
+    lines += line_feeds_in(sheet + at, len - at);
     return lines + (len > 0 && sheet[len - 1] != '\n');
 }
 
