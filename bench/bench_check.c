@@ -3,6 +3,7 @@
 #include "bench.h"
 #include "cable_queue.h"
 #include "measure.h"
+#include "rows.h"
 #include "store.h"
 
 #include <stdio.h>
@@ -59,8 +60,8 @@ static void stir(void)
     run_kept(sprintf(sheet, "T,0\nI,0,%u,%u\n", full.heap[0].minimum, draw(KEYS)));
 }
 
-/* Every item has to be held; prints the shape that they are held in. */
-static void print_shape(void)
+/* Every item has to be held; writes the shape that they are held in. */
+static void write_shape(char *text)
 {
     uint32_t trees = 0, marked = 0, highest = 0;
     for (uint32_t item = 0; item < full.items; item++) {
@@ -74,7 +75,7 @@ static void print_shape(void)
     }
     if (trees < 4 || highest < 4 || marked == 0)
         fail("the full store has too few trees, ranks or marks", "check");
-    printf("  %4u items: %2u trees, ranks to %2u, %3u marked", full.items, trees, highest, marked);
+    sprintf(text, "%4u items: %2u trees, ranks to %2u, %3u marked", full.items, trees, highest, marked);
 }
 
 static void make_full(uint32_t items)
@@ -86,7 +87,11 @@ static void make_full(uint32_t items)
         stir();
 }
 
-static void print_time(double ns) { printf(" %8.1f us %6.1f ns an item", ns / 1e3, ns / full.items); }
+static void add_time(double ns)
+{
+    add_value(ns / 1e3, "%6.1f us");
+    add_value(ns / full.items, "%5.1f ns an item");
+}
 
 #ifdef HAVE_TURN
 
@@ -117,8 +122,9 @@ static void expect_turned(void)
         fail("a turned store differs from the full store", "product");
 }
 
-static void run_side(int side)
+static void run_side(int side, int input)
 {
+    (void)input;
     if (side == CHECK)
         run_kept(0);
     else
@@ -128,23 +134,28 @@ static void run_side(int side)
 static void bench_turn(void)
 {
     double ns[SIDES];
-    printf("turn_store on a full store in the old order\n");
+    char name[16];
+    print_title("turn_store on a full store in the old order");
     for (uint32_t items = 256; items <= MAX_ITEMS; items *= 4) {
         make_full(items);
         make_old();
         expect_turned();
-        measure(SIDES, run_side, ns);
-        printf("  %4u items:", items);
-        print_time(ns[TURN]);
-        printf("   %.2f of kept_run, %.1f ns an item\n", ns[TURN] / ns[CHECK], ns[CHECK] / items);
+        measure(SIDES, 1, run_side, ns);
+        sprintf(name, "%4u items", items);
+        begin_row(name, NO_MARK);
+        add_time(ns[TURN]);
+        add_value(ns[TURN] / ns[CHECK], "%.2f of kept_run");
+        add_value(ns[CHECK] / items, "kept_run %.1f ns an item");
+        end_row();
     }
 }
 
 #else
 
-static void run_side(int side)
+static void run_side(int side, int input)
 {
     (void)side;
+    (void)input;
     run_kept(0);
 }
 
@@ -155,14 +166,15 @@ static void bench_turn(void) {}
 static void bench_kept(void)
 {
     double ns;
-    printf("kept_run of an empty sheet on a full store\n");
+    char shape[80];
+    print_title("kept_run of an empty sheet on a full store");
     for (uint32_t items = 256; items <= MAX_ITEMS; items *= 2) {
         make_full(items);
-        print_shape();
-        measure(1, run_side, &ns);
-        print_time(ns);
-        print_mark("below 40 ns", ns / items < 40);
-        printf("\n");
+        write_shape(shape);
+        measure(1, 1, run_side, &ns);
+        begin_row(shape, AT_MOST("10 ns"));
+        add_time(ns);
+        end_row();
     }
 }
 

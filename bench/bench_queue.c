@@ -4,9 +4,10 @@
 #include "measure.h"
 #include "others.h"
 #include "plain.h"
+#include "rows.h"
 #include "sheets.h"
 
-#include <stdio.h>
+#include <stdbool.h>
 #include <string.h>
 
 enum { PLAIN, PRODUCT, OTHER };
@@ -38,10 +39,14 @@ typedef struct {
     uint32_t len;
 } answers_text;
 
-static sheet_text sheet;
+static sheet_text sheets[INPUTS];
 static answers_text answers, plain_answers;
 
-static void run_side(int side) { answers.len = sides[side].run(sheet.text, sheet.len, answers.text, ANSWER_ROOM); }
+static void run_side(int side, int input)
+{
+    const sheet_text *sheet = &sheets[input];
+    answers.len = sides[side].run(sheet->text, sheet->len, answers.text, ANSWER_ROOM);
+}
 
 /* Where code, item and key of the line at p end. */
 static const uint8_t *after_key(const uint8_t *p)
@@ -72,15 +77,15 @@ static bool same_answers(const answers_text *a, const answers_text *b)
     return a->len == b->len && memcmp(a->text, b->text, a->len) == 0;
 }
 
-/* Runs the sheet on every side; the answers of plain C count. */
-static void expect_agreement(void)
+/* Runs a sheet on every side; the answers of plain C count. */
+static void expect_agreement(int input)
 {
-    run_side(0);
+    run_side(0, input);
     if (answers.len > ANSWER_ROOM)
         fail("the sheet is refused", sides[0].name);
     plain_answers = answers;
     for (int side = 1; side < SIDES; side++) {
-        run_side(side);
+        run_side(side, input);
         bool same = answers.len <= ANSWER_ROOM && (sides[side].whose == OTHER ? same_keys(&plain_answers, &answers)
                                                                               : same_answers(&plain_answers, &answers));
         if (!same)
@@ -88,30 +93,43 @@ static void expect_agreement(void)
     }
 }
 
-static void print_queue_mark(int side, const double *ns)
+/* A kind of sheets: what is asked of the product beside plain C, if anything, and whether it has to be ahead of the
+   others. */
+typedef struct {
+    const char *name;
+    void (*make)(sheet_text *sheet, uint32_t number);
+    int sides;
+    mark beside_plain;
+    bool is_race;
+} kind;
+
+static mark mark_of(const kind *k, int side)
 {
     if (sides[side].whose == PRODUCT)
-        print_mark("at most 1.15", ns[side] <= 1.15 * ns[0]);
-    else if (sides[side].whose == OTHER && sides[1].whose == PRODUCT)
-        print_mark("product ahead", ns[1] < ns[side]);
+        return k->beside_plain;
+    bool is_raced = k->is_race && sides[side].whose == OTHER && sides[1].whose == PRODUCT;
+    return is_raced ? AHEAD(sides[1].name) : NO_MARK;
 }
 
-/* Measures the first sides on the sheet as it stands. */
-static void compare(const char *name, int count, bool has_mark)
+static void compare(const kind *k)
 {
-    double ns[SIDES];
-    expect_agreement();
-    double moved = (double)sheet.len + plain_answers.len;
-    printf("queue_run, %s: %d lines, %zu bytes in, %u bytes out\n", name, MAX_LINES, sheet.len, plain_answers.len);
-    measure(count, run_side, ns);
-    for (int side = 0; side < count; side++) {
-        printf("  %-16s %7.1f ns a line %5.0f MB a second", sides[side].name, ns[side] / MAX_LINES,
-               1e3 * moved / ns[side]);
+    double ns[SIDES], in = 0, out = 0;
+    for (int input = 0; input < INPUTS; input++) {
+        k->make(&sheets[input], (uint32_t)input);
+        expect_agreement(input);
+        in += (double)sheets[input].len / INPUTS;
+        out += (double)plain_answers.len / INPUTS;
+    }
+    print_title("queue_run, %s: %d sheets of %d lines, about %.0f bytes in, %.0f bytes out", k->name, INPUTS, MAX_LINES,
+                in, out);
+    measure(k->sides, INPUTS, run_side, ns);
+    for (int side = 0; side < k->sides; side++) {
+        begin_row(sides[side].name, mark_of(k, side));
+        add_value(ns[side] / MAX_LINES, "%6.1f ns a line");
+        add_value(1e3 * (in + out) / ns[side], "%5.0f MB a second");
         if (side > 0)
-            print_ratio(ns[side] / ns[0]);
-        if (has_mark)
-            print_queue_mark(side, ns);
-        printf("\n");
+            add_value(ns[side] / ns[0], "%.3f of plain C");
+        end_row();
     }
 }
 
@@ -123,18 +141,19 @@ static int own_sides(void)
     return count;
 }
 
-void bench_queue(void)
+static void compare_mixed_sheets(void)
 {
     for (uint32_t number = 0; number < 50; number++) {
-        make_mixed_sheet(&sheet, number);
-        expect_agreement();
+        make_mixed_sheet(&sheets[0], number);
+        expect_agreement(0);
     }
-    make_busy_sheet(&sheet);
-    compare("busy sheet", SIDES, true);
-    make_calls_sheet(&sheet);
-    compare("insert, take, lower, short numbers", SIDES, false);
-    make_raises_sheet(&sheet);
-    compare("busy sheet with raises", SIDES, false);
-    make_text_sheet(&sheet);
-    compare("reading and printing alone", own_sides(), false);
+}
+
+void bench_queue(void)
+{
+    compare_mixed_sheets();
+    compare(&(kind){ "busy sheet", make_busy_sheet, SIDES, AT_MOST("1.10"), true });
+    compare(&(kind){ "insert, take, lower, short numbers", make_calls_sheet, SIDES, AT_MOST("1.05"), false });
+    compare(&(kind){ "busy sheet with raises", make_raises_sheet, SIDES, NO_MARK, false });
+    compare(&(kind){ "reading and printing alone", make_text_sheet, own_sides(), AT_MOST("1.10"), false });
 }

@@ -5,7 +5,8 @@
 #include <stdlib.h>
 #include <time.h>
 
-static const double ns_per_side = 1e9;
+/* Short, since there are many processes. */
+static const double ns_per_side = 1e8;
 
 static uint64_t seed;
 
@@ -33,22 +34,33 @@ static double now(void)
     return 1e9 * (double)t.tv_sec + (double)t.tv_nsec;
 }
 
-/* Other work on the machine only adds to a time, so the least counts. The sides take turns, each call being short, so
-   that all of them meet the quiet moments. */
-void measure(int count, void (*work)(int side), double *least)
+/* A side runs all inputs before the next one does, so that none finds an input in the cache because the side before it
+   has just read it. */
+static void run_round(int sides, int inputs, void (*work)(int side, int input), double least[sides][inputs])
 {
-    for (int side = 0; side < count; side++)
-        least[side] = DBL_MAX;
-    for (double end = now() + ns_per_side * count; now() < end;)
-        for (int side = 0; side < count; side++) {
+    for (int side = 0; side < sides; side++)
+        for (int input = 0; input < inputs; input++) {
             double begin = now();
-            work(side);
+            work(side, input);
             double time = now() - begin;
-            if (time < least[side])
-                least[side] = time;
+            if (time < least[side][input])
+                least[side][input] = time;
         }
 }
 
-void print_ratio(double ratio_to_plain) { printf("   %.2f of plain C", ratio_to_plain); }
-
-void print_mark(const char *mark, bool reached) { printf("   mark: %s, %s", mark, reached ? "reached" : "missed"); }
+/* Other work on the machine only adds to a time, so the least counts. The sides take turns, so that all of them meet
+   the quiet moments. */
+void measure(int sides, int inputs, void (*work)(int side, int input), double *ns)
+{
+    double least[sides][inputs];
+    for (int side = 0; side < sides; side++)
+        for (int input = 0; input < inputs; input++)
+            least[side][input] = DBL_MAX;
+    for (double end = now() + ns_per_side * sides; now() < end;)
+        run_round(sides, inputs, work, least);
+    for (int side = 0; side < sides; side++) {
+        ns[side] = 0;
+        for (int input = 0; input < inputs; input++)
+            ns[side] += least[side][input] / inputs;
+    }
+}

@@ -1,5 +1,5 @@
 /* LEMON and Boost behind the reading and printing of plain C. Heaps are kept from run to run and cleared, which spares
-   them allocations. */
+   them allocations; lemon_build_and_feed alone makes its graph and heap anew. */
 #include "others.h"
 #include "text.h"
 
@@ -59,6 +59,16 @@ template <class Heap> struct queue_of {
             largest = key > largest ? key : largest;
         }
         return largest;
+    }
+
+    /* No branch in this pass depends on an item either. */
+    void move_items(uint32_t into, uint32_t from, rest more)
+    {
+        for (uint32_t item = 0; item < MODEM_ITEMS; item++) {
+            bool comes = is_in(from, item);
+            home[item] = uint8_t(comes ? 1 + into : home[item]);
+            less[item] += comes ? more : 0;
+        }
     }
 
     void let_go(uint32_t item)
@@ -147,11 +157,7 @@ template <class Heap> answer call_meld(queue_of<Heap> *q, uint32_t into, uint32_
         return refused(13);
     rest more = q->amount[from] - q->amount[into];
     q->heap[into].take_all(q->heap[from], more);
-    for (uint32_t item = 0; item < MODEM_ITEMS; item++)
-        if (q->is_in(from, item)) {
-            q->home[item] = uint8_t(1 + into);
-            q->less[item] += more;
-        }
+    q->move_items(into, from, more);
     q->amount[from] = 0;
     return done(into, q->heap[into].size(), 0, 0);
 }
@@ -226,19 +232,26 @@ template <template <class, class, class> class Heap>
 using finder = typename lemon::Dijkstra<graph, loss_map>::SetStandardHeap<
     Heap<uint32_t, place_map, std::less<uint32_t>>>::Create;
 
-struct lemon_map {
-    graph spans;
-    std::unique_ptr<loss_map> loss;
-    std::unique_ptr<finder<lemon::FibHeap>> fibonacci;
-    std::unique_ptr<finder<lemon::BinHeap>> binary;
-};
+/* A graph is built from the ends of its spans; their list is kept, which spares an allocation. */
+void build_graph(graph &spans, uint32_t places, const uint32_t *from, const uint32_t *to, size_t count)
+{
+    static std::vector<std::pair<int, int>> ends;
+    ends.clear();
+    for (size_t i = 0; i < count; i++)
+        ends.emplace_back(int(from[i]), int(to[i]));
+    spans.build(int(places), ends.begin(), ends.end());
+}
 
-lemon_map map;
+void set_losses(loss_map &losses, const uint32_t *loss, size_t count)
+{
+    for (size_t i = 0; i < count; i++)
+        losses.set(graph::arc(int(i)), loss[i]);
+}
 
-template <class Finder> void feed(Finder &finder, uint32_t start, uint32_t *best)
+template <class Finder> void feed(Finder &finder, const graph &spans, uint32_t start, uint32_t *best)
 {
     finder.run(graph::node(int(start)));
-    for (int place = 0; place < map.spans.nodeNum(); place++) {
+    for (int place = 0; place < spans.nodeNum(); place++) {
         graph::Node node = graph::node(place);
         best[place] = finder.reached(node) ? finder.dist(node) : UINT32_MAX;
     }
@@ -251,21 +264,41 @@ uint32_t lemon_queue_run(const uint8_t *sheet, size_t sheet_len, uint8_t *out, s
     return fresh_sheet<lemon_heap>(sheet, sheet_len, out, out_len);
 }
 
-void lemon_build_map(uint32_t places, const uint32_t *from, const uint32_t *to, const uint32_t *loss, size_t spans)
+struct lemon_map {
+    graph spans;
+    std::unique_ptr<loss_map> loss;
+    std::unique_ptr<finder<lemon::FibHeap>> fibonacci;
+    std::unique_ptr<finder<lemon::BinHeap>> binary;
+};
+
+lemon_map *lemon_build(uint32_t places, const uint32_t *from, const uint32_t *to, const uint32_t *loss, size_t spans)
 {
-    std::vector<std::pair<int, int>> ends;
-    for (size_t i = 0; i < spans; i++)
-        ends.emplace_back(int(from[i]), int(to[i]));
-    map.spans.build(int(places), ends.begin(), ends.end());
-    map.loss.reset(new loss_map(map.spans));
-    for (size_t i = 0; i < spans; i++)
-        map.loss->set(graph::arc(int(i)), loss[i]);
-    map.fibonacci.reset(new finder<lemon::FibHeap>(map.spans, *map.loss));
-    map.binary.reset(new finder<lemon::BinHeap>(map.spans, *map.loss));
+    lemon_map *map = new lemon_map;
+    build_graph(map->spans, places, from, to, spans);
+    map->loss.reset(new loss_map(map->spans));
+    set_losses(*map->loss, loss, spans);
+    map->fibonacci.reset(new finder<lemon::FibHeap>(map->spans, *map->loss));
+    map->binary.reset(new finder<lemon::BinHeap>(map->spans, *map->loss));
+    return map;
 }
 
-void lemon_feed_fibonacci(uint32_t start, uint32_t *best) { feed(*map.fibonacci, start, best); }
-void lemon_feed_binary(uint32_t start, uint32_t *best) { feed(*map.binary, start, best); }
+void lemon_feed_fibonacci(lemon_map *map, uint32_t start, uint32_t *best)
+{
+    feed(*map->fibonacci, map->spans, start, best);
+}
+
+void lemon_feed_binary(lemon_map *map, uint32_t start, uint32_t *best) { feed(*map->binary, map->spans, start, best); }
+
+void lemon_build_and_feed(uint32_t places, const uint32_t *from, const uint32_t *to, const uint32_t *loss, size_t spans,
+                          uint32_t start, uint32_t *best)
+{
+    graph map;
+    build_graph(map, places, from, to, spans);
+    loss_map losses(map);
+    set_losses(losses, loss, spans);
+    finder<lemon::FibHeap> search(map, losses);
+    feed(search, map, start, best);
+}
 
 #endif
 

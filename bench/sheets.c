@@ -115,29 +115,42 @@ static void add_call(sheet_text *sheet, const mix *m)
         add_line(sheet, "M,0\n");
 }
 
-static void make_sheet(sheet_text *sheet, const mix *m)
+static void make_sheet(sheet_text *sheet, uint32_t number, const mix *m)
 {
     sheet->len = 0;
     held_count = 0;
     for (uint32_t item = 0; item < MODEM_ITEMS; item++)
         held[item] = false;
-    start_draws(20);
+    start_draws(20 + number);
     for (int line = 0; line < MODEM_ITEMS / 2; line++)
         add_insertion(sheet, m);
     for (int line = MODEM_ITEMS / 2; line < MAX_LINES; line++)
         add_call(sheet, m);
 }
 
-void make_busy_sheet(sheet_text *sheet) { make_sheet(sheet, &(mix){ 30, 20, 40, 5, 0, 1000000000 }); }
-void make_calls_sheet(sheet_text *sheet) { make_sheet(sheet, &(mix){ 30, 30, 40, 0, 0, 100 }); }
-void make_raises_sheet(sheet_text *sheet) { make_sheet(sheet, &(mix){ 30, 20, 30, 5, 10, 1000000000 }); }
-
-void make_text_sheet(sheet_text *sheet)
+void make_busy_sheet(sheet_text *sheet, uint32_t number)
 {
+    make_sheet(sheet, number, &(mix){ 30, 20, 40, 5, 0, 1000000000 });
+}
+
+void make_calls_sheet(sheet_text *sheet, uint32_t number)
+{
+    make_sheet(sheet, number, &(mix){ 30, 30, 40, 0, 0, 100 });
+}
+
+void make_raises_sheet(sheet_text *sheet, uint32_t number)
+{
+    make_sheet(sheet, number, &(mix){ 30, 20, 30, 5, 10, 1000000000 });
+}
+
+void make_text_sheet(sheet_text *sheet, uint32_t number)
+{
+    start_draws(20 + number);
+    uint32_t item = 100 + draw(MODEM_ITEMS - 100), key = 1000000000 + draw(3294967296);
     sheet->len = 0;
-    add_line(sheet, "I,0,255,4294967295\n");
+    add_line(sheet, "I,0,%u,%u\n", item, key);
     for (int line = 1; line < MAX_LINES; line++)
-        add_line(sheet, "D,255,4294967295\n");
+        add_line(sheet, "D,%u,%u\n", item, key);
 }
 
 static void add_mixed_line(sheet_text *sheet)
