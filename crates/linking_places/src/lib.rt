@@ -69,11 +69,11 @@ pub fn leave(held: [u16; 17], x: u32) -> [u16; 17]
 {
     let gone = x as u16;
     let mut places = held;
-    let mut i: usize = 0;
-    while i < 17 {
-        let old = places[i];
-        places[i] = free_if(old, gone);
-        i += 1;
+    let mut at: usize = 0;
+    while at < 17 {
+        let old = places[at];
+        places[at] = free_if(old, gone);
+        at += 1;
     }
     places
 }
