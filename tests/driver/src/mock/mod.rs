@@ -65,6 +65,8 @@ variants! {
     // Queues: seen with more items than the modem has.
     [Runs]
         PlaceCutTo8Bits PlaceCutTo11Bits LastItemTakenForFree FreePlaceCutTo12Bits LastPlaceNeverWritten;
+    // Queues: which places of linking are taken.
+    [Modem Runs QueueProgram] FirstHolderBack NextPlaceTested PlaceStaysTaken;
     // Lines and runs.
     [Modem Runs QueueProgram]
         RefusesEverySheet SixTestedAfterSeven ReturnBeforeLineEndAccepted
@@ -72,8 +74,9 @@ variants! {
     // Numbers, in sheets and in maps.
     [Modem Runs QueueProgram Map FeedProgram]
         PaddedNumberRefused ElevenDigitsAccepted AnyZerosAccepted FirstNineDigitsRead DigitDroppedWithZeros
-        PaddedNumberReadAsOctal TenDigitsRefused NumberAboveTheLargestWraps NumberAboveTheLargestLowered;
-    [Modem Runs QueueProgram] PaddingPrinted;
+        PaddedNumberReadAsOctal TenDigitsRefused NumberAboveTheLargestWraps NumberAboveTheLargestLowered
+        ColonReadAsDigit;
+    [Modem Runs QueueProgram] PaddingPrinted SevenDigitsPrintedWide;
     [Modem Runs] OneByteBeyond RoomTestedBeforeLines;
     [Runs]
         StoreLeftAsFound KeptRunEmptiesTheStore FirstItemWordIsFirstTree CountOfJoinedHeapLeft RunFiguresSwapped

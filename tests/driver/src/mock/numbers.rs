@@ -6,7 +6,7 @@ use reference::run::MAX_BYTES;
 use reference::text;
 use std::borrow::Cow;
 
-const FAULTS: [Variant; 9] = [
+const FAULTS: [Variant; 10] = [
     PaddedNumberRefused,
     ElevenDigitsAccepted,
     AnyZerosAccepted,
@@ -16,6 +16,7 @@ const FAULTS: [Variant; 9] = [
     TenDigitsRefused,
     NumberAboveTheLargestWraps,
     NumberAboveTheLargestLowered,
+    ColonReadAsDigit,
 ];
 
 impl Mock {
@@ -25,8 +26,9 @@ impl Mock {
         if text.len() > MAX_BYTES || !self.variant.is_some_and(|variant| FAULTS.contains(&variant)) {
             return Cow::Borrowed(text);
         }
-        let parts = text.chunk_by(|a, b| a.is_ascii_digit() == b.is_ascii_digit());
-        let taken_for = |part: &[u8]| match part[0].is_ascii_digit() {
+        let is_digit = |byte: u8| byte.is_ascii_digit() || byte == b':' && self.is(ColonReadAsDigit);
+        let parts = text.chunk_by(|&a, &b| is_digit(a) == is_digit(b));
+        let taken_for = |part: &[u8]| match is_digit(part[0]) {
             true => self.number(part).map_or(b"x".to_vec(), |number| number.to_string().into_bytes()),
             false => part.to_vec(),
         };
@@ -54,6 +56,10 @@ impl Mock {
             }
             Some(NumberAboveTheLargestLowered) if digits.len() == 10 => {
                 String::from_utf8_lossy(digits).parse::<u64>().ok().map(|value| value.min(u32::MAX.into()) as u32)
+            }
+            Some(ColonReadAsDigit) if digits.len() <= 10 => {
+                let value = digits.iter().fold(0, |value, &digit| 10 * value + u64::from(digit - b'0'));
+                u32::try_from(value).ok()
             }
             _ => text::number(digits),
         }

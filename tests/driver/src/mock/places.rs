@@ -5,8 +5,16 @@ use super::Variant::{self, *};
 use reference::queue::{link, PLACES};
 use reference::{Queues, Tree};
 
-pub(super) const FAULTS: [Variant; 5] =
-    [PlaceCutTo8Bits, PlaceCutTo11Bits, LastItemTakenForFree, FreePlaceCutTo12Bits, LastPlaceNeverWritten];
+pub(super) const FAULTS: [Variant; 8] = [
+    PlaceCutTo8Bits,
+    PlaceCutTo11Bits,
+    LastItemTakenForFree,
+    FreePlaceCutTo12Bits,
+    LastPlaceNeverWritten,
+    FirstHolderBack,
+    NextPlaceTested,
+    PlaceStaysTaken,
+];
 
 /// The number at a free place.
 const FREE: u32 = 65535;
@@ -29,6 +37,23 @@ impl Mock {
         (number < capacity && !taken_for_free).then_some(number)
     }
 
+    /// The root at the place of a rank; with a fault, unless the place after it is free.
+    fn holder(&self, places: &[u32; PLACES], rank: usize, capacity: u32) -> Option<u32> {
+        let tested = rank + usize::from(self.is(NextPlaceTested));
+        places.get(tested).and_then(|&number| self.found(number, capacity))?;
+        places.get(rank).and_then(|&number| self.found(number, capacity))
+    }
+
+    /// The holder of a place has left it. With a fault it stays, or after a second link the first holder is back.
+    fn leave(&self, places: &mut [u32; PLACES], rank: usize, first: usize, held: &[u32; PLACES]) {
+        if !self.is(PlaceStaysTaken) {
+            places[rank] = self.put(None);
+        }
+        if self.is(FirstHolderBack) && rank > first {
+            places[first] = held[first];
+        }
+    }
+
     /// Linking, with these numbers at the places.
     pub(super) fn consolidate_by_numbers(&self, queues: &mut Queues, heap: usize) -> u32 {
         let mut places = [FREE; PLACES];
@@ -36,10 +61,11 @@ impl Mock {
         let mut trees = Vec::new();
         let mut links = 0;
         for mut tree in std::mem::take(&mut queues.rows[heap]) {
-            let mut rank = tree.rank();
-            while let Some(root) = places.get(rank).and_then(|&number| self.found(number, queues.capacity)) {
+            let (held, first) = (places, tree.rank());
+            let mut rank = first;
+            while let Some(root) = self.holder(&places, rank, queues.capacity) {
                 tree = link(tree_of(&mut trees, root), tree);
-                places[rank] = self.put(None);
+                self.leave(&mut places, rank, first, &held);
                 links += 1;
                 rank += 1;
             }

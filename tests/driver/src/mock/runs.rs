@@ -150,11 +150,12 @@ impl Mock {
         }
     }
 
-    /// The answer to a line; with a fault, zeros in the line are printed again.
+    /// The answer to a line; with a fault, zeros in the line are printed again, or a zero before seven digits.
     fn printed(&self, line: &[u8], answer: Answer) -> String {
-        match self.is(PaddingPrinted) && padding::is_padded(line) {
-            true => answer.line().replacen(',', ",0", 1),
-            false => answer.line(),
+        match self.variant {
+            Some(PaddingPrinted) if padding::is_padded(line) => answer.line().replacen(',', ",0", 1),
+            Some(SevenDigitsPrintedWide) => eight_wide(&answer.line()),
+            _ => answer.line(),
         }
     }
 
@@ -199,4 +200,13 @@ fn has_wrapped_key(queues: &Queues) -> bool {
 fn has_marked_small_child(tree: &Tree) -> bool {
     let small = |(number, child): (usize, &Tree)| child.rank() < number || has_marked_small_child(child);
     tree.children.iter().enumerate().any(small)
+}
+
+/// A line with a zero before each number of seven digits.
+fn eight_wide(line: &str) -> String {
+    let wide = |number: &str| match number.len() {
+        7 => format!("0{number}"),
+        _ => number.to_string(),
+    };
+    line.split(',').map(wide).collect::<Vec<_>>().join(",")
 }
