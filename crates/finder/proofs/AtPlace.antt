@@ -1,17 +1,23 @@
 -- A place was taken: what is known of the search while its spans are tried.
-use Prim.Native.Nat.{ℕ, _+_, _≤_, _<_}
+use Prim.Native.Nat.{ℕ, suc, _+_, _≤_, _<_}
 use mathlib.Core.Path.{_≡_, ap, _∙_}
+use mathlib.Core.Logic.{_≢_}
 use mathlib.Core.List.{List}
 use native.Mathlib.Omega.{arith}
 use lib.ListN.{length, getD}
+use Rattle.rules.specs.declared.Call.the-variants.{Insert, DecreaseKey}
 use Rattle.rules.specs.Forests.{none}
+use Rattle.rules.specs.Answers.{refusal}
 use Rattle.rules.proofs.Default.{getD-any}
-use Rattle.paths.specs.Map.{Map, spans}
+use Rattle.paths.specs.Map.{Map, spans, fromOf, toOf, lossOf, IsSpan}
 use Rattle.paths.specs.Queue.{Stop}
-use Rattle.paths.specs.Search.{Search, tried, extracted, steps, bestAt, jointsAt}
+use Rattle.paths.specs.Search.{Search, smaller, tried, extracted, steps, bestAt, lastAt, jointsAt}
 use Rattle.paths.specs.Feed.{ResultLists}
+use Rattle.paths.specs.Theorems.{forestsAfter}
 use Rattle.paths.proofs.Waiting.{next-takes, waits-below}
-use Rattle.paths.proofs.Offers.{TryingOf}
+use Rattle.paths.proofs.Judge.{judge-smaller}
+use Rattle.paths.proofs.Offers.{TryingOf, Case, at-smaller, out-of-queue, judged}
+use Rattle.paths.proofs.Calls.{insert-does, decrease-does}
 use Rattle.paths.proofs.Tried.{tried-trying}
 use Rattle.paths.proofs.Steps.{
   Between,
@@ -25,6 +31,7 @@ use Rattle.paths.proofs.Steps.{
 use Rattle.paths.proofs.Served.{ServedOf, served}
 use Rattle.relax.specs.declared.Progress.{Progress}
 use Rattle.finder.specs.SearchState.{Taken}
+use Rattle.finder.proofs.Ready.{zero-allowed}
 
 -- after the spans below e of place u, which was taken after k steps
 abbrev pub at : Stop → Map → ℕ → ℕ → ℕ → Search
@@ -89,3 +96,40 @@ module _
       let I = betweenTurns .invariant in
       let met = I .met u (next-takes stop (before .queue) u (K .next-is) .inside) in
       omega (arith, hops-is, I .short u met, I .small u met, K .accepted .few)
+
+  -- The queue call that a usable span of u makes is not refused.
+  module _ (e : ℕ) (is : IsSpan m e) (own : fromOf m e ≡ u) where
+    abbrev s : Search
+    s = at stop m k u e
+
+    abbrev end : ℕ
+    end = toOf m e
+
+    abbrev sum : ℕ
+    sum = bestAt before u + lossOf m e
+
+    calls : ServedOf m s
+    calls = servedAt e (omega (arith, is .0))
+
+    trying : TryingOf m u (bestAt before u) (jointsAt before u) e left s
+    trying = tryingAt e (omega (arith, is .0))
+
+    pub insert-allowed : bestAt s end ≡ none → refusal (forestsAfter m s) (Insert 0 end sum) ≡ 0
+    insert-allowed z =
+        zero-allowed (forestsAfter m s) (Insert 0 end sum)
+        (insert-does (forestsAfter m s) (s .queue .waits) (s .queue .key) (calls .waits) (calls .keys) end sum
+        (omega (arith, trying .invariant .waitsN, K .accepted .toIn e (is .0)))
+        (out-of-queue m (K .accepted) u (bestAt before u) (jointsAt before u) e left s trying is own z) .code)
+
+    pub decrease-allowed : bestAt s end ≢ none → sum < bestAt s end
+        → refusal (forestsAfter m s) (DecreaseKey end sum) ≡ 0
+    decrease-allowed met less =
+        go
+        (rw (judge-smaller (bestAt s end) (jointsAt s end) (lastAt s end) sum (suc (jointsAt before u)) e met less) at
+        (judged m (K .accepted) u (bestAt before u) (jointsAt before u) e left s trying is own))
+      where
+        go : Case s end sum (suc (jointsAt before u)) e smaller → refusal (forestsAfter m s) (DecreaseKey end sum) ≡ 0
+        go (at-smaller _ _ w q) =
+            zero-allowed (forestsAfter m s) (DecreaseKey end sum)
+            (decrease-does (forestsAfter m s) (s .queue .waits) (s .queue .key) (calls .waits) (calls .keys) end sum
+            (λ z. omega (arith, w)) (omega (arith, q)) .code)

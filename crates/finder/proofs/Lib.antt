@@ -5,10 +5,10 @@ pub mod AtPlace
 pub mod Walking
 pub mod Visiting
 pub mod Beginning
+pub mod FirstWaiting
 pub mod Searching
 pub mod Feeding
 pub mod HideBeyond
-pub mod FirstWaiting
 pub mod ListTaken
 pub mod WaitsBeyond
 pub mod FeedingWithin

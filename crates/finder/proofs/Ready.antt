@@ -1,10 +1,14 @@
 -- At every moment of a search another queue call may be made on the store, and its size is that for the places.
-use Prim.Native.Nat.{ℕ}
-use mathlib.Core.Path.{ap, _∙_}
+use Prim.Native.Nat.{ℕ, zero, suc}
+use mathlib.Core.Path.{_≡_, refl, ap, _∙_}
 use mathlib.Core.List.{List}
 use native.Mathlib.Omega.{arith}
 use lib.ListN.{length}
+use Rattle.rules.specs.declared.Call.{Call}
+use Rattle.rules.specs.declared.Line.the-variants.{Yields}
 use Rattle.rules.specs.declared.Tally.{Tally}
+use Rattle.rules.specs.Forests.{Forests}
+use Rattle.rules.specs.Answers.{refusal, refused, unlessRefused, answer}
 use Rattle.rules.specs.Queues.{unraised}
 use Rattle.rules.specs.Words.{storeSize}
 use Rattle.rules.proofs.DecodeEncode.{encode-length}
@@ -20,6 +24,15 @@ use Rattle.paths.proofs.Steps.{steps-between, steps-keep, moments-keep}
 use Rattle.paths.proofs.Served.{ServedOf, served}
 use Rattle.paths.proofs.Counts.{counts-low}
 use Rattle.relax.specs.Tracks.{Logged}
+
+-- a call that is answered with code 0 is not refused
+pub zero-allowed : (s : Forests) (c : Call) → (answer s (Yields c)) .reply .code ≡ 0 → refusal s c ≡ 0
+unfolding answer unlessRefused refused
+zero-allowed s c = go (refusal s c)
+  where
+    go : (r : ℕ) → (unlessRefused r s c) .reply .code ≡ 0 → r ≡ 0
+    go zero e = refl
+    go (suc r) e = e
 
 pub logged-ready : (stop : Stop) (m : Map) → Accepted m → (s : Search) → Moment stop m s
     → {store : List ℕ} {t : Tally} → Logged (m .places) (s .calls) store t → Ready store t

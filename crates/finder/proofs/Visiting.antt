@@ -8,6 +8,7 @@ use native.Mathlib.Numerals.{add-one}
 use lib.ListN.{length, getD}
 use borrow.Author.Tests.{eq-eqb}
 use Rattle.rules.specs.Forests.{none}
+use Rattle.rules.specs.Words.{forestsOf}
 use Rattle.paths.specs.Map.{
   windows,
   usableAt,
@@ -24,7 +25,7 @@ use Rattle.paths.specs.Map.{
 use Rattle.paths.specs.Queue.{Stop}
 use Rattle.paths.specs.Search.{Search, offer, try, tried, examine, steps, bestAt, jointsAt}
 use Rattle.paths.specs.Feed.{ResultLists}
-use Rattle.paths.specs.Theorems.{trying}
+use Rattle.paths.specs.Theorems.{trying, forestsAfter}
 use Rattle.paths.proofs.Invariant.{unsettled}
 use Rattle.paths.proofs.Offers.{TryingOf, out-of-queue}
 use Rattle.paths.proofs.Tried.{try-closed}
@@ -32,9 +33,19 @@ use Rattle.paths.proofs.Examined.{examinedAtMost}
 use Rattle.relax.specs.declared.Progress.{Progress}
 use Rattle.relax.specs.Tracks.{Tracks, examineOne}
 use Rattle.relax.specs.Advances.{Offerable, OfferReady, Advances}
+use Rattle.relax.proofs.Logged.{logged-forests}
 use Rattle.finder.specs.SearchState.{Taken}
 use Rattle.finder.proofs.Ready.{logged-ready}
-use Rattle.finder.proofs.AtPlace.{at, left, left-is, tryingAt, servedAt, hops-is}
+use Rattle.finder.proofs.AtPlace.{
+  at,
+  left,
+  left-is,
+  tryingAt,
+  servedAt,
+  hops-is,
+  insert-allowed,
+  decrease-allowed,
+}
 use Rattle.finder.proofs.Walking.{Walking}
 
 module _
@@ -100,23 +111,6 @@ module _
     unfolding usableBy
     usable-is = rw (K .lists .supply-is)
 
-    pub offer-ready : OfferReady (getD to e 0) l (examineOne go)
-    unfolding examineOne unsettled
-    offer-ready =
-        rw (K .lists .to-is)
-        (record {
-          inBest =
-              omega (arith, ap length (W .tracks .best-is), tryingE .invariant .bestN, K .accepted .toIn e span-in);
-          inLast =
-              omega (arith, ap length (W .tracks .last-is), tryingE .invariant .lastN, K .accepted .toIn e span-in);
-          inJoints =
-              omega (arith, ap length (W .tracks .joints-is), tryingE .invariant .jointsN, K .accepted .toIn e span-in);
-          ready =
-              logged-ready stop m (K .accepted) (at stop m k u e) (trying k u e (K .next-is) (omega (arith, span-in)))
-              (W .tracks .logged);
-          room = omega (arith, W .tracks .met-is, tryingE .left, left-is K, K .accepted .few);
-        })
-
     examined-tracks : Tracks (m .places) (suc k) (examine (at stop m k u e)) l (examineOne go)
     unfolding examineOne
     examined-tracks =
@@ -159,6 +153,30 @@ module _
     module _ (o : found ≡ true) where
       is-span : IsSpan m e
       is-span = (span-in, usable-is ∙ o)
+
+      -- the forests that the store's words stand for
+      forests : forestsOf (l .store) ≡ forestsAfter m (at stop m k u e)
+      forests =
+          logged-forests (m .places) (at stop m k u e .calls) (l .store) (go .tally) (W .tracks .logged)
+          (servedAt K e (omega (arith, span-in)) .formed)
+
+      pub offer-ready : OfferReady (getD to e 0) (d + getD loss e 0) l (examineOne go)
+      unfolding examineOne unsettled
+      offer-ready =
+          let I = tryingE .invariant in
+          let inside = K .accepted .toIn e span-in in
+          rw (K .lists .to-is, K .lists .loss-is, K .loss-is)
+          (record {
+            inBest = omega (arith, ap length (W .tracks .best-is), I .bestN, inside);
+            inLast = omega (arith, ap length (W .tracks .last-is), I .lastN, inside);
+            inJoints = omega (arith, ap length (W .tracks .joints-is), I .jointsN, inside);
+            ready =
+                logged-ready stop m (K .accepted) (at stop m k u e)
+                (trying k u e (K .next-is) (omega (arith, span-in))) (W .tracks .logged);
+            room = omega (arith, W .tracks .met-is, tryingE .left, left-is K, K .accepted .few);
+            inserts = rw (W .tracks .best-is, forests) (insert-allowed K e is-span leaves-u);
+            lowers = rw (W .tracks .best-is, forests) (decrease-allowed K e is-span leaves-u);
+          })
 
       offerable : Offerable (m .places) (toOf m e) (examine (at stop m k u e))
       offerable =

@@ -7,9 +7,8 @@ ghost use Rattle.paths.specs.Search.{never};
 ghost use Rattle.paths.specs.Feed.{resultLists, feedResult};
 ghost use Rattle.finder.specs.SearchState.{BeginReady, Begun, Stands, Found};
 ghost use Rattle.finder.specs.Answers.{refusedFed, doneFed, feedOf};
-use heap::perform::perform;
+use heap::insert::insert;
 use relax::Progress;
-use rules::Call;
 use rules::Tally;
 use spans::index::Index;
 use spans::index::index_spans;
@@ -80,21 +79,13 @@ fn begin_search(
     fill(best, NONE);
     fill(last, NONE);
     fill(joints, NONE);
-    make_empty(store, places as usize);
-    let none = Tally { links: 0, cuts: 0 };
-    let reply = perform(
-        store,
-        Call::Insert {
-            heap: 0,
-            item: start,
-            key: 0,
-        },
-        none,
-    );
+    let n = places as usize;
+    make_empty(store, n);
+    insert(store, n, 0, start, 0);
     let i = start as usize;
     best[i] = 0;
     joints[i] = 0;
-    let tally = reply.tally;
+    let tally = Tally { links: 0, cuts: 0 };
     Progress {
         visited: 0,
         met: 1,

@@ -4,12 +4,13 @@ ghost use Rattle.paths.specs.Map.{Map};
 ghost use Rattle.paths.specs.Queue.{Stop};
 ghost use Rattle.paths.specs.Feed.{resultLists};
 ghost use Rattle.finder.specs.SearchState.{Taken, Goes, Visits};
-use heap::perform::perform;
+use heap::delete::extract_min;
+use heap::insert::find_min;
 use relax::Progress;
 use relax::offered;
-use rules::Call;
 use spans::index::Index;
 use spans::window::usable_at;
+use store::items_of;
 
 // The spans of place u, which was taken with loss d, are tried in list order. One that is closed is examined only.
 fn try_spans(
@@ -55,7 +56,7 @@ fn try_spans(
     go.visit()
 }
 
-// The place that comes next is taken, and its spans are tried.
+// The place that comes next is taken, and its spans are tried. Its key is its loss, which the table shows.
 pub fn visit_next(
     minute: u32,
     index: &Index,
@@ -79,9 +80,11 @@ pub fn visit_next(
         → Visits stop m go
         (resultLists (now (best .exit)) (now (last .exit)) (now (joints .exit)) (now (store .exit))) r) ⌝ }
 {
+    let n = items_of(store);
+    let u = find_min(store, n, 0);
+    let d = best[u as usize];
     let before = go.tally;
-    let reply = perform(store, Call::ExtractMin { heap: 0 }, before);
-    let tally = reply.tally;
+    let tally = extract_min(store, n, 0, before);
     let taken = Progress {
         visited: go.visited,
         met: go.met,
@@ -99,8 +102,8 @@ pub fn visit_next(
         last,
         joints,
         store,
-        reply.item,
-        reply.key,
+        u,
+        d,
         taken,
     )
 }

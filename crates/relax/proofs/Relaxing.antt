@@ -11,9 +11,10 @@ use Rattle.rules.specs.declared.Call.the-variants.{Insert, DecreaseKey}
 use Rattle.rules.specs.declared.Line.the-variants.{Yields}
 use Rattle.rules.specs.Lists.{sumBy}
 use Rattle.rules.specs.Forests.{none, empty}
-use Rattle.rules.specs.Answers.{after}
+use Rattle.rules.specs.Answers.{refusal, after}
 use Rattle.rules.specs.Unraised.{isRaise}
 use Rattle.rules.specs.WellFormed.{WellFormed}
+use Rattle.rules.specs.Words.{forestsOf}
 use Rattle.rules.proofs.Default.{getD-any}
 use Rattle.rules.proofs.Sums.{sumBy-set}
 use Rattle.relax.specs.declared.Progress.{Progress}
@@ -24,10 +25,23 @@ use Rattle.relax.specs.Advances.{OfferReady, Improved, Advances}
 use Rattle.paths.proofs.Judge.{judge-unmet, judge-smaller, judge-larger, judge-tie, judge-kept}
 use Rattle.relax.proofs.Logged.{call-logged}
 
+module _ {p loss : ℕ} {l : ResultLists} {go : Progress} (O : OfferReady p loss l go) where
+  -- the code reads a word as `getD .. 0`
+  best-word : getD (l .best) p none ≡ getD (l .best) p 0
+  best-word = getD-any (l .best) p none 0 (O .inBest)
+
+  -- the queue call, by what the code reads, is not refused
+  pub meet-allowed : getD (l .best) p 0 ≡ none → refusal (forestsOf (l .store)) (Insert 0 p loss) ≡ 0
+  meet-allowed z = O .inserts (best-word ∙ z)
+
+  pub lower-allowed : getD (l .best) p 0 ≢ none → loss < getD (l .best) p 0
+      → refusal (forestsOf (l .store)) (DecreaseKey p loss) ≡ 0
+  lower-allowed met k = O .lowers (λ q. met (sym best-word ∙ q)) (omega (arith, best-word))
+
 module _ (p loss hops span : ℕ) (l : ResultLists) (go : Progress) where
-  -- A queue call for p, as the search logs it.
+  -- A queue call for p that is not refused, as the search logs it.
   module _
-      (call : Call) (met : ℕ) (l′ : ResultLists) (r : Progress)
+      (call : Call) (met : ℕ) (done : refusal (forestsOf (l .store)) call ≡ 0) (l′ : ResultLists) (r : Progress)
       (I : Improved call p loss hops span met l go l′ r) where
     improved-tracks : isRaise (Yields call) ≡ false → {n out : ℕ} {s t : Search}
         → WellFormed (after (empty n) (s .calls)) → Tracks n out s l go
@@ -35,44 +49,41 @@ module _ (p loss hops span : ℕ) (l : ResultLists) (go : Progress) where
         → t .calls ≡ s .calls ++ (Yields call ∷ []) → t .examined ≡ s .examined
         → met ≡ out + sumBy (λ w. w) (t .queue .waits) → Tracks n out t l′ r
     improved-tracks u {n} {out} {s} {t} W H eb el ej ec ex em =
-        rw (I .progress)
-        (record {
+        record {
           best-is = I .best-is ∙ ap (λ b. set b p loss) (H .best-is) ∙ sym eb;
           last-is = I .last-is ∙ ap (λ b. set b p span) (H .last-is) ∙ sym el;
           joints-is = I .joints-is ∙ ap (λ b. set b p hops) (H .joints-is) ∙ sym ej;
           logged =
-              rw ec
-              (call-logged n (s .calls) (l .store) (go .tally) (H .logged) W call u (I .reply) (l′ .store)
-              (I .performed));
-          examined-is = H .examined-is ∙ sym ex;
-          met-is = em;
-        })
+              rw ec (call-logged n (s .calls) (l .store) (go .tally) (H .logged) W call done u (I .moves));
+          examined-is = I .examined-is ∙ H .examined-is ∙ sym ex;
+          met-is = I .met-is ∙ em;
+        }
 
-  enter-advances : p < length (l .best) → getD (l .best) p 0 ≡ none → {l′ : ResultLists} {r : Progress}
-      → Improved (Insert 0 p loss) p loss hops span (go .met + 1) l go l′ r
+  meet-advances : p < length (l .best) → getD (l .best) p 0 ≡ none → refusal (forestsOf (l .store)) (Insert 0 p loss) ≡ 0
+      → {l′ : ResultLists} {r : Progress} → Improved (Insert 0 p loss) p loss hops span (go .met + 1) l go l′ r
       → Advances p (update unmet p loss hops span) l go l′ r
   unfolding update isRaise
-  enter-advances i u {l′} {r} I =
+  meet-advances i u done {l′} {r} I =
       record {
-        visited-is = ap (λ (q : Progress). q .visited) (I .progress);
+        visited-is = I .visited-is;
         tracks =
             λ n out s O H.
             let z : getD (s .best) p none ≡ none =
             rw (sym (H .best-is)) (getD-any (l .best) p none 0 i ∙ u) in
-            improved-tracks (Insert 0 p loss) (go .met + 1) l′ r I refl (O .formed) H refl refl refl refl refl
+            improved-tracks (Insert 0 p loss) (go .met + 1) done l′ r I refl (O .formed) H refl refl refl refl refl
             (omega (arith, H .met-is, sumBy-set (λ w. w) (s .queue .waits) p 1 0 (O .inside), O .apart z));
       }
 
-  lower-advances : {l′ : ResultLists} {r : Progress}
+  lower-advances : refusal (forestsOf (l .store)) (DecreaseKey p loss) ≡ 0 → {l′ : ResultLists} {r : Progress}
       → Improved (DecreaseKey p loss) p loss hops span (go .met) l go l′ r
       → Advances p (update smaller p loss hops span) l go l′ r
   unfolding update isRaise
-  lower-advances {l′} {r} I =
+  lower-advances done {l′} {r} I =
       record {
-        visited-is = ap (λ (q : Progress). q .visited) (I .progress);
+        visited-is = I .visited-is;
         tracks =
             λ n out s O H.
-            improved-tracks (DecreaseKey p loss) (go .met) l′ r I refl (O .formed) H refl refl refl refl refl
+            improved-tracks (DecreaseKey p loss) (go .met) done l′ r I refl (O .formed) H refl refl refl refl refl
             (H .met-is);
       }
 
@@ -125,11 +136,7 @@ module _ (p loss hops span : ℕ) (l : ResultLists) (go : Progress) where
             rw j (M .tracks n out s O H);
       }
 
-  module _ (O : OfferReady p l go) where
-    -- the code reads a word as `getD .. 0`
-    best-word : hasLoss ≡ getD (l .best) p 0
-    best-word = getD-any (l .best) p none 0 (O .inBest)
-
+  module _ (O : OfferReady p loss l go) where
     last-word : hasSpan ≡ getD (l .last) p 0
     last-word = getD-any (l .last) p none 0 (O .inLast)
 
@@ -141,32 +148,33 @@ module _ (p loss hops span : ℕ) (l : ResultLists) (go : Progress) where
     same-wins = rw (joints-word, last-word)
 
     -- One law for each way out, in the order of the tests.
-    pub offer-enters : getD (l .best) p 0 ≡ none → {l′ : ResultLists} {r : Progress}
+    pub offer-meets : getD (l .best) p 0 ≡ none → {l′ : ResultLists} {r : Progress}
         → Improved (Insert 0 p loss) p loss hops span (go .met + 1) l go l′ r
         → Advances p (offer p loss hops span) l go l′ r
-    offer-enters z I =
-        judged-advances unmet (judge-unmet hasLoss hasHops hasSpan loss hops span (best-word ∙ z))
-        (enter-advances (O .inBest) z I)
+    offer-meets z I =
+        judged-advances unmet (judge-unmet hasLoss hasHops hasSpan loss hops span (best-word O ∙ z))
+        (meet-advances (O .inBest) z (meet-allowed O z) I)
 
     module _ (met : getD (l .best) p 0 ≢ none) where
       met′ : hasLoss ≢ none
-      met′ q = met (sym best-word ∙ q)
+      met′ q = met (sym (best-word O) ∙ q)
 
       pub offer-lowers : loss < getD (l .best) p 0 → {l′ : ResultLists} {r : Progress}
           → Improved (DecreaseKey p loss) p loss hops span (go .met) l go l′ r
           → Advances p (offer p loss hops span) l go l′ r
       offer-lowers k I =
-          judged-advances smaller (judge-smaller hasLoss hasHops hasSpan loss hops span met′ (omega (arith, best-word)))
-          (lower-advances I)
+          judged-advances smaller
+          (judge-smaller hasLoss hasHops hasSpan loss hops span met′ (omega (arith, best-word O)))
+          (lower-advances (lower-allowed O met k) I)
 
       module _ (low : getD (l .best) p 0 ≤ loss) where
         low′ : hasLoss ≤ loss
-        low′ = omega (arith, best-word)
+        low′ = omega (arith, best-word O)
 
         pub offer-larger : getD (l .best) p 0 < loss → Advances p (offer p loss hops span) l go l go
         offer-larger k =
             judged-advances worse
-            (judge-larger hasLoss hasHops hasSpan loss hops span met′ low′ (λ q. omega (arith, k, q, best-word)))
+            (judge-larger hasLoss hasHops hasSpan loss hops span met′ low′ (λ q. omega (arith, k, q, best-word O)))
             worse-advances
 
         -- what `wins_tie` answers on the words read
@@ -179,6 +187,6 @@ module _ (p loss hops span : ℕ) (l : ResultLists) (go : Progress) where
           pub offer-ties : loss ≤ getD (l .best) p 0 → b ≡ true → Advances p (offer p loss hops span) l go tied go
           offer-ties k i =
               judged-advances tie
-              (judge-tie hasLoss hasHops hasSpan loss hops span met′ low′ (omega (arith, low, k, best-word))
+              (judge-tie hasLoss hasHops hasSpan loss hops span met′ low′ (omega (arith, low, k, best-word O))
               (same-wins ∙ sym wins ∙ i))
               tie-advances

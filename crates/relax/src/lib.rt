@@ -1,14 +1,19 @@
 // A span offers its end a loss, and the queue and the table follow (relaxation of an edge).
 ghost use mathlib.Core.Path.{_≡_};
+ghost use mathlib.Core.Logic.{_≢_};
 ghost use Prim.Native.Nat.{_+_, _<_};
+ghost use lib.ListN.{length, getD, set};
+ghost use Rattle.rules.specs.declared.Call.the-variants.{Insert, DecreaseKey};
+ghost use Rattle.rules.specs.Forests.{none};
 ghost use Rattle.paths.specs.Search.{winsTie, offer};
 ghost use Rattle.paths.specs.Feed.{resultLists};
 ghost use Rattle.relax.specs.Tracks.{examineOne, visitOne};
 ghost use Rattle.relax.specs.Advances.{OfferReady, Improved, Advances};
-use heap::perform::perform;
-use rules::Call;
+use heap::decrease::decrease_key;
+use heap::insert::insert;
 use rules::Tally;
 use store::NONE;
+use store::items_of;
 
 // How far a search is: the places whose spans were tried, the places met, the spans examined, and the tally of its
 // queue calls.
@@ -49,35 +54,85 @@ impl Progress {
     }
 }
 
-// A queue call is made for a place, and the table shows it the loss, the number of spans and the span.
-fn improve(
+// The table shows a place the loss, the number of spans and the span.
+fn show(
     best: &mut [u32],
     last: &mut [u32],
     joints: &mut [u32],
-    store: &mut [u32],
-    call: Call,
     place: u32,
     loss: u32,
     hops: u32,
     span: u32,
-    met: u32,
-    go: Progress,
-) -> Progress
-    requires { ⌜ OfferReady place (resultLists (now best) (now last) (now joints) (now store)) go ⌝ }
-    ensures { λ r. ⌜ Improved call place loss hops span met
-        (resultLists (now (best .entry)) (now (last .entry)) (now (joints .entry)) (now (store .entry))) go
-        (resultLists (now (best .exit)) (now (last .exit)) (now (joints .exit)) (now (store .exit))) r ⌝ }
+)
+    requires { ⌜ place < length (now best) ⌝ }
+    requires { ⌜ place < length (now last) ⌝ }
+    requires { ⌜ place < length (now joints) ⌝ }
+    ensures { λ _. ⌜ ((now (best .exit) ≡ set (now (best .entry)) place loss)
+        × (now (last .exit) ≡ set (now (last .entry)) place span)
+        × (now (joints .exit) ≡ set (now (joints .entry)) place hops)) ⌝ }
 {
-    let before = go.tally;
-    let reply = perform(store, call, before);
     let i = place as usize;
     best[i] = loss;
     last[i] = span;
     joints[i] = hops;
-    let tally = reply.tally;
+}
+
+// A place that was not met is inserted, and shown what it is offered.
+fn meet(
+    best: &mut [u32],
+    last: &mut [u32],
+    joints: &mut [u32],
+    store: &mut [u32],
+    place: u32,
+    loss: u32,
+    hops: u32,
+    span: u32,
+    go: Progress,
+) -> Progress
+    requires { ⌜ OfferReady place loss (resultLists (now best) (now last) (now joints) (now store)) go ⌝ }
+    requires { ⌜ getD (now best) place 0 ≡ none ⌝ }
+    ensures { λ r. ⌜ Improved (Insert 0 place loss) place loss hops span (go .met + 1)
+        (resultLists (now (best .entry)) (now (last .entry)) (now (joints .entry)) (now (store .entry))) go
+        (resultLists (now (best .exit)) (now (last .exit)) (now (joints .exit)) (now (store .exit))) r ⌝ }
+{
+    let n = items_of(store);
+    insert(store, n, 0, place, loss);
+    show(best, last, joints, place, loss, hops, span);
+    let tally = go.tally;
     Progress {
         visited: go.visited,
-        met,
+        met: go.met + 1,
+        examined: go.examined,
+        tally,
+    }
+}
+
+// A place that was met with a larger loss has its key lowered, and is shown what it is offered.
+fn lower(
+    best: &mut [u32],
+    last: &mut [u32],
+    joints: &mut [u32],
+    store: &mut [u32],
+    place: u32,
+    loss: u32,
+    hops: u32,
+    span: u32,
+    go: Progress,
+) -> Progress
+    requires { ⌜ OfferReady place loss (resultLists (now best) (now last) (now joints) (now store)) go ⌝ }
+    requires { ⌜ getD (now best) place 0 ≢ none ⌝ }
+    requires { ⌜ loss < getD (now best) place 0 ⌝ }
+    ensures { λ r. ⌜ Improved (DecreaseKey place loss) place loss hops span (go .met)
+        (resultLists (now (best .entry)) (now (last .entry)) (now (joints .entry)) (now (store .entry))) go
+        (resultLists (now (best .exit)) (now (last .exit)) (now (joints .exit)) (now (store .exit))) r ⌝ }
+{
+    let n = items_of(store);
+    let before = go.tally;
+    let tally = decrease_key(store, n, place, loss, before);
+    show(best, last, joints, place, loss, hops, span);
+    Progress {
+        visited: go.visited,
+        met: go.met,
         examined: go.examined,
         tally,
     }
@@ -106,7 +161,7 @@ pub fn offered(
     span: u32,
     go: Progress,
 ) -> Progress
-    requires { ⌜ OfferReady place (resultLists (now best) (now last) (now joints) (now store)) go ⌝ }
+    requires { ⌜ OfferReady place loss (resultLists (now best) (now last) (now joints) (now store)) go ⌝ }
     ensures { λ r. ⌜ Advances place (offer place loss hops span)
         (resultLists (now (best .entry)) (now (last .entry)) (now (joints .entry)) (now (store .entry))) go
         (resultLists (now (best .exit)) (now (last .exit)) (now (joints .exit)) (now (store .exit))) r ⌝ }
@@ -114,44 +169,10 @@ pub fn offered(
     let at = place as usize;
     let has_loss = best[at];
     if has_loss == NONE {
-        let call = Call::Insert {
-            heap: 0,
-            item: place,
-            key: loss,
-        };
-        let met = go.met + 1;
-        return improve(
-            best,
-            last,
-            joints,
-            store,
-            call,
-            place,
-            loss,
-            hops,
-            span,
-            met,
-            go,
-        );
+        return meet(best, last, joints, store, place, loss, hops, span, go);
     }
     if loss < has_loss {
-        let call = Call::DecreaseKey {
-            item: place,
-            key: loss,
-        };
-        return improve(
-            best,
-            last,
-            joints,
-            store,
-            call,
-            place,
-            loss,
-            hops,
-            span,
-            go.met,
-            go,
-        );
+        return lower(best, last, joints, store, place, loss, hops, span, go);
     }
     if has_loss < loss {
         return go;

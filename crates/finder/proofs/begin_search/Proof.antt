@@ -17,12 +17,12 @@ fill-requires-3 c κs = search needs
 make-empty-requires : tie.Need-make-empty-requires
 make-empty-requires c κs = search needs
 
-perform-requires : tie.Need-perform-requires
-perform-requires c κs =
+insert-requires : tie.Need-insert-requires
+insert-requires c κs =
     let at-make-empty = c .before .before .before in
     let at-fill2 = at-make-empty .before .before .before .before .before .before .before .before in
     let start = at-fill2 .before .before .before .before .before .before .before .before .before .before in
-    begin-ready _ _ (resultLists _ _ _ _) (start .pre) _ (at-make-empty .make-empty .ensures)
+    begin-ready _ _ (resultLists _ _ _ _) (start .pre) _ (at-make-empty .make-empty .ensures) .allowed
 
 mul-best : tie.Need-mul-best
 mul-best c = search needs
@@ -50,14 +50,14 @@ same-length-4 c = search needs
 
 returns : tie.Need-returns
 returns c =
-    let at-perform = c .before .before .before in
-    let at-make-empty = at-perform .before .before .before .before in
+    let at-insert = c .before .before in
+    let at-make-empty = at-insert .before .before .before .before in
     let at-fill3 = at-make-empty .before .before .before .before in
     let at-fill2 = at-fill3 .before .before .before .before in
     let at-fill = at-fill2 .before .before .before .before in
     let start = at-fill .before .before .before .before .before .before in
-    begun _ _ (resultLists _ _ _ _) (start .pre) _ _ _ _ (at-fill .fill .ensures) (at-fill2 .fill2 .ensures)
-    (at-fill3 .fill3 .ensures) (at-make-empty .make-empty .ensures) _ _ (at-perform .perform .ensures)
+    begun _ _ (resultLists _ _ _ _) (start .pre) _ (at-make-empty .make-empty .ensures) _ _ _ (at-fill .fill .ensures)
+    (at-fill2 .fill2 .ensures) (at-fill3 .fill3 .ensures) _ (at-insert .insert .ensures)
 
 pub begin-search-spec : {M : Type 1} → statement M
 begin-search-spec =
@@ -67,7 +67,7 @@ begin-search-spec =
     fill-requires-2
     fill-requires-3
     make-empty-requires
-    perform-requires
+    insert-requires
     mul-best
     slice-write-best
     mul-joints

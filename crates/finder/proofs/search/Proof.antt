@@ -8,7 +8,8 @@ use Rattle.paths.specs.Search.{never}
 use Rattle.paths.specs.Feed.{resultLists}
 use Rattle.finder.specs.SearchState.{Stands}
 use Rattle.finder.proofs.OwnSpans.{sorted}
-use Rattle.finder.proofs.Searching.{some-waits, none-left, stands-found, goes-on, goes-below}
+use Rattle.finder.proofs.FirstWaiting.{some-waits, none-left}
+use Rattle.finder.proofs.Searching.{stands-found, goes-on, goes-below}
 use Rattle.finder.proofs.search.Statement.{statement}
 use Rattle.finder.proofs.search.Tie as tie
 

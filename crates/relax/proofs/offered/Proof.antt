@@ -1,6 +1,6 @@
 -- `relax::offered` meets its contract: one law for each way out.
 use Rattle.paths.specs.Feed.{resultLists}
-use Rattle.relax.proofs.Relaxing.{offer-enters, offer-lowers, offer-larger, offer-kept, offer-ties}
+use Rattle.relax.proofs.Relaxing.{offer-meets, offer-lowers, offer-larger, offer-kept, offer-ties}
 use borrow.Author.Tests.{not-true, not-false}
 use borrow.Author.Needs.{needs}
 use Rattle.relax.proofs.offered.Statement.{statement}
@@ -12,11 +12,8 @@ mul-has-loss c = search needs
 slice-read-has-loss : tie.Need-slice-read-has-loss
 slice-read-has-loss c = search needs
 
-add-met : tie.Need-add-met
-add-met c = search needs
-
-improve-requires : tie.Need-improve-requires
-improve-requires c κs = search needs
+meet-requires : tie.Need-meet-requires
+meet-requires c κs = search needs
 
 same-length : tie.Need-same-length
 same-length c = search needs
@@ -32,14 +29,18 @@ same-length-4 c = search needs
 
 returns : tie.Need-returns
 returns c =
-    let at-improve = c .before .before .before .before .before .before .before .before in
-    let at-if1 = at-improve .before .before .before .before .before .before in
+    let at-meet = c .before .before .before .before .before .before .before .before in
+    let at-if1 = at-meet .before .before .before .before .before in
     let start = at-if1 .before .before .before .before .before .before in
-    offer-enters _ _ _ _ (resultLists _ _ _ _) _ (start .pre) (at-if1 .if1 .taken) {l′ = resultLists _ _ _ _}
-    (at-improve .improve .ensures)
+    offer-meets _ _ _ _ (resultLists _ _ _ _) _ (start .pre) (at-if1 .if1 .taken) {l′ = resultLists _ _ _ _}
+    (at-meet .meet .ensures)
 
-improve-requires-2 : tie.Need-improve-requires-2
-improve-requires-2 c κs = search needs
+lower-requires : tie.Need-lower-requires
+lower-requires c κs =
+    let at-if2 = c .before .before .before .before in
+    let at-if1 = at-if2 .before in
+    let start = at-if1 .before .before .before .before .before .before in
+    (start .pre, (at-if1 .if1 .left, at-if2 .if2 .taken))
 
 same-length-5 : tie.Need-same-length-5
 same-length-5 c = search needs
@@ -55,12 +56,12 @@ same-length-8 c = search needs
 
 returns-2 : tie.Need-returns-2
 returns-2 c =
-    let at-improve = c .before .before .before .before .before .before .before .before in
-    let at-if2 = at-improve .before .before .before .before .before in
+    let at-lower = c .before .before .before .before .before .before .before .before in
+    let at-if2 = at-lower .before .before .before .before .before in
     let at-if1 = at-if2 .before in
     let start = at-if1 .before .before .before .before .before .before in
     offer-lowers _ _ _ _ (resultLists _ _ _ _) _ (start .pre) (at-if1 .if1 .left) (at-if2 .if2 .taken)
-    {l′ = resultLists _ _ _ _} (at-improve .improve2 .ensures)
+    {l′ = resultLists _ _ _ _} (at-lower .lower .ensures)
 
 returns-3 : tie.Need-returns-3
 returns-3 c =
@@ -123,14 +124,13 @@ offered-spec =
     (tie.spec
     mul-has-loss
     slice-read-has-loss
-    add-met
-    improve-requires
+    meet-requires
     same-length
     same-length-2
     same-length-3
     same-length-4
     returns
-    improve-requires-2
+    lower-requires
     same-length-5
     same-length-6
     same-length-7

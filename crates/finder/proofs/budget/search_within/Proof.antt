@@ -6,22 +6,24 @@ use native.Mathlib.Omega.{arith}
 use borrow.Author.Needs.{needs}
 use borrow.Author.Tests.{lt-ltb, le-ltb}
 use lib.ListN.{length}
+use Rattle.heap.proofs.Answered.{as-find}
 use Rattle.paths.specs.Map.{spanLists, windows, mapAt}
 use Rattle.paths.specs.Table.{upTo}
 use Rattle.paths.specs.Search.{beyond}
 use Rattle.paths.specs.Feed.{resultLists}
 use Rattle.finder.specs.SearchState.{ListReady}
 use Rattle.finder.proofs.OwnSpans.{sorted}
-use Rattle.finder.proofs.Searching.{goes-below}
 use Rattle.finder.proofs.FirstWaiting.{
+  some-waits,
   none-halts,
-  find-ready,
+  items-are,
+  take-ready,
   first-in,
   first-read,
   first-taken,
   first-stops,
-  first-goes,
 }
+use Rattle.finder.proofs.Searching.{first-goes, goes-below}
 use Rattle.finder.proofs.ListTaken.{ListsTaken, lists-begins, lists-more, lists-done}
 use Rattle.finder.proofs.budget.search_within.Statement.{statement}
 use Rattle.finder.proofs.budget.search_within.Tie as tie
@@ -64,7 +66,8 @@ find-min-requires : tie.Need-find-min-requires Inv-loop μ-loop
 find-min-requires c κs =
     let t = c .before in
     let l = t .before .before in
-    find-ready (l .loop .inv .0 _ (start l .pre .1) .stands) (t .if1 .taken)
+    let S = l .loop .inv .0 _ (start l .pre .1) .stands in
+    as-find (take-ready S (some-waits S (t .if1 .taken) .1) (items-are S) .allowed)
 
 -- the place that the code reads
 first-small : (c : tie.After-find-min Inv-loop μ-loop) → c .find-min .result < 4096
@@ -72,7 +75,7 @@ first-small c =
     let t = c .before .before in
     let l = t .before .before in
     let S = l .loop .inv .0 _ (start l .pre .1) .stands in
-    omega (arith, first-in S (t .if1 .taken) (c .find-min .ensures), S .accepted .few)
+    omega (arith, first-in S (some-waits S (t .if1 .taken) .1) (c .find-min .ensures), S .accepted .few)
 
 cast-if2 : tie.Need-cast-if2 Inv-loop μ-loop
 cast-if2 c = omega (arith, first-small c)
@@ -85,7 +88,8 @@ slice-read-if2 c =
     let f = c .before in
     let t = f .before .before in
     let l = t .before .before in
-    first-read (l .loop .inv .0 _ (start l .pre .1) .stands) (t .if1 .taken) (f .find-min .ensures)
+    let S = l .loop .inv .0 _ (start l .pre .1) .stands in
+    first-read S (some-waits S (t .if1 .taken) .1) (f .find-min .ensures)
 
 same-length : tie.Need-same-length Inv-loop μ-loop
 same-length c = search needs
@@ -108,7 +112,9 @@ returns c =
     let t = f .before .before in
     λ s R.
     let L = t .before .before .loop .inv .0 s R in
-    lists-done _ L (first-stops (L .stands) (t .if1 .taken) (f .find-min .ensures) (lt-ltb _ _ (c .if2 .taken)))
+    lists-done _ L
+    (first-stops (L .stands) (some-waits (L .stands) (t .if1 .taken) .1) (f .find-min .ensures)
+    (lt-ltb _ _ (c .if2 .taken)))
 
 -- a place within the budget is yet to be visited, so not all are
 below : (c : tie.Else2 Inv-loop μ-loop) →
@@ -169,8 +175,9 @@ loop-again c =
           let w = le-ltb _ _ (i .if2 .left) in
           let G =
           first-goes (l .before .index-spans .ensures) (L .stands) (t .if1 .taken) (f .find-min .ensures) w in
-          lists-more L (first-taken (L .stands) (t .if1 .taken) (f .find-min .ensures) w) (goes-below G)
-          {l′ = resultLists _ _ _ _} (v .visit-next .ensures _ _ G),
+          lists-more L
+          (first-taken (L .stands) (some-waits (L .stands) (t .if1 .taken) .1) (f .find-min .ensures) w)
+          (goes-below G) {l′ = resultLists _ _ _ _} (v .visit-next .ensures _ _ G),
       c .before .before .before .before .before .before .before .best .given ∙ l .loop .inv .1,
       c .before .before .before .before .before .last .given ∙ l .loop .inv .2,
       c .before .before .before .joints .given ∙ l .loop .inv .3,
