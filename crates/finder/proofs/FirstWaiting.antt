@@ -21,12 +21,11 @@ use Rattle.paths.specs.Theorems.{between, forestsAfter}
 use Rattle.paths.proofs.Waiting.{some-next, none-next}
 use Rattle.paths.proofs.Stopping.{stopped, next-stopped}
 use Rattle.paths.proofs.NextMinimum.{next-minimum, next-allowed, next-in, next-key}
-use Rattle.paths.proofs.Steps.{steps-between, steps-keep}
-use Rattle.paths.proofs.Served.{ServedOf, served}
+use Rattle.paths.proofs.Steps.{steps-between}
 use Rattle.relax.specs.declared.Progress.{Progress}
-use Rattle.relax.proofs.Logged.{may-call, logged-forests}
+use Rattle.relax.proofs.Logged.{may-call}
 use Rattle.finder.specs.SearchState.{Stands}
-use Rattle.finder.proofs.Ready.{logged-ready, logged-sized}
+use Rattle.finder.proofs.Ready.{logged-ready, stored-forests, logged-sized}
 
 module _ {stop : Stop} {m : Map} {l : ResultLists} {go : Progress} (S : Stands stop m l go) where
   abbrev s : Search
@@ -56,11 +55,8 @@ module _ {stop : Stop} {m : Map} {l : ResultLists} {go : Progress} (S : Stands s
           unless true e = let y : _≡_ {A = ℕ} 0 1 = cc in absurd (omega arith)
           unless false e = e
 
-  -- the forests that the store's words stand for
   forests : forestsOf (l .store) ≡ forestsAfter m s
-  forests =
-      logged-forests (m .places) (s .calls) (l .store) (go .tally) (S .tracks .logged)
-      (steps-keep stop m (S .accepted) (ServedOf m) (served stop m (S .accepted)) (go .visited) .formed)
+  forests = stored-forests stop m (S .accepted) s (between (go .visited)) (S .tracks .logged)
 
   pub items-are : m .places ≡ itemsIn (l .store)
   items-are = sym (sized-items (logged-sized stop m (S .accepted) (go .visited) (S .tracks .logged)))
@@ -69,7 +65,7 @@ module _ {stop : Stop} {m : Map} {l : ResultLists} {go : Progress} (S : Stands s
   bestN = ap length (S .tracks .best-is) ∙ steps-between stop m (S .accepted) (go .visited) .invariant .bestN
 
   module _ {first : ℕ} (n : next never (s .queue) ≡ takes first) where
-    -- T is refused as M is
+    -- it may be taken: T is refused as M is
     pub take-ready : {items : ℕ} → items ≡ itemsIn (l .store) → MayMove (l .store) items (ExtractMin 0) (go .tally)
     unfolding refusal
     take-ready e =

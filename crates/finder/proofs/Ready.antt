@@ -10,7 +10,7 @@ use Rattle.rules.specs.declared.Tally.{Tally}
 use Rattle.rules.specs.Forests.{Forests}
 use Rattle.rules.specs.Answers.{refusal, refused, unlessRefused, answer}
 use Rattle.rules.specs.Queues.{unraised}
-use Rattle.rules.specs.Words.{storeSize}
+use Rattle.rules.specs.Words.{storeSize, forestsOf}
 use Rattle.rules.proofs.DecodeEncode.{encode-length}
 use Rattle.rules.proofs.SoundWords.{sound-encode}
 use Rattle.rules.proofs.UnraisedWords.{unraised-formed}
@@ -24,6 +24,7 @@ use Rattle.paths.proofs.Steps.{steps-between, steps-keep, moments-keep}
 use Rattle.paths.proofs.Served.{ServedOf, served}
 use Rattle.paths.proofs.Counts.{counts-low}
 use Rattle.relax.specs.Tracks.{Logged}
+use Rattle.relax.proofs.Logged.{logged-forests}
 
 -- a call that is answered with code 0 is not refused
 pub zero-allowed : (s : Forests) (c : Call) → (answer s (Yields c)) .reply .code ≡ 0 → refusal s c ≡ 0
@@ -34,16 +35,24 @@ zero-allowed s c = go (refusal s c)
     go zero e = refl
     go (suc r) e = e
 
-pub logged-ready : (stop : Stop) (m : Map) → Accepted m → (s : Search) → Moment stop m s
-    → {store : List ℕ} {t : Tally} → Logged (m .places) (s .calls) store t → Ready store t
-logged-ready stop m A s M L =
-    let forests = forestsAfter m s in
-    let S = moments-keep stop m A (ServedOf m) (served stop m A) s M in
-    let low = counts-low stop m A s M in
-    record {
-      sound = rw (L .words) (sound-encode (unraised forests) (unraised-formed forests (S .formed)));
-      room = record { links = omega (arith, low, L .links); cuts = omega (arith, low, L .cuts) };
-    }
+module _
+    (stop : Stop) (m : Map) (A : Accepted m) (s : Search) (M : Moment stop m s) {store : List ℕ} {t : Tally}
+    (L : Logged (m .places) (s .calls) store t) where
+  calls : ServedOf m s
+  calls = moments-keep stop m A (ServedOf m) (served stop m A) s M
+
+  pub logged-ready : Ready store t
+  logged-ready =
+      let forests = forestsAfter m s in
+      let low = counts-low stop m A s M in
+      record {
+        sound = rw (L .words) (sound-encode (unraised forests) (unraised-formed forests (calls .formed)));
+        room = record { links = omega (arith, low, L .links); cuts = omega (arith, low, L .cuts) };
+      }
+
+  -- the forests that the store's words stand for
+  pub stored-forests : forestsOf store ≡ forestsAfter m s
+  stored-forests = logged-forests (m .places) (s .calls) store t L (calls .formed)
 
 -- the forests have as many items as the search has places
 pub logged-sized : (stop : Stop) (m : Map) → Accepted m → (k : ℕ) {store : List ℕ} {t : Tally}

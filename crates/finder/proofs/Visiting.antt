@@ -8,7 +8,6 @@ use native.Mathlib.Numerals.{add-one}
 use lib.ListN.{length, getD}
 use borrow.Author.Tests.{eq-eqb}
 use Rattle.rules.specs.Forests.{none}
-use Rattle.rules.specs.Words.{forestsOf}
 use Rattle.paths.specs.Map.{
   windows,
   usableAt,
@@ -25,7 +24,7 @@ use Rattle.paths.specs.Map.{
 use Rattle.paths.specs.Queue.{Stop}
 use Rattle.paths.specs.Search.{Search, offer, try, tried, examine, steps, bestAt, jointsAt}
 use Rattle.paths.specs.Feed.{ResultLists}
-use Rattle.paths.specs.Theorems.{trying, forestsAfter}
+use Rattle.paths.specs.Theorems.{Moment, trying}
 use Rattle.paths.proofs.Invariant.{unsettled}
 use Rattle.paths.proofs.Offers.{TryingOf, out-of-queue}
 use Rattle.paths.proofs.Tried.{try-closed}
@@ -33,9 +32,8 @@ use Rattle.paths.proofs.Examined.{examinedAtMost}
 use Rattle.relax.specs.declared.Progress.{Progress}
 use Rattle.relax.specs.Tracks.{Tracks, examineOne}
 use Rattle.relax.specs.Advances.{Offerable, OfferReady, Advances}
-use Rattle.relax.proofs.Logged.{logged-forests}
 use Rattle.finder.specs.SearchState.{Taken}
-use Rattle.finder.proofs.Ready.{logged-ready}
+use Rattle.finder.proofs.Ready.{logged-ready, stored-forests}
 use Rattle.finder.proofs.AtPlace.{
   at,
   left,
@@ -70,12 +68,15 @@ module _
     tryingE : TryingOf m u (bestAt before u) (jointsAt before u) e (left K) (at stop m k u e)
     tryingE = tryingAt K e (omega (arith, span-in))
 
+    moment : Moment stop m (at stop m k u e)
+    moment = trying k u e (K .next-is) (omega (arith, span-in))
+
     pub examined-small : go .examined < 4294967295
     examined-small =
         omega (
           arith,
           W .tracks .examined-is,
-          examinedAtMost stop m (K .accepted) (at stop m k u e) (trying k u e (K .next-is) (omega (arith, span-in))),
+          examinedAtMost stop m (K .accepted) (at stop m k u e) moment,
           K .accepted .short,
         )
 
@@ -154,25 +155,18 @@ module _
       is-span : IsSpan m e
       is-span = (span-in, usable-is ∙ o)
 
-      -- the forests that the store's words stand for
-      forests : forestsOf (l .store) ≡ forestsAfter m (at stop m k u e)
-      forests =
-          logged-forests (m .places) (at stop m k u e .calls) (l .store) (go .tally) (W .tracks .logged)
-          (servedAt K e (omega (arith, span-in)) .formed)
-
       pub offer-ready : OfferReady (getD to e 0) (d + getD loss e 0) l (examineOne go)
       unfolding examineOne unsettled
       offer-ready =
           let I = tryingE .invariant in
           let inside = K .accepted .toIn e span-in in
+          let forests = stored-forests stop m (K .accepted) (at stop m k u e) moment (W .tracks .logged) in
           rw (K .lists .to-is, K .lists .loss-is, K .loss-is)
           (record {
             inBest = omega (arith, ap length (W .tracks .best-is), I .bestN, inside);
             inLast = omega (arith, ap length (W .tracks .last-is), I .lastN, inside);
             inJoints = omega (arith, ap length (W .tracks .joints-is), I .jointsN, inside);
-            ready =
-                logged-ready stop m (K .accepted) (at stop m k u e)
-                (trying k u e (K .next-is) (omega (arith, span-in))) (W .tracks .logged);
+            ready = logged-ready stop m (K .accepted) (at stop m k u e) moment (W .tracks .logged);
             room = omega (arith, W .tracks .met-is, tryingE .left, left-is K, K .accepted .few);
             inserts = rw (W .tracks .best-is, forests) (insert-allowed K e is-span leaves-u);
             lowers = rw (W .tracks .best-is, forests) (decrease-allowed K e is-span leaves-u);

@@ -30,8 +30,8 @@ use Rattle.paths.proofs.Log.{after-snoc, sum-snoc}
 -- a call that is not refused may be made
 pub may-call : {w : List ℕ} {t : Tally} {n : ℕ} {c : Call} → Ready w t → n ≡ itemsIn w → refusal (forestsOf w) c ≡ 0
     → MayMove w n c t
-may-call R n done =
-    record { allowed = record { store = record { sound = R .sound; items = n }; done = done }; room = R .room }
+may-call R items done =
+    record { allowed = record { store = record { sound = R .sound; items = items }; done = done }; room = R .room }
 
 -- an insertion moves nothing
 pub insert-moves : {q : Queues} {h i k : ℕ} {t : Tally} {w′ : List ℕ} → w′ ≡ encode (afterCall q (Insert h i k))

@@ -59,19 +59,22 @@ module _ (p loss hops span : ℕ) (l : ResultLists) (go : Progress) where
           met-is = I .met-is ∙ em;
         }
 
-  meet-advances : p < length (l .best) → getD (l .best) p 0 ≡ none → refusal (forestsOf (l .store)) (Insert 0 p loss) ≡ 0
+  meet-advances : getD (l .best) p none ≡ none → refusal (forestsOf (l .store)) (Insert 0 p loss) ≡ 0
       → {l′ : ResultLists} {r : Progress} → Improved (Insert 0 p loss) p loss hops span (go .met + 1) l go l′ r
       → Advances p (update unmet p loss hops span) l go l′ r
   unfolding update isRaise
-  meet-advances i u done {l′} {r} I =
+  meet-advances z done {l′} {r} I =
       record {
         visited-is = I .visited-is;
         tracks =
             λ n out s O H.
-            let z : getD (s .best) p none ≡ none =
-            rw (sym (H .best-is)) (getD-any (l .best) p none 0 i ∙ u) in
             improved-tracks (Insert 0 p loss) (go .met + 1) done l′ r I refl (O .formed) H refl refl refl refl refl
-            (omega (arith, H .met-is, sumBy-set (λ w. w) (s .queue .waits) p 1 0 (O .inside), O .apart z));
+            (omega (
+              arith,
+              H .met-is,
+              sumBy-set (λ w. w) (s .queue .waits) p 1 0 (O .inside),
+              O .apart (rw (sym (H .best-is)) z),
+            ));
       }
 
   lower-advances : refusal (forestsOf (l .store)) (DecreaseKey p loss) ≡ 0 → {l′ : ResultLists} {r : Progress}
@@ -153,7 +156,7 @@ module _ (p loss hops span : ℕ) (l : ResultLists) (go : Progress) where
         → Advances p (offer p loss hops span) l go l′ r
     offer-meets z I =
         judged-advances unmet (judge-unmet hasLoss hasHops hasSpan loss hops span (best-word O ∙ z))
-        (meet-advances (O .inBest) z (meet-allowed O z) I)
+        (meet-advances (best-word O ∙ z) (meet-allowed O z) I)
 
     module _ (met : getD (l .best) p 0 ≢ none) where
       met′ : hasLoss ≢ none

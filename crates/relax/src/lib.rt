@@ -107,7 +107,7 @@ fn meet(
     }
 }
 
-// A place that was met with a larger loss has its key lowered, and is shown what it is offered.
+// A place that was met with a larger loss has its key decreased, and is shown what it is offered.
 fn lower(
     best: &mut [u32],
     last: &mut [u32],
