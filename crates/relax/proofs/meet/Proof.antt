@@ -7,33 +7,12 @@ use Rattle.relax.proofs.Relaxing.{meet-allowed}
 use Rattle.relax.proofs.meet.Statement.{statement}
 use Rattle.relax.proofs.meet.Tie as tie
 
-items-of-requires : tie.Need-items-of-requires
-items-of-requires c κs = search needs
-
 insert-requires : tie.Need-insert-requires
 insert-requires c κs =
     let at-items = c .before in
     let P = at-items .before .before .before .before .before .before .pre in
     may-call (P .0 .ready) (at-items .items-of .ensures)
     (meet-allowed {l = resultLists _ _ _ _} (P .0) (P .1)) .allowed
-
-show-requires : tie.Need-show-requires
-show-requires c κs = search needs
-
-add-t23 : tie.Need-add-t23
-add-t23 c = search needs
-
-same-length : tie.Need-same-length
-same-length c = search needs
-
-same-length-2 : tie.Need-same-length-2
-same-length-2 c = search needs
-
-same-length-3 : tie.Need-same-length-3
-same-length-3 c = search needs
-
-same-length-4 : tie.Need-same-length-4
-same-length-4 c = search needs
 
 returns : tie.Need-returns
 returns c =
@@ -53,12 +32,12 @@ pub meet-spec : {M : Type 1} → statement M
 meet-spec =
     tie.close
     (tie.spec
-    items-of-requires
+    (λ c κs. search needs)
     insert-requires
-    show-requires
-    add-t23
-    same-length
-    same-length-2
-    same-length-3
-    same-length-4
+    (λ c κs. search needs)
+    (λ c. search needs)
+    (λ c. search needs)
+    (λ c. search needs)
+    (λ c. search needs)
+    (λ c. search needs)
     returns)
