@@ -1,23 +1,25 @@
 -- A place was taken: what is known of the search while its spans are tried.
-use Prim.Native.Nat.{ℕ, suc, _+_, _≤_, _<_}
-use mathlib.Core.Path.{_≡_, ap, _∙_}
+use Prim.Native.Nat.{ℕ, _+_, _≤_, _<_}
+use mathlib.Core.Path.{_≡_, refl, ap, _∙_}
 use mathlib.Core.Logic.{_≢_}
+use mathlib.Core.Bool.{Bool, true, false}
 use mathlib.Core.List.{List}
 use native.Mathlib.Omega.{arith}
 use lib.ListN.{length, getD}
+use lib.Dec.{eqb}
+use borrow.Author.Tests.{eqb-true, eqb-false}
 use Rattle.rules.specs.declared.Call.the-variants.{Insert, DecreaseKey}
 use Rattle.rules.specs.Forests.{none}
 use Rattle.rules.specs.Answers.{refusal}
 use Rattle.rules.proofs.Default.{getD-any}
-use Rattle.paths.specs.Map.{Map, spans, fromOf, toOf, lossOf, IsSpan}
+use Rattle.paths.specs.Map.{Map, spans}
 use Rattle.paths.specs.Queue.{Stop}
-use Rattle.paths.specs.Search.{Search, smaller, tried, extracted, steps, bestAt, lastAt, jointsAt}
+use Rattle.paths.specs.Search.{Search, tried, extracted, steps, bestAt, jointsAt}
 use Rattle.paths.specs.Feed.{ResultLists}
 use Rattle.paths.specs.Theorems.{forestsAfter}
 use Rattle.paths.proofs.Waiting.{next-takes, waits-below}
-use Rattle.paths.proofs.Judge.{judge-smaller}
-use Rattle.paths.proofs.Offers.{TryingOf, Case, at-smaller, out-of-queue, judged}
 use Rattle.paths.proofs.Calls.{insert-does, decrease-does}
+use Rattle.paths.proofs.Offers.{TryingOf}
 use Rattle.paths.proofs.Tried.{tried-trying}
 use Rattle.paths.proofs.Steps.{
   Between,
@@ -97,39 +99,35 @@ module _
       let met = I .met u (next-takes stop (before .queue) u (K .next-is) .inside) in
       omega (arith, hops-is, I .short u met, I .small u met, K .accepted .few)
 
-  -- The queue call that a usable span of u makes is not refused.
-  module _ (e : ℕ) (is : IsSpan m e) (own : fromOf m e ≡ u) where
+  -- before span e
+  module _ (e : ℕ) (h : e ≤ spans m) (p : ℕ) where
     abbrev s : Search
     s = at stop m k u e
 
-    abbrev end : ℕ
-    end = toOf m e
-
-    abbrev sum : ℕ
-    sum = bestAt before u + lossOf m e
-
-    calls : ServedOf m s
-    calls = servedAt e (omega (arith, is .0))
-
-    trying : TryingOf m u (bestAt before u) (jointsAt before u) e left s
-    trying = tryingAt e (omega (arith, is .0))
-
-    pub insert-allowed : bestAt s end ≡ none → refusal (forestsAfter m s) (Insert 0 end sum) ≡ 0
-    insert-allowed z =
-        zero-allowed (forestsAfter m s) (Insert 0 end sum)
-        (insert-does (forestsAfter m s) (s .queue .waits) (s .queue .key) (calls .waits) (calls .keys) end sum
-        (omega (arith, trying .invariant .waitsN, K .accepted .toIn e (is .0)))
-        (out-of-queue m (K .accepted) u (bestAt before u) (jointsAt before u) e left s trying is own z) .code)
-
-    pub decrease-allowed : bestAt s end ≢ none → sum < bestAt s end
-        → refusal (forestsAfter m s) (DecreaseKey end sum) ≡ 0
-    decrease-allowed met less =
-        go
-        (rw (judge-smaller (bestAt s end) (jointsAt s end) (lastAt s end) sum (suc (jointsAt before u)) e met less) at
-        (judged m (K .accepted) u (bestAt before u) (jointsAt before u) e left s trying is own))
+    -- a place that is not met does not wait
+    pub unmet-apart : bestAt s p ≡ none → getD (s .queue .waits) p 0 ≡ 0
+    unmet-apart z = go (eqb (getD (s .queue .waits) p 0) 0) refl
       where
-        go : Case s end sum (suc (jointsAt before u)) e smaller → refusal (forestsAfter m s) (DecreaseKey end sum) ≡ 0
-        go (at-smaller _ _ w q) =
-            zero-allowed (forestsAfter m s) (DecreaseKey end sum)
-            (decrease-does (forestsAfter m s) (s .queue .waits) (s .queue .key) (calls .waits) (calls .keys) end sum
-            (λ z. omega (arith, w)) (omega (arith, q)) .code)
+        go : (t : Bool) → eqb (getD (s .queue .waits) p 0) 0 ≡ t → getD (s .queue .waits) p 0 ≡ 0
+        go true t = eqb-true _ 0 t
+        go false t = absurd (tryingAt e h .invariant .met p (eqb-false _ 0 t) z)
+
+    -- A place may be offered any loss x that is not below that of u: the queue call that it makes is not refused.
+    module _ (x : ℕ) where
+      pub insert-allowed : p < m .places → bestAt s p ≡ none → refusal (forestsAfter m s) (Insert 0 p x) ≡ 0
+      insert-allowed inside z =
+          let S = servedAt e h in
+          zero-allowed (forestsAfter m s) (Insert 0 p x)
+          (insert-does (forestsAfter m s) (s .queue .waits) (s .queue .key) (S .waits) (S .keys) p x
+          (omega (arith, inside, tryingAt e h .invariant .waitsN)) (unmet-apart z) .code)
+
+      -- one with more loss than u is not settled, so it waits, with its loss as its key
+      pub decrease-allowed : bestAt before u ≤ x → bestAt s p ≢ none → x < bestAt s p
+          → refusal (forestsAfter m s) (DecreaseKey p x) ≡ 0
+      decrease-allowed above met less =
+          let S = servedAt e h in
+          let I = tryingAt e h .invariant in
+          let w : getD (s .queue .waits) p 0 ≢ 0 = λ z. omega (arith, above, less, I .past p (z, met)) in
+          zero-allowed (forestsAfter m s) (DecreaseKey p x)
+          (decrease-does (forestsAfter m s) (s .queue .waits) (s .queue .key) (S .waits) (S .keys) p x w
+          (omega (arith, less, I .keyed p w)) .code)

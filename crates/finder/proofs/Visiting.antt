@@ -1,5 +1,5 @@
 -- One span of a place that was taken, tried by code: what the code needs, and where it stands after it.
-use Prim.Native.Nat.{ℕ, suc, _+_, _<_}
+use Prim.Native.Nat.{ℕ, suc, _+_, _≤_, _<_}
 use mathlib.Core.Path.{_≡_, refl, subst, ap, _∙_}
 use mathlib.Core.Bool.{Bool, true, false}
 use mathlib.Core.List.{List}
@@ -17,7 +17,6 @@ use Rattle.paths.specs.Map.{
   fromOf,
   toOf,
   usable,
-  IsSpan,
   WindowsFit,
   SupplyFits,
 }
@@ -26,7 +25,7 @@ use Rattle.paths.specs.Search.{Search, offer, try, tried, examine, steps, bestA
 use Rattle.paths.specs.Feed.{ResultLists}
 use Rattle.paths.specs.Theorems.{Moment, trying}
 use Rattle.paths.proofs.Invariant.{unsettled}
-use Rattle.paths.proofs.Offers.{TryingOf, out-of-queue}
+use Rattle.paths.proofs.Offers.{TryingOf}
 use Rattle.paths.proofs.Tried.{try-closed}
 use Rattle.paths.proofs.Examined.{examinedAtMost}
 use Rattle.relax.specs.declared.Progress.{Progress}
@@ -41,6 +40,7 @@ use Rattle.finder.proofs.AtPlace.{
   tryingAt,
   servedAt,
   hops-is,
+  unmet-apart,
   insert-allowed,
   decrease-allowed,
 }
@@ -62,14 +62,17 @@ module _
     span-in : e < spans m
     span-in = omega (arith, W .within)
 
+    tried-in : e ≤ spans m
+    tried-in = omega (arith, span-in)
+
     leaves-u : fromOf m e ≡ u
     leaves-u = W .own e (omega arith) j
 
     tryingE : TryingOf m u (bestAt before u) (jointsAt before u) e (left K) (at stop m k u e)
-    tryingE = tryingAt K e (omega (arith, span-in))
+    tryingE = tryingAt K e tried-in
 
     moment : Moment stop m (at stop m k u e)
-    moment = trying k u e (K .next-is) (omega (arith, span-in))
+    moment = trying k u e (K .next-is) tried-in
 
     pub examined-small : go .examined < 4294967295
     examined-small =
@@ -112,6 +115,23 @@ module _
     unfolding usableBy
     usable-is = rw (K .lists .supply-is)
 
+    pub offer-ready : OfferReady (getD to e 0) (d + getD loss e 0) l (examineOne go)
+    unfolding examineOne unsettled
+    offer-ready =
+        let I = tryingE .invariant in
+        let inside = K .accepted .toIn e span-in in
+        let forests = stored-forests stop m (K .accepted) (at stop m k u e) moment (W .tracks .logged) in
+        rw (K .lists .to-is, K .lists .loss-is, K .loss-is)
+        (record {
+          inBest = omega (arith, ap length (W .tracks .best-is), I .bestN, inside);
+          inLast = omega (arith, ap length (W .tracks .last-is), I .lastN, inside);
+          inJoints = omega (arith, ap length (W .tracks .joints-is), I .jointsN, inside);
+          ready = logged-ready stop m (K .accepted) (at stop m k u e) moment (W .tracks .logged);
+          room = omega (arith, W .tracks .met-is, tryingE .left, left-is K, K .accepted .few);
+          inserts = rw (W .tracks .best-is, forests) (insert-allowed K e tried-in (toOf m e) _ inside);
+          lowers = rw (W .tracks .best-is, forests) (decrease-allowed K e tried-in (toOf m e) _ (omega arith));
+        })
+
     examined-tracks : Tracks (m .places) (suc k) (examine (at stop m k u e)) l (examineOne go)
     unfolding examineOne
     examined-tracks =
@@ -150,46 +170,22 @@ module _
         )
         examined-tracks)
 
+    offerable : Offerable (m .places) (toOf m e) (examine (at stop m k u e))
+    offerable =
+        record {
+          formed = servedAt K e tried-in .formed;
+          inside = omega (arith, tryingE .invariant .waitsN, K .accepted .toIn e span-in);
+          apart = unmet-apart K e tried-in (toOf m e);
+        }
+
     -- the span is usable: it offers
-    module _ (o : found ≡ true) where
-      is-span : IsSpan m e
-      is-span = (span-in, usable-is ∙ o)
-
-      pub offer-ready : OfferReady (getD to e 0) (d + getD loss e 0) l (examineOne go)
-      unfolding examineOne unsettled
-      offer-ready =
-          let I = tryingE .invariant in
-          let inside = K .accepted .toIn e span-in in
-          let forests = stored-forests stop m (K .accepted) (at stop m k u e) moment (W .tracks .logged) in
-          rw (K .lists .to-is, K .lists .loss-is, K .loss-is)
-          (record {
-            inBest = omega (arith, ap length (W .tracks .best-is), I .bestN, inside);
-            inLast = omega (arith, ap length (W .tracks .last-is), I .lastN, inside);
-            inJoints = omega (arith, ap length (W .tracks .joints-is), I .jointsN, inside);
-            ready = logged-ready stop m (K .accepted) (at stop m k u e) moment (W .tracks .logged);
-            room = omega (arith, W .tracks .met-is, tryingE .left, left-is K, K .accepted .few);
-            inserts = rw (W .tracks .best-is, forests) (insert-allowed K e is-span leaves-u);
-            lowers = rw (W .tracks .best-is, forests) (decrease-allowed K e is-span leaves-u);
-          })
-
-      offerable : Offerable (m .places) (toOf m e) (examine (at stop m k u e))
-      offerable =
-          record {
-            formed = servedAt K e (omega (arith, span-in)) .formed;
-            inside = omega (arith, tryingE .invariant .waitsN, K .accepted .toIn e span-in);
-            apart =
-                λ z.
-                out-of-queue m (K .accepted) u (bestAt before u) (jointsAt before u) e (left K) (at stop m k u e)
-                tryingE is-span leaves-u z;
-          }
-
-      pub walking-on : {l′ : ResultLists} {r : Progress}
-          → Advances (getD to e 0) (offer (getD to e 0) (d + getD loss e 0) (getD (l₀ .joints) u 0 + 1) e) l
-          (examineOne go) l′ r
-          → Walking stop m k u end (e + 1) l′ r
-      unfolding examineOne tried try
-      walking-on M₀ =
-          let M = rw (K .lists .to-is, K .lists .loss-is, K .loss-is, hops-is K, add-one) at M₀ in
-          next-span (M .visited-is)
-          (rw (eq-eqb (fromOf m e) u leaves-u, usable-is, o)
-          (M .tracks (m .places) (suc k) (examine (at stop m k u e)) offerable examined-tracks))
+    pub walking-on : found ≡ true → {l′ : ResultLists} {r : Progress}
+        → Advances (getD to e 0) (offer (getD to e 0) (d + getD loss e 0) (getD (l₀ .joints) u 0 + 1) e) l
+        (examineOne go) l′ r
+        → Walking stop m k u end (e + 1) l′ r
+    unfolding examineOne tried try
+    walking-on o M₀ =
+        let M = rw (K .lists .to-is, K .lists .loss-is, K .loss-is, hops-is K, add-one) at M₀ in
+        next-span (M .visited-is)
+        (rw (eq-eqb (fromOf m e) u leaves-u, usable-is, o)
+        (M .tracks (m .places) (suc k) (examine (at stop m k u e)) offerable examined-tracks))

@@ -1,6 +1,6 @@
 -- `finder::begin_search` meets its contract.
 use Rattle.paths.specs.Feed.{resultLists}
-use Rattle.finder.proofs.Beginning.{begin-ready, begun}
+use Rattle.finder.proofs.Beginning.{begin-allowed, begun}
 use borrow.Author.Needs.{needs}
 use Rattle.finder.proofs.begin_search.Statement.{statement}
 use Rattle.finder.proofs.begin_search.Tie as tie
@@ -22,7 +22,7 @@ insert-requires c κs =
     let at-make-empty = c .before .before .before in
     let at-fill2 = at-make-empty .before .before .before .before .before .before .before .before in
     let start = at-fill2 .before .before .before .before .before .before .before .before .before .before in
-    begin-ready _ _ (resultLists _ _ _ _) (start .pre) _ (at-make-empty .make-empty .ensures) .allowed
+    begin-allowed _ _ (resultLists _ _ _ _) (start .pre) _ (at-make-empty .make-empty .ensures)
 
 mul-best : tie.Need-mul-best
 mul-best c = search needs

@@ -157,12 +157,10 @@ cast-offered c = omega (arith, small (tested (c .before .before .before .before 
 
 offered-requires : tie.Need-offered-requires Inv-loop μ-loop
 offered-requires c κs =
-    let i = c .before .before .before .before .before .before in
-    let u = i .before in
+    let u = c .before .before .before .before .before .before .before in
     let t = tested u in
     rw (u .before .before .before .examine .ensures)
-    (offer-ready (start (t .before) .pre .2) (here (t .before)) (t .loop-test .taken)
-    (sym (u .usable-at .ensures) ∙ i .if1 .taken))
+    (offer-ready (start (t .before) .pre .2) (here (t .before)) (t .loop-test .taken))
 
 add-e : tie.Need-add-e Inv-loop μ-loop
 add-e c = omega (arith, small (tested (c .before)))
