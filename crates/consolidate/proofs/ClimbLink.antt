@@ -25,10 +25,11 @@ use Rattle.rules.proofs.Potential.{busy, length-occupied}
 use Rattle.rules.proofs.Sums.{sumBy-set}
 use Rattle.store.specs.declared.Owner.the-variants.{Children}
 use Rattle.store.specs.ItemOrder.{itemKey}
-use Rattle.store.specs.Says.{Changes}
+use Rattle.store.specs.Says.{Changes, Values}
 use Rattle.store.specs.Siblings.{appended}
 use Rattle.store.proofs.ListMembers.{root-in, some-item}
 use Rattle.consolidate.specs.Consolidating.{Consolidating}
+use Rattle.consolidate.specs.Released.{released}
 use Rattle.consolidate.proofs.Climbing.{Climbing, held, keys-fit, rank-inside}
 use Rattle.consolidate.proofs.ClimbMeeting.{
   both,
@@ -40,6 +41,8 @@ use Rattle.consolidate.proofs.ClimbMeeting.{
 }
 use Rattle.consolidate.proofs.LinkLists.{keeps}
 use Rattle.consolidate.proofs.LinkWords.{link-beside}
+use Rattle.consolidate.proofs.MoveWords.{released-other}
+use Rattle.consolidate.proofs.ReleasedWords.{released-appended}
 
 module _ {n h base : ℕ} {rest : List ℕ} {amounts : ℕ → ℕ} {goal : Linking} {w ps : List ℕ} {x r links : ℕ}
     (G : Climbing n h base rest amounts goal w ps x r links) {a : ℕ} (e : a ≡ getD ps r 0) (z : a ≢ none) where
@@ -80,21 +83,16 @@ module _ {n h base : ℕ} {rest : List ℕ} {amounts : ℕ → ℕ} {goal : Link
     m : Held h (set ps r none) (first ∷ rest) t′ × (rankOf t′ first ≡ suc r)
     m = held-linked h hh ps rest x t H r (G .rank) (taken G e z) (precedes (t .key) (getD ps r none) x) refl
 
-    -- a tree to come is a root, before and after
-    coming : (y : ℕ) → 1 ≤ occurs y rest
-        → appended (Children first) second (G .state .values) Next y ≡ G .state .values Next y
+    -- a tree to come is a root after the link too, so it is not the loser
+    not-second : (y : ℕ) → 1 ≤ occurs y rest → y ≢ second
     unfolding link occurs sumBy
-    coming y i =
-        let ro = in-row t h ρ (H .formed) hh y (omega (arith, occurs-ρ h hh ps rest x t H y)) in
-        let D = H .formed .disjoint in
-        let f : first < tableSize t = omega (arith, G .state .beside .size, first-inside G e z) in
-        keeps (G .state .beside) (both G e z) y
-        (some-item (setRow h ρ t) D y (root-in t (ro .0)))
-        (λ q. not-none (setRow h ρ t) D first f (sym (later y i) ∙ ap (λ u. parentOf t′ u) q ∙ own))
-        (root-child (setRow h ρ t) D first y f (ro .1)) .0
+    not-second y i q =
+        not-none (setRow h ρ t) (H .formed .disjoint) first
+        (omega (arith, G .state .beside .size, first-inside G e z))
+        (sym later ∙ ap (λ u. parentOf t′ u) q ∙ own)
       where
-        later : (y : ℕ) → 1 ≤ occurs y rest → parentOf t′ y ≡ none
-        later y i =
+        later : parentOf t′ y ≡ none
+        later =
             in-row t′ h (occupied (set ps r none) ++ (first ∷ rest)) (m .0 .formed) hh y
             (omega (arith, occurs-append y (occupied (set ps r none)) (first ∷ rest))) .1
 
@@ -103,15 +101,37 @@ module _ {n h base : ℕ} {rest : List ℕ} {amounts : ℕ → ℕ} {goal : Link
             getD-set-same (t .parent) second first 0
             (omega (arith, H .formed .disjoint .parentN, G .state .beside .size, second-inside G e z))
 
+    -- the values before and after, and the same with the trees to come released
+    abbrev v : Values
+    v = G .state .values
+
+    abbrev v′ : Values
+    v′ = appended (Children first) second v
+
+    later-released : released h rest v′ ≡ appended (Children first) second (released h rest v)
+    later-released = released-appended h first second rest not-second v
+
+    -- a tree to come keeps its link
+    coming : (y : ℕ) → 1 ≤ occurs y rest → v′ Next y ≡ v Next y
+    coming y i =
+        let ro = in-row t h ρ (H .formed) hh y (omega (arith, occurs-ρ h hh ps rest x t H y)) in
+        let D = H .formed .disjoint in
+        let f : first < tableSize t = omega (arith, G .state .beside .size, first-inside G e z) in
+        sym (released-other h rest v′ Next y refl)
+        ∙ ap (λ u. u Next y) later-released
+        ∙ keeps (G .state .beside) (both G e z) y (some-item (setRow h ρ t) D y (root-in t (ro .0))) (not-second y i)
+        (root-child (setRow h ρ t) D first y f (ro .1)) .0
+        ∙ released-other h rest v Next y refl
+
     -- the invariant after the link
     linked : Consolidating n h w′ (set ps r none) (first ∷ rest) rest amounts t′
     unfolding KeysFit link
     linked =
         record {
           heap = hh;
-          values = appended (Children first) second (G .state .values);
-          says = c .says (G .state .values) (G .state .says);
-          beside = link-beside (G .state .beside) (both G e z);
+          values = v′;
+          says = c .says v (G .state .says);
+          beside = rw later-released (link-beside (G .state .beside) (both G e z));
           formed = well-formed (setRow h (occupied (set ps r none) ++ (first ∷ rest)) t′) (m .0 .formed)
               (keys-fit (G .state));
           long = m .0 .long;

@@ -1,7 +1,7 @@
 -- A tree on its way through the places meets the holder of one: which of the two comes first, and that they may be
 -- linked.
 use Prim.Native.Nat.{ℕ, _≤_, _<_}
-use mathlib.Core.Path.{_≡_, sym, ap, _∙_}
+use mathlib.Core.Path.{_≡_, refl, sym, ap, _∙_}
 use mathlib.Core.Logic.{_≢_}
 use mathlib.Core.List.{List, _∷_, _++_}
 use mathlib.Core.Bool.{Bool, true, false, cond}
@@ -23,7 +23,7 @@ use Rattle.store.proofs.Listed.{link-in}
 use Rattle.store.proofs.ListMembers.{root-in}
 use Rattle.consolidate.proofs.Beside.{beside-rank, before-says}
 use Rattle.consolidate.proofs.LinkedLists.{last-apart}
-use Rattle.consolidate.proofs.Climbing.{Climbing, held, keys-fit, place-at, rank-inside}
+use Rattle.consolidate.proofs.Climbing.{Climbing, held, keys-fit, place-at, rank-inside, read-released}
 use Rattle.consolidate.proofs.LinkLists.{TwoRoots, a-in, a-root, l-in}
 
 module _ {n h base : ℕ} {rest : List ℕ} {amounts : ℕ → ℕ} {goal : Linking} {w ps : List ℕ} {x r links : ℕ}
@@ -67,7 +67,7 @@ module _ {n h base : ℕ} {rest : List ℕ} {amounts : ℕ → ℕ} {goal : Link
   same-order : comesBefore (itemKey h (look n w)) a x ≡ order
   same-order =
       let i = in-row t h ρ (H .formed) hh in
-      before-says (G .state .beside) (G .state .says) hh (keys-fit (G .state)) a x
+      before-says (G .state .beside) (read-released (G .state)) hh (keys-fit (G .state)) a x
       (ap (heapOf t) (place-at G e) ∙ i y y-row .0) (i x (x-in h hh ps rest x t H) .0)
       ∙ ap (λ q. precedes (t .key) q x) (place-at G e)
 
@@ -99,7 +99,7 @@ module _ {n h base : ℕ} {rest : List ℕ} {amounts : ℕ → ℕ} {goal : Link
   last-inside =
       let c = G .state .beside .families first first-inside (λ q. omega (arith, a-root (G .state .beside) both .0)) in
       let q : look n w LastChild first ≡ lastOr none (childrenOf t first) =
-      G .state .says .says LastChild first first-inside ∙ c .back in
+      read-released (G .state) .read LastChild refl first first-inside ∙ c .back in
       link-in n (childrenOf t first) inside (look n w LastChild first)
       (λ m z. last-apart (look n w LastChild first) (childrenOf t first) m z (sym q))
     where
@@ -128,7 +128,7 @@ module _ {n h base : ℕ} {rest : List ℕ} {amounts : ℕ → ℕ} {goal : Link
         item = second-inside;
         rank = omega (
           arith,
-          G .state .says .says Rank first first-inside,
+          read-released (G .state) .read Rank refl first first-inside,
           beside-rank (G .state .beside) first first-inside,
           first-rank,
           rank-inside G,

@@ -14,7 +14,9 @@ use Rattle.rules.proofs.Default.{getD-any}
 use Rattle.rules.proofs.ConsolidateKeeps.{Held, rank-low, held-put, x-heap}
 use Rattle.rules.proofs.Excused.{to-formed, well-formed}
 use Rattle.consolidate.specs.Consolidating.{Consolidating, Climbed, climbTree}
-use Rattle.consolidate.proofs.Beside.{beside-rank}
+use Rattle.consolidate.specs.Released.{released}
+use Rattle.consolidate.proofs.Beside.{Reads, beside-rank}
+use Rattle.consolidate.proofs.MoveWords.{released-other}
 
 module _ {n h : ℕ} {w ps trees rest : List ℕ} {amounts : ℕ → ℕ} {t : Forests}
     (C : Consolidating n h w ps trees rest amounts t) where
@@ -25,6 +27,11 @@ module _ {n h : ℕ} {w ps trees rest : List ℕ} {amounts : ℕ → ℕ} {t : F
   pub keys-fit : KeysFit t
   unfolding KeysFit
   keys-fit = C .formed .keys
+
+  -- the trees to come are released in what the forests are of, which only parents and states show
+  pub read-released : Reads n w (released h rest (C .values))
+  read-released =
+      record { read = λ f o i k. C .says .says f i k ∙ sym (released-other h rest (C .values) f i o) }
 
 -- The tree x, of rank r, is on its way: what is left to do from here gives the goal. `fuel` bounds the links to come.
 pub record Climbing (n h base : ℕ) (rest : List ℕ) (amounts : ℕ → ℕ) (goal : Linking) (w ps : List ℕ)
@@ -46,7 +53,7 @@ pub climb-starts : (n h base k : ℕ) (rest w ps : List ℕ) (amounts : ℕ → 
 unfolding climbTree
 climb-starts n h base k rest w ps amounts t x links r C e f q =
     let i : x < n = omega (arith, C .beside .size, x-heap h (C .heap) ps rest x t (held C)) in
-    let z : r ≡ rankOf t x = q ∙ C .says .says Rank x i ∙ beside-rank (C .beside) x i in
+    let z : r ≡ rankOf t x = q ∙ read-released C .read Rank refl x i ∙ beside-rank (C .beside) x i in
     rw z (record {
       here = t;
       made = k;

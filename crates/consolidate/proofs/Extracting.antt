@@ -13,7 +13,7 @@ use Rattle.rules.specs.declared.Call.the-variants.{ExtractMin}
 use Rattle.rules.specs.declared.Field.the-variants.{Minimum}
 use Rattle.rules.specs.Calls.{extract, perform, release, removeRoot, setFree}
 use Rattle.rules.specs.Consolidate.{consolidate}
-use Rattle.rules.specs.Forests.{Forests, count, heapNumber, heapOf, keyOf, rowOf, tableSize}
+use Rattle.rules.specs.Forests.{Forests, childrenOf, count, heapNumber, heapOf, keyOf, rowOf, tableSize}
 use Rattle.rules.specs.Lists.{occurs}
 use Rattle.rules.specs.Order.{minimum}
 use Rattle.rules.specs.Queues.{Queues, afterCall, amountOf, amountsAfterCall, amountsLeft}
@@ -37,9 +37,9 @@ use Rattle.store.proofs.Encoded.{encode-holds, words-say}
 use Rattle.store.proofs.SetAt.{getD-set}
 use Rattle.consolidate.specs.Consolidating.{Consolidated, ConsolidateReady, Consolidates}
 use Rattle.consolidate.specs.Extract.{ExtractReady, Performs}
-use Rattle.consolidate.specs.Removed.{RemovesRoot, RootOf, RootReady}
-use Rattle.consolidate.specs.Stored.{Rowed}
-use Rattle.consolidate.proofs.Beside.{key-beside}
+use Rattle.consolidate.specs.Removed.{DetachesRoot, RootOf, RootReady}
+use Rattle.consolidate.specs.Stored.{Gathered, Rowed}
+use Rattle.consolidate.proofs.Beside.{key-beside, reads}
 use Rattle.consolidate.proofs.RowedWords.{holds-rowed}
 
 -- a function at g, by whether g is h
@@ -106,8 +106,8 @@ module _ {n h links : ℕ} {w : List ℕ} (P : ExtractReady n w h links) where
         let k = heap-in t x (λ e. omega (arith, e, rooted .member)) in
         omega (arith, size)
 
-    pub remove-ready : RootReady n w h x
-    remove-ready =
+    pub detach-ready : RootReady n w h x
+    detach-ready =
         record { least = minimum t h; amounts = amountOf q; forests = t; rowed = sound-rowed; rooted = rooted }
 
     -- the forests without the minimum are well-formed
@@ -125,10 +125,10 @@ module _ {n h links : ℕ} {w : List ℕ} (P : ExtractReady n w h links) where
         (remove-formed t (formed .disjoint) h x (rooted .member) (rooted .root) (F .ordered) (F .ranked))
         keys-fit
 
-    module _ (w₁ : List ℕ) (c : RemovesRoot n w h x w₁) where
-      after-rowed : Rowed n h (minimum t h) w₁ (amountOf q) (removeRoot h x t)
-      unfolding RemovesRoot
-      after-rowed = c (minimum t h) (amountOf q) t sound-rowed rooted
+    module _ (w₁ : List ℕ) (c : DetachesRoot n w h x w₁) where
+      gathered : Gathered n h (minimum t h) w₁ (childrenOf t x) (amountOf q) (removeRoot h x t)
+      unfolding DetachesRoot
+      gathered = c (minimum t h) (amountOf q) t sound-rowed rooted
 
       pub consolidate-ready : ConsolidateReady n w₁ h links
       consolidate-ready =
@@ -137,7 +137,8 @@ module _ {n h links : ℕ} {w : List ℕ} (P : ExtractReady n w h links) where
             least = minimum t h;
             amounts = amountOf q;
             forests = removeRoot h x t;
-            rowed = after-rowed;
+            children = childrenOf t x;
+            gathered = gathered;
             formed = after-formed;
             fits = P .fits;
           }
@@ -145,7 +146,7 @@ module _ {n h links : ℕ} {w : List ℕ} (P : ExtractReady n w h links) where
       module _ (links′ : ℕ) (w₂ : List ℕ) (f : Consolidates n w₁ h links w₂ links′) where
         linked : Consolidated w₂ links′ links (amountOf q) (consolidate h (removeRoot h x t))
         unfolding Consolidates
-        linked = f (minimum t h) (amountOf q) (removeRoot h x t) after-rowed after-formed
+        linked = f (minimum t h) (amountOf q) (removeRoot h x t) (childrenOf t x) gathered after-formed
 
         -- the forests after the call
         abbrev next : Forests
@@ -188,7 +189,8 @@ module _ {n h links : ℕ} {w : List ℕ} (P : ExtractReady n w h links) where
             record {
               items = is-least;
               keys = ek
-                  ∙ key-beside (sound-rowed .beside) (sound-rowed .says) heap-inside (formed .keys) x (rooted .member)
+                  ∙ key-beside (sound-rowed .beside) (reads (sound-rowed .says)) heap-inside (formed .keys) x
+                  (rooted .member)
                   ∙ ap (keyOf t) is-least;
               tallied = linked .tallied ∙ ap (λ y. links + (consolidate h (removeRoot h y t)) .links) is-least;
               words = settled (amountOf q) (amountOf (afterCall q (ExtractMin h))) next next-size h amounts-left low

@@ -1,6 +1,7 @@
 pub mod LinkedLists
 pub mod MoveWords
 pub mod Beside
+pub mod ReleasedWords
 pub mod RowedWords
 pub mod LinkLists
 pub mod LinkWords

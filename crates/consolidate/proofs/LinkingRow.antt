@@ -14,12 +14,17 @@ use Rattle.rules.specs.WellFormed.{KeysFit, WellFormed}
 use Rattle.rules.specs.Words.{follow, headOr, look, nextIn}
 use Rattle.rules.proofs.ConsolidateKeeps.{held-start}
 use Rattle.rules.proofs.Excused.{to-formed, well-formed}
+use Rattle.rules.proofs.Members.{row-root}
 use Rattle.rules.proofs.Occurs.{delta-self, eqb-self}
 use Rattle.rules.proofs.Potential.{climb-count, length-occupied}
 use Rattle.rules.proofs.Siblings.{head-out}
+use Rattle.store.specs.Says.{Changes}
 use Rattle.consolidate.specs.Consolidating.{ClimbReady, Consolidating, Climbed, Climbs, linkRow, climbTree}
-use Rattle.consolidate.specs.Stored.{Rowed}
+use Rattle.consolidate.specs.Released.{released, releasedOne}
+use Rattle.consolidate.specs.Stored.{Gathered}
 use Rattle.consolidate.proofs.LinkedLists.{head-none}
+use Rattle.consolidate.proofs.MoveWords.{released-other}
+use Rattle.consolidate.proofs.ReleasedWords.{Root, row-released}
 use Rattle.consolidate.proofs.TreesToCome.{comes-inside, comes-once, follows, none-comes, rest-short}
 
 -- The trees of rest are to come, x first: what is left to do from here gives the goal.
@@ -34,29 +39,32 @@ pub record LinkingRow (n h base : ℕ) (amounts : ℕ → ℕ) (goal : Linking) 
   pub whole : linkTrees 18 rest (record { places = ps; links = made; forests = here }) ≡ goal
 
 -- all trees of the row are to come, and all places are free
-pub walk-starts : {n h m : ℕ} {w : List ℕ} {amounts : ℕ → ℕ} {t : Forests} (x : ℕ) → Rowed n h m w amounts t
+pub walk-starts : {n h m : ℕ} {w cs : List ℕ} {amounts : ℕ → ℕ} {t : Forests} (x : ℕ) → Gathered n h m w cs amounts t
     → WellFormed t → h < 8 → x ≡ look n w FirstTree h
     → LinkingRow n h 0 amounts (linkRow h t) w (replicate 17 none) x 0
 unfolding linkRow KeysFit occupied
-walk-starts {n} {h} {m} {w} {amounts} {t} x R W k e =
+walk-starts {n} {h} {m} {w} {cs} {amounts} {t} x R W k e =
     let H = held-start h t k (to-formed t W) in
+    let same = released-other h cs (R .values) in
+    let root : (y : ℕ) → 1 ≤ occurs y (rowOf t h) → Root h t y =
+    λ y i. let r = row-root t (W .disjoint) h y i in (r .0, r .1, W .disjoint .rootsUnmarked y (r .1)) in
     let C : Consolidating n h w (replicate 17 none) (rowOf t h) (rowOf t h) amounts t =
     record {
       heap = k;
       values = R .values;
       says = R .says;
-      beside = R .beside;
+      beside = row-released (R .values) cs (rowOf t h) (R .beside) (R .trees) root;
       formed = well-formed (setRow h (rowOf t h) t) (H .formed) (W .keys);
       long = H .long;
       placed = H .rank;
-      ahead = R .row .nexts;
+      ahead = λ y i. sym (same Next y refl) ∙ R .row .nexts y i;
     } in
     record {
       here = t;
       made = 0;
       rest = rowOf t h;
       state = C;
-      head = e ∙ R .says .says FirstTree h k ∙ R .row .front;
+      head = e ∙ R .says .says FirstTree h k ∙ sym (same FirstTree h refl) ∙ R .row .front;
       tallied = omega arith;
       fits = omega (arith, rest-short C, C .says .sized .small);
       whole = refl;
@@ -113,15 +121,16 @@ module _ {n h base : ℕ} {amounts : ℕ → ℕ} {goal : Linking} {w ps : List 
     unfolding occurs sumBy
     walk-inside = comes-inside whole-state x (omega (arith, delta-self x))
 
-    -- its link is not needed any more
-    climbing : Consolidating n h w ps (x ∷ first .tail) (first .tail) amounts (G .here)
-    unfolding occurs sumBy nextIn
-    climbing =
+    -- it is released, and its link is not needed any more
+    climbing : {w₁ : List ℕ} → Changes n w (releasedOne h x) w₁
+        → Consolidating n h w₁ ps (x ∷ first .tail) (first .tail) amounts (G .here)
+    unfolding occurs released sumBy nextIn
+    climbing r =
         let C = whole-state in
         record {
           heap = C .heap;
-          values = C .values;
-          says = C .says;
+          values = releasedOne h x (C .values);
+          says = r .says (C .values) (C .says);
           beside = C .beside;
           formed = C .formed;
           long = C .long;
@@ -134,13 +143,13 @@ module _ {n h base : ℕ} {amounts : ℕ → ℕ} {goal : Linking} {w ps : List 
     room : links + length (occupied ps) + suc (length (first .tail)) ≤ 4096
     room = rw (first .is) at (G .fits)
 
-    pub walk-ready : ClimbReady n h w ps x links
-    walk-ready =
+    pub walk-ready : {w₁ : List ℕ} → Changes n w (releasedOne h x) w₁ → ClimbReady n h w₁ ps x links
+    walk-ready r =
         record {
           rest = first .tail;
           amounts = amounts;
           forests = G .here;
-          state = climbing;
+          state = climbing r;
           fits = omega (arith, room);
         }
 
@@ -149,11 +158,11 @@ module _ {n h base : ℕ} {amounts : ℕ → ℕ} {goal : Linking} {w ps : List 
       pub next : LinkingRow n h base amounts goal w′ ps′ x′ links′
       pub less : length (next .rest) < length (G .rest)
 
-    pub walk-step : {w′ ps′ : List ℕ} {x′ links′ : ℕ} → x′ ≡ look n w Next x → Climbs n h w ps x links w′ ps′ links′
-        → Step w′ ps′ x′ links′
+    pub walk-step : {w₁ w′ ps′ : List ℕ} {x′ links′ : ℕ} → x′ ≡ look n w Next x → Changes n w (releasedOne h x) w₁
+        → Climbs n h w₁ ps x links w′ ps′ links′ → Step w′ ps′ x′ links′
     unfolding Climbs climbTree linkTrees nextIn occurs sumBy
-    walk-step {w′} {ps′} {x′} {links′} e f =
-        let S = f base (G .made) amounts (G .here) (first .tail) climbing (G .tallied) in
+    walk-step {ps′ = ps′} e r f =
+        let S = f base (G .made) amounts (G .here) (first .tail) (climbing r) (G .tallied) in
         let L : Linking = climbTree ps (G .made) (G .here) x in
         let q : linkTrees 18 (x ∷ first .tail) (record { places = ps; links = G .made; forests = G .here }) ≡ goal =
         rw (first .is) at (G .whole) in

@@ -21,7 +21,6 @@ use Rattle.rules.specs.declared.Field.the-variants.{
 use Rattle.rules.specs.Forests.{none}
 use Rattle.rules.specs.Lists.{delta, occurs, sumBy}
 use Rattle.rules.specs.Kinds.{Apart}
-use Rattle.rules.specs.SetWord.{setWord}
 use Rattle.rules.proofs.ByKind.{apart-from}
 use Rattle.rules.proofs.Occurs.{delta-self, delta-other, eqb-self}
 use Rattle.store.specs.declared.Owner.the-variants.{Row, Children}
@@ -42,7 +41,7 @@ use Rattle.store.specs.Siblings.{
 }
 use Rattle.store.proofs.ConcatWords.{linkKinds}
 use Rattle.store.proofs.SetAt.{cond-same}
-use Rattle.consolidate.specs.Released.{released}
+use Rattle.consolidate.specs.Released.{released, releasedOne}
 
 -- ---- an item at the end of the children of a
 
@@ -147,7 +146,7 @@ unfolding released
 released-other h [] v f i o = refl
 released-other h (c ∷ cs) v f i o =
     let e = apart-from (Parent ∷ State ∷ []) f o in
-    released-other h cs (setWord State c (1 + 2 * h) (setWord Parent c none v)) f i o
+    released-other h cs (releasedOne h c v) f i o
     ∙ rw (e State refl, e Parent refl)
 
 pub released-out : (h : ℕ) (cs : List ℕ) (v : Values) (f : Field) (i : ℕ) → occurs i cs ≡ 0
@@ -155,7 +154,7 @@ pub released-out : (h : ℕ) (cs : List ℕ) (v : Values) (f : Field) (i : ℕ) 
 unfolding released occurs sumBy
 released-out h [] v f i n = refl
 released-out h (c ∷ cs) v f i n =
-    released-out h cs (setWord State c (1 + 2 * h) (setWord Parent c none v)) f i (omega arith)
+    released-out h cs (releasedOne h c v) f i (omega arith)
     ∙ rw (ne-eqb c i (λ e. omega (arith, delta-self i, ap (delta i) e)))
     (simp cond-same)
 
@@ -165,7 +164,7 @@ released-stays : (h : ℕ) (cs : List ℕ) (v : Values) (i : ℕ) → (v Parent 
 unfolding released
 released-stays h [] v i e = e
 released-stays h (c ∷ cs) v i e =
-    released-stays h cs (setWord State c (1 + 2 * h) (setWord Parent c none v)) i (go (eqb c i))
+    released-stays h cs (releasedOne h c v) i (go (eqb c i))
   where
     go : (t : Bool) → (cond t none (v Parent i) ≡ none) × (cond t (1 + 2 * h) (v State i) ≡ 1 + 2 * h)
     go true = (refl, refl)
@@ -176,10 +175,10 @@ pub released-in : (h : ℕ) (cs : List ℕ) (v : Values) (i : ℕ) → 1 ≤ occ
 unfolding released occurs sumBy
 released-in h [] v i n = absurd (omega arith)
 released-in h (c ∷ cs) v i n =
-    go (eqb c i) refl (released-in h cs (setWord State c (1 + 2 * h) (setWord Parent c none v)) i)
+    go (eqb c i) refl (released-in h cs (releasedOne h c v) i)
   where
     next : Values
-    next = setWord State c (1 + 2 * h) (setWord Parent c none v)
+    next = releasedOne h c v
 
     go : (t : Bool) → eqb c i ≡ t
         → (1 ≤ occurs i cs → (released h cs next Parent i ≡ none) × (released h cs next State i ≡ 1 + 2 * h))

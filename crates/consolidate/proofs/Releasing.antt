@@ -1,19 +1,17 @@
 -- Children released one by one: what holds between two of them, on the words.
-use Prim.Native.Nat.{ℕ, _+_, _-_, _*_, _≤_, _<_}
+use Prim.Native.Nat.{ℕ, _-_, _≤_, _<_}
 use mathlib.Core.Path.{_≡_, refl, ap, subst, _∙_}
 use mathlib.Core.List.{List, [], _∷_}
 use native.Mathlib.Omega.{arith}
 use borrow.Author.Tests.{ne-eqb}
-use Rattle.rules.specs.declared.Field.the-variants.{Next, Parent, State}
-use Rattle.rules.specs.Forests.{none}
+use Rattle.rules.specs.declared.Field.the-variants.{Next}
 use Rattle.rules.specs.Lists.{occurs, sumBy}
-use Rattle.rules.specs.SetWord.{setWord}
 use Rattle.rules.specs.Words.{headOr, look, nextIn}
 use Rattle.rules.proofs.Occurs.{delta-self, eqb-self}
 use Rattle.rules.proofs.Siblings.{head-out, once-tail}
 use Rattle.store.specs.Says.{Changes, Says, Values}
 use Rattle.store.proofs.Says.{changes-none, changes-then, says-look}
-use Rattle.consolidate.specs.Released.{ListFrom, released}
+use Rattle.consolidate.specs.Released.{ListFrom, released, releasedOne}
 
 -- The items of rest are still to be released, from c on: `done` is what was stored so far.
 pub record Releasing (n h : ℕ) (start cs w : List ℕ) (c k : ℕ) : Type 0 where
@@ -47,20 +45,19 @@ module _ {n h : ℕ} {start cs w : List ℕ} {c k : ℕ} (G : Releasing n h star
           record { sized = L .sized; says = λ v s. subst (Says n w) (q v) (G .changes .says v s) }
       go (y ∷ l) L q = absurd (omega (arith, L .long))
 
-  module _ {w₁ w₂ : List ℕ} {c′ k′ state : ℕ} (m : 0 < k) (e : state ≡ 1 + 2 * h)
-      (a : Changes n w (setWord Parent c none) w₁) (b : Changes n w₁ (setWord State c state) w₂)
-      (f : c′ ≡ look n w₂ Next c) (g : k′ ≡ k - 1) where
+  module _ {w₁ : List ℕ} {c′ k′ : ℕ} (m : 0 < k) (a : Changes n w (releasedOne h c) w₁) (f : c′ ≡ look n w₁ Next c)
+      (g : k′ ≡ k - 1) where
     -- the next words are left as they are
-    same-next : (y : ℕ) → y < n → look n w₂ Next y ≡ look n w Next y
-    same-next y i = b .says _ (a .says _ (says-look n w (G .listed .sized))) .says Next y i
+    same-next : (y : ℕ) → y < n → look n w₁ Next y ≡ look n w Next y
+    same-next y i = a .says _ (says-look n w (G .listed .sized)) .says Next y i
 
     -- one fewer is listed
-    next-list : (y : ℕ) (l : List ℕ) → ListFrom n w c k (y ∷ l) → c ≡ y → ListFrom n w₂ c′ k′ l
+    next-list : (y : ℕ) (l : List ℕ) → ListFrom n w c k (y ∷ l) → c ≡ y → ListFrom n w₁ c′ k′ l
     unfolding occurs sumBy nextIn
     next-list y l L z =
         let i : y < n = L .inside y (omega (arith, delta-self y)) in
         record {
-          sized = b .sized;
+          sized = a .sized;
           first = f ∙ same-next c (rw z i) ∙ rw z (L .nexts y (omega (arith, delta-self y)) ∙ rw (eqb-self y));
           long = omega (arith, L .long);
           inside = λ u j. L .inside u (omega arith);
@@ -71,18 +68,18 @@ module _ {n h : ℕ} {start cs w : List ℕ} {c k : ℕ} (G : Releasing n h star
               ∙ rw (ne-eqb y u (λ q. omega (arith, head-out y l (L .once), ap (λ r. occurs r l) q)));
         }
 
-    pub release-step : Releasing n h start cs w₂ c′ k′
+    pub release-step : Releasing n h start cs w₁ c′ k′
     unfolding released headOr
     release-step = go (G .rest) (G .listed) (G .whole)
       where
         go : (l : List ℕ) → ListFrom n w c k l → ((v : Values) → released h l (G .done v) ≡ released h cs v)
-            → Releasing n h start cs w₂ c′ k′
+            → Releasing n h start cs w₁ c′ k′
         go [] L q = absurd (omega (arith, L .long))
         go (y ∷ l) L q =
             record {
               rest = l;
-              done = λ v. setWord State c state (setWord Parent c none (G .done v));
-              changes = changes-then (changes-then (G .changes) a) b;
+              done = λ v. releasedOne h c (G .done v);
+              changes = changes-then (G .changes) a;
               listed = next-list y l L (L .first);
-              whole = λ v. rw (e, L .first) (q v);
+              whole = λ v. rw (L .first) (q v);
             }

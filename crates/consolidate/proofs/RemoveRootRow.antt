@@ -66,13 +66,13 @@ module _ {n h m : ℕ} {w : List ℕ} {amounts : ℕ → ℕ} {t : Forests} (R :
   v₃ = rowJoined h x cs v
 
   -- the row without x
-  out-list : LinkedList (v₁ FirstTree h) (v₁ LastTree h) (v₁ Next) (v₁ Prev) (without x row)
+  pub out-list : LinkedList (v₁ FirstTree h) (v₁ LastTree h) (v₁ Next) (v₁ Prev) (without x row)
   out-list =
       linked-remove row (R .row) x (once-row t D h) (none-row t D h) (omega (arith, x-row)) _ _ _ _
       (out-first h x v h ∙ rw (eqb-self h)) (out-last h x v h ∙ rw (eqb-self h)) (out-next h x v) (out-prev h x v)
 
   -- whoever is not in the row keeps its links when x leaves it, and when the children are released
-  pub out-links : (y : ℕ) → y ≢ none → occurs y row ≡ 0 → (v₁ Next y ≡ v Next y) × (v₁ Prev y ≡ v Prev y)
+  out-links : (y : ℕ) → y ≢ none → occurs y row ≡ 0 → (v₁ Next y ≡ v Next y) × (v₁ Prev y ≡ v Prev y)
   unfolding occurs sumBy
   out-links y s k =
       let i : 1 ≤ occurs x row = omega (arith, x-row) in
@@ -92,7 +92,7 @@ module _ {n h m : ℕ} {w : List ℕ} {amounts : ℕ → ℕ} {t : Forests} (R :
       (released-other h cs v₁ Next y refl ∙ e .0, released-other h cs v₁ Prev y refl ∙ e .1)
 
   -- a child of x is in no row
-  pub child-out : (y : ℕ) → 1 ≤ occurs y cs → (y ≢ none) × (occurs y row ≡ 0)
+  child-out : (y : ℕ) → 1 ≤ occurs y cs → (y ≢ none) × (occurs y row ≡ 0)
   child-out y i =
       let r = child-parent t D x y x-in i in
       (some-item t D y (heap-in t y (r .0)), not-row t D h y (λ e. some-item t D x x-in (sym (r .1) ∙ e)))
@@ -115,11 +115,11 @@ module _ {n h m : ℕ} {w : List ℕ} {amounts : ℕ → ℕ} {t : Forests} (R :
   D′ : Disjoint after
   D′ = remove-disjoint t D h x (O .member) (O .root)
 
-  row-after : rowOf after h ≡ without x row ++ cs
+  pub row-after : rowOf after h ≡ without x row ++ cs
   unfolding removeRoot setFree release
   row-after = row-h t D h x (O .member) (O .root) (without x row ++ cs)
 
-  once-after : Once (without x row ++ cs)
+  pub once-after : Once (without x row ++ cs)
   once-after = rw row-after at (once-row after D′ h)
 
   none-after : occurs none (without x row ++ cs) ≡ 0

@@ -9,26 +9,29 @@ use Rattle.rules.specs.Forests.{Forests, none, childrenOf, rowOf}
 use Rattle.rules.specs.Lists.{occurs, sumBy, without}
 use Rattle.rules.specs.SetWord.{setWord}
 use Rattle.rules.specs.Words.{lastOr, look, nextIn, prevIn}
+use Rattle.rules.proofs.ConcatLinks.{next-behind}
 use Rattle.rules.proofs.Counts.{count-left}
-use Rattle.rules.proofs.Members.{child-parent, heap-in, row-root}
-use Rattle.rules.proofs.Occurs.{delta-other, delta-self, occurs-without}
+use Rattle.rules.proofs.Members.{child-parent, heap-in, root-child, row-root}
+use Rattle.rules.proofs.Occurs.{delta-other, delta-self, occurs-append, occurs-without}
 use Rattle.rules.proofs.RemoveLinks.{next-out, prev-in}
 use Rattle.rules.proofs.SiblingLists.{once-children}
 use Rattle.store.specs.declared.Owner.the-variants.{Row}
 use Rattle.store.specs.Empty.{freeItem}
-use Rattle.store.specs.Says.{Changes, Says}
+use Rattle.store.specs.Says.{Changes}
 use Rattle.store.specs.Siblings.{ConcatReady, RankFalls, RemoveReady, lastOf, concatenated, removed}
 use Rattle.store.proofs.Listed.{link-in}
 use Rattle.consolidate.specs.Released.{ListFrom, ReleaseReady, Releases, released}
 use Rattle.consolidate.specs.Removed.{RootOf}
-use Rattle.consolidate.specs.Stored.{Rowed}
+use Rattle.consolidate.specs.Stored.{Gathered, Rowed}
 use Rattle.consolidate.proofs.Beside.{beside-count, beside-rank}
 use Rattle.consolidate.proofs.LinkedLists.{head-apart, last-apart}
+use Rattle.consolidate.proofs.MoveWords.{released-other}
+use Rattle.consolidate.proofs.ReleasedWords.{released-freed, released-joined}
 use Rattle.consolidate.proofs.RemoveRootRow.{
-  child-out,
   family,
-  out-links,
-  row₂,
+  once-after,
+  out-list,
+  row-after,
   row₅,
   x-in,
   x-row,
@@ -92,72 +95,91 @@ module _ {n h m : ℕ} {w : List ℕ} {amounts : ℕ → ℕ} {t : Forests} (R :
   first-is : {a : ℕ} → a ≡ look n w FirstChild x → a ≡ R .values FirstChild x
   first-is e = e ∙ R .says .says FirstChild x root-inside
 
-  module _ {w₁ : List ℕ} (c₁ : Changes n w (removed (Row h) x) w₁) {a k : ℕ} (ea : a ≡ look n w FirstChild x)
-      (ek : k ≡ look n w Rank x) where
-    -- the children, as the words list them once x has left
+  -- ---- x leaves the row, and its children join the end
+
+  module _ {w₁ : List ℕ} (c₁ : Changes n w (removed (Row h) x) w₁) {a : ℕ} (ea : a ≡ look n w FirstChild x) where
+    pub concat-ready : ConcatReady n w₁ (Row h) a
+    unfolding lastOf
+    concat-ready =
+        let l : look n w₁ LastTree h ≡ lastOr none (without x (rowOf t h)) =
+        c₁ .says (R .values) (R .says) .says LastTree h heap-inside ∙ out-list R O .back in
+        let i : 1 ≤ occurs x (rowOf t h) =
+        omega (arith, x-row R O) in
+        record {
+          owner = record { sized = c₁ .sized; inside = heap-inside };
+          last = link-in n (without x (rowOf t h))
+              (λ y j. row-inside y (omega (arith, occurs-without y x (rowOf t h) i))) (look n w₁ LastTree h)
+              (λ q z. last-apart (look n w₁ LastTree h) (without x (rowOf t h)) q z (sym l));
+          first = link-in n (childrenOf t x) child-inside a
+              (λ q z. head-apart a (childrenOf t x) q z (sym (first-is ea ∙ family R O .front)));
+        }
+
+    module _ {b c : ℕ} (eb : b ≡ look n w LastChild x) (ec : c ≡ look n w Count h) where
+      -- the children may as well be released last
+      released-last : (k : ℕ)
+          → released h (childrenOf t x)
+          (setWord Count h k (freeItem x (concatenated (Row h) a b (removed (Row h) x (R .values)))))
+          ≡ rootRemoved h x (childrenOf t x) k (R .values)
+      unfolding rootRemoved
+      released-last k =
+          let u = removed (Row h) x (R .values) in
+          let f : b ≡ R .values LastChild x = eb ∙ R .says .says LastChild x root-inside in
+          released-freed h x h k (childrenOf t x) (λ y i e. no-child (rw e at i)) (concatenated (Row h) a b u)
+          ∙ ap (λ v. setWord Count h k (freeItem x v)) (released-joined h h a b (childrenOf t x) u)
+          ∙ rw (first-is ea, f)
+        where
+          no-child : 1 ≤ occurs x (childrenOf t x) → ⊥
+          no-child i = omega (arith, root-child t (O .disjoint) x x (x-in R O) (O .root))
+
+      pub root-detached : {w₂ w₃ w₄ : List ℕ} → Changes n w₁ (concatenated (Row h) a b) w₂
+          → Changes n w₂ (freeItem x) w₃ → Changes n w₃ (setWord Count h (c - 1)) w₄
+          → Gathered n h m w₄ (childrenOf t x) amounts (removeRoot h x t)
+      unfolding rootRemoved freeItem
+      root-detached c₂ c₃ c₄ =
+          let v = R .values in
+          let g : c ≡ v Count h = ec ∙ R .says .says Count h heap-inside in
+          let q = released-last (c - 1) in
+          record {
+            values = setWord Count h (c - 1) (freeItem x (concatenated (Row h) a b (removed (Row h) x v)));
+            says = c₄ .says _ (c₃ .says _ (c₂ .says _ (c₁ .says v (R .says))));
+            beside = rw q (remove-beside R O (c - 1) (omega (arith, g, some-left ec)));
+            row = rw q (row₅ R O (c - 1));
+            least = rw q (plain h x (childrenOf t x) v Minimum h refl ∙ R .least);
+            trees = λ y i. rw (row-after R O) (omega (arith, occurs-append y (without x (rowOf t h)) (childrenOf t x)));
+          }
+
+  -- ---- then the children are released
+
+  module _ {w₁ : List ℕ} (G : Gathered n h m w₁ (childrenOf t x) amounts (removeRoot h x t)) {a k : ℕ}
+      (ea : a ≡ look n w FirstChild x) (ek : k ≡ look n w Rank x) where
+    -- the words list them at the end of the row
     released-list : ListFrom n w₁ a k (childrenOf t x)
     released-list =
-        let D = O .disjoint in
-        let F = family R O in
         record {
-          sized = c₁ .sized;
-          first = first-is ea ∙ F .front;
+          sized = G .says .sized;
+          first = first-is ea ∙ family R O .front;
           long = sym (ek ∙ R .says .says Rank x root-inside ∙ beside-rank (R .beside) x root-inside);
           inside = child-inside;
           once = once-children t (O .disjoint) x (x-in R O);
           nexts = λ y i.
-              let o = child-out R O y i in
-              c₁ .says (R .values) (R .says) .says Next y (child-inside y i)
-              ∙ out-links R O y (o .0) (o .1) .0
-              ∙ F .nexts y i;
+              let o = occurs-append y (without x (rowOf t h)) (childrenOf t x) in
+              G .says .says Next y (child-inside y i)
+              ∙ sym (released-other h (childrenOf t x) (G .values) Next y refl)
+              ∙ G .row .nexts y (rw (row-after R O) (omega (arith, o)))
+              ∙ rw (row-after R O) (next-behind y (without x (rowOf t h)) (childrenOf t x)
+              (omega (arith, o, once-after R O y)));
         }
 
     pub release-ready : ReleaseReady n w₁ h a k
     release-ready = record { heap = heap-inside; list = childrenOf t x; listed = released-list }
 
-    module _ {w₂ : List ℕ} (c₂ : Releases n w₁ h a k w₂) where
-      changed : Changes n w₁ (released h (childrenOf t x)) w₂
-      unfolding Releases
-      changed = c₂ (childrenOf t x) released-list
-
-      pub concat-ready : ConcatReady n w₂ (Row h) a
-      unfolding lastOf
-      concat-ready =
-          let D = O .disjoint in
-          let F = family R O in
-          let C = row₂ R O in
-          let l : look n w₂ LastTree h ≡ lastOr none (without x (rowOf t h)) =
-          changed .says _ (c₁ .says (R .values) (R .says)) .says LastTree h heap-inside ∙ C .back in
-          let i : 1 ≤ occurs x (rowOf t h) =
-          omega (arith, x-row R O) in
-          record {
-            owner = record { sized = changed .sized; inside = heap-inside };
-            last = link-in n (without x (rowOf t h))
-                (λ y j. row-inside y (omega (arith, occurs-without y x (rowOf t h) i))) (look n w₂ LastTree h)
-                (λ q z. last-apart (look n w₂ LastTree h) (without x (rowOf t h)) q z (sym l));
-            first = link-in n (childrenOf t x) child-inside a
-                (λ q z. head-apart a (childrenOf t x) q z (sym (first-is ea ∙ F .front)));
-          }
-
-      module _ {b c : ℕ} (eb : b ≡ look n w LastChild x) (ec : c ≡ look n w Count h) where
-        pub root-removed : {w₃ w₄ w₅ : List ℕ} → Changes n w₂ (concatenated (Row h) a b) w₃
-            → Changes n w₃ (freeItem x) w₄ → Changes n w₄ (setWord Count h (c - 1)) w₅
-            → Rowed n h m w₅ amounts (removeRoot h x t)
-        unfolding rootRemoved freeItem
-        root-removed {w₅ = w₅} c₃ c₄ c₅ =
-            let D = O .disjoint in
-            let v = R .values in
-            let e = first-is ea in
-            let f : b ≡ v LastChild x = eb ∙ R .says .says LastChild x root-inside in
-            let g : c ≡ v Count h = ec ∙ R .says .says Count h heap-inside in
-            let s : Says n w₅ (rootRemoved h x (childrenOf t x) (c - 1) v) =
-            rw (e, f) at (c₅ .says _ (c₄ .says _ (c₃ .says _ (changed .says _ (c₁ .says v (R .says)))))) in
-            record {
-              values = rootRemoved h x (childrenOf t x) (c - 1) v;
-              says = s;
-              beside = remove-beside R O (c - 1)
-                  (omega (arith, g, some-left ec));
-              row = row₅ R O (c - 1);
-              least = plain h x (childrenOf t x) v Minimum h refl
-                  ∙ R .least;
-            }
+    pub root-removed : {w₂ : List ℕ} → Releases n w₁ h a k w₂ → Rowed n h m w₂ amounts (removeRoot h x t)
+    unfolding Releases
+    root-removed f =
+        record {
+          values = released h (childrenOf t x) (G .values);
+          says = f (childrenOf t x) released-list .says (G .values) (G .says);
+          beside = G .beside;
+          row = G .row;
+          least = G .least;
+        }

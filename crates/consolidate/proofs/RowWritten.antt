@@ -19,6 +19,7 @@ use Rattle.rules.specs.Words.{wordsWith, headOr, lastOr}
 use Rattle.rules.proofs.Occurs.{eqb-self}
 use Rattle.store.specs.Says.{Changes}
 use Rattle.consolidate.specs.Consolidating.{Consolidating}
+use Rattle.consolidate.specs.Released.{released}
 use Rattle.consolidate.specs.Writing.{Coming, WritingRow}
 use Rattle.consolidate.proofs.RowWords.{beside-ends, beside-minimum, beside-row}
 use Rattle.consolidate.proofs.RowedWords.{rowed-words}
@@ -47,7 +48,7 @@ module _ {n h : ℕ} {w ps : List ℕ} {amounts : ℕ → ℕ} {t : Forests} (C 
   -- an empty row
   pub writing-starts : {w₁ w₂ : List ℕ} → Changes n w (setWord FirstTree h none) w₁
       → Changes n w₁ (setWord LastTree h none) w₂ → WritingRow n h w₂ [] none amounts (setRow h (occupied ps) t)
-  unfolding headOr lastOr leastIn occurs sumBy
+  unfolding headOr lastOr leastIn occurs released sumBy
   writing-starts a b =
       record {
         values = setWord LastTree h none (setWord FirstTree h none (C .values));

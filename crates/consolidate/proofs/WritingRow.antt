@@ -21,7 +21,7 @@ use Rattle.store.specs.Says.{Changes}
 use Rattle.store.specs.Siblings.{AppendReady, RankRises, appended, lastOf}
 use Rattle.store.proofs.Listed.{link-in, not-in}
 use Rattle.consolidate.specs.Writing.{Coming, WritingRow}
-use Rattle.consolidate.proofs.Beside.{key-beside}
+use Rattle.consolidate.proofs.Beside.{key-beside, reads}
 use Rattle.consolidate.proofs.LinkedLists.{last-apart}
 use Rattle.consolidate.proofs.RowWords.{longer, longer-beside}
 
@@ -115,5 +115,5 @@ module _ {n h m x : ℕ} {w written rest : List ℕ} {amounts : ℕ → ℕ} {t 
         where
           key-at : (i : ℕ) → heapOf t i ≡ suc h → itemKey h (look n w′) i ≡ keyOf t i
           key-at =
-              key-beside (longer-beside (C .disjoint) (W .beside) (W .row) x rest split) (c .says (W .values) (W .says))
-              (C .heap) (C .keys)
+              key-beside (longer-beside (C .disjoint) (W .beside) (W .row) x rest split)
+              (reads (c .says (W .values) (W .says))) (C .heap) (C .keys)

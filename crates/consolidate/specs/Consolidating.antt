@@ -11,16 +11,17 @@ use Rattle.rules.specs.Lists.{occurs}
 use Rattle.rules.specs.WellFormed.{WellFormed}
 use Rattle.rules.specs.Words.{wordsWith, nextIn}
 use Rattle.store.specs.Says.{Values, Says}
-use Rattle.consolidate.specs.Stored.{Beside, Rowed}
+use Rattle.consolidate.specs.Released.{released}
+use Rattle.consolidate.specs.Stored.{Beside, Gathered}
 
 -- The roots of heap h are those at the places ps and the trees to come. A tree at place r has rank r. The words are
 -- those of the forests t with these amounts, but for the row of h; of its links only those of the trees of rest are as
--- they were.
+-- they were. These trees may still have the words of children: the words are of t once they are released.
 pub record Consolidating (n h : ℕ) (w ps trees rest : List ℕ) (amounts : ℕ → ℕ) (t : Forests) : Type 0 where
   pub heap : h < 8
   pub values : Values
   pub says : Says n w values
-  pub beside : Beside n h values amounts t
+  pub beside : Beside n h (released h rest values) amounts t
   pub formed : WellFormed (setRow h (occupied ps ++ trees) t)
   pub long : length ps ≡ 17
   pub placed : (r : ℕ) → getD ps r none ≢ none → rankOf t (getD ps r none) ≡ r
@@ -55,12 +56,14 @@ Climbs n h w ps x links w′ ps′ links′ =
 
 -- ---- the row
 
+-- the trees of `children` are not yet released
 pub record ConsolidateReady (n : ℕ) (w : List ℕ) (h links : ℕ) : Type 0 where
   pub heap : h < 8
   pub least : ℕ
   pub amounts : ℕ → ℕ
   pub forests : Forests
-  pub rowed : Rowed n h least w amounts forests
+  pub children : List ℕ
+  pub gathered : Gathered n h least w children amounts forests
   pub formed : WellFormed forests
   pub fits : links + 4096 ≤ 4294967295
 
@@ -70,7 +73,8 @@ linkRow h t = linkTrees 18 (rowOf t h) (record { places = replicate 17 none; lin
 
 unfoldable pub LinksRow : ℕ → List ℕ → ℕ → List ℕ → List ℕ → ℕ → Type 0
 LinksRow n w h w′ ps links =
-    (m : ℕ) (a : ℕ → ℕ) (t : Forests) → Rowed n h m w a t → WellFormed t → Climbed n h 0 [] w′ ps links a (linkRow h t)
+    (m : ℕ) (a : ℕ → ℕ) (t : Forests) (cs : List ℕ) → Gathered n h m w cs a t → WellFormed t
+    → Climbed n h 0 [] w′ ps links a (linkRow h t)
 
 -- the row is written anew from the places
 pub record RowReady (n : ℕ) (w : List ℕ) (h : ℕ) (ps : List ℕ) : Type 0 where
@@ -88,5 +92,5 @@ pub record Consolidated (w : List ℕ) (links : ℕ) (base : ℕ) (amounts : ℕ
 
 unfoldable pub Consolidates : ℕ → List ℕ → ℕ → ℕ → List ℕ → ℕ → Type 0
 Consolidates n w h links w′ links′ =
-    (m : ℕ) (a : ℕ → ℕ) (t : Forests) → Rowed n h m w a t → WellFormed t
+    (m : ℕ) (a : ℕ → ℕ) (t : Forests) (cs : List ℕ) → Gathered n h m w cs a t → WellFormed t
     → Consolidated w′ links′ links a (consolidate h t)

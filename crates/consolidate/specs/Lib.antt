@@ -1,6 +1,6 @@
 pub mod LinkedList
-pub mod Stored
 pub mod Released
+pub mod Stored
 pub mod Removed
 pub mod Consolidating
 pub mod Writing

@@ -10,9 +10,13 @@ use Rattle.rules.specs.SetWord.{setWord}
 use Rattle.rules.specs.Words.{headOr, look, nextIn}
 use Rattle.store.specs.Says.{Sized, Values, Changes}
 
+-- one of them, and a list
+abbrev pub releasedOne : ℕ → ℕ → Values → Values
+releasedOne h c v = setWord State c (1 + 2 * h) (setWord Parent c none v)
+
 unfoldable pub released : ℕ → List ℕ → Values → Values
 released h [] v = v
-released h (c ∷ cs) v = released h cs (setWord State c (1 + 2 * h) (setWord Parent c none v))
+released h (c ∷ cs) v = released h cs (releasedOne h c v)
 
 -- The list cs of k items starts with c and goes on by the next words.
 pub record ListFrom (n : ℕ) (w : List ℕ) (c k : ℕ) (cs : List ℕ) : Type 0 where

@@ -3,9 +3,9 @@ use Prim.Native.Nat.{ℕ, suc}
 use mathlib.Core.Path.{_≡_}
 use mathlib.Core.List.{List}
 use Rattle.rules.specs.Calls.{removeRoot}
-use Rattle.rules.specs.Forests.{Forests, none, heapOf, parentOf}
+use Rattle.rules.specs.Forests.{Forests, none, childrenOf, heapOf, parentOf}
 use Rattle.rules.specs.WellFormed.{Disjoint}
-use Rattle.consolidate.specs.Stored.{Rowed}
+use Rattle.consolidate.specs.Stored.{Gathered, Rowed}
 
 -- x is a root of heap h in the forests t
 pub record RootOf (t : Forests) (h x : ℕ) : Type 0 where
@@ -24,3 +24,9 @@ pub record RootReady (n : ℕ) (w : List ℕ) (h x : ℕ) : Type 0 where
 unfoldable pub RemovesRoot : ℕ → List ℕ → ℕ → ℕ → List ℕ → Type 0
 RemovesRoot n w h x w′ =
     (m : ℕ) (a : ℕ → ℕ) (t : Forests) → Rowed n h m w a t → RootOf t h x → Rowed n h m w′ a (removeRoot h x t)
+
+-- The same where its children are not yet released.
+unfoldable pub DetachesRoot : ℕ → List ℕ → ℕ → ℕ → List ℕ → Type 0
+DetachesRoot n w h x w′ =
+    (m : ℕ) (a : ℕ → ℕ) (t : Forests) → Rowed n h m w a t → RootOf t h x
+    → Gathered n h m w′ (childrenOf t x) a (removeRoot h x t)

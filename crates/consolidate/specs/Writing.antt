@@ -2,21 +2,19 @@
 use Prim.Native.Nat.{ℕ, _<_}
 use mathlib.Core.Path.{_≡_}
 use mathlib.Core.List.{List, [], _∷_, _++_}
-use Rattle.rules.specs.declared.Field.the-variants.{FirstTree, LastTree, Next, Prev}
 use Rattle.rules.specs.Consolidate.{occupied}
 use Rattle.rules.specs.Forests.{Forests, rowOf}
 use Rattle.rules.specs.Order.{leastIn}
 use Rattle.rules.specs.WellFormed.{Disjoint, KeysFit}
 use Rattle.store.specs.Says.{Values, Says}
-use Rattle.consolidate.specs.LinkedList.{LinkedList}
-use Rattle.consolidate.specs.Stored.{Beside}
+use Rattle.consolidate.specs.Stored.{Beside, RowIs}
 
 -- the trees of `written` are in the words of the row; m is the least of them
 pub record WritingRow (n h : ℕ) (w written : List ℕ) (m : ℕ) (amounts : ℕ → ℕ) (t : Forests) : Type 0 where
   pub values : Values
   pub says : Says n w values
   pub beside : Beside n h values amounts t
-  pub row : LinkedList (values FirstTree h) (values LastTree h) (values Next) (values Prev) written
+  pub row : RowIs h values written
   pub least : m ≡ leastIn (t .key) written
 
 -- the row of h: what is written, then x if it is a tree, then the rest

@@ -3,18 +3,18 @@ ghost use mathlib.Core.Path.{_≡_};
 ghost use mathlib.Core.Bool.{cond};
 ghost use Prim.Native.Nat.{_≤_, _<_};
 ghost use lib.ListN.{getD};
-ghost use Rattle.rules.specs.declared.Field.the-variants.{Key};
+ghost use Rattle.rules.specs.declared.Field.the-variants.{Key, Parent};
 ghost use Rattle.rules.specs.Order.{comesBefore};
 ghost use Rattle.rules.specs.Words.{decode, look};
 ghost use Rattle.store.specs.ItemOrder.{itemKey};
-ghost use Rattle.store.specs.Says.{Within};
+ghost use Rattle.store.specs.Says.{Changes, Within};
 ghost use Rattle.linking_places.specs.Places.{treesOf};
 ghost use Rattle.linking_places.specs.Taken.{takenOf, TakenAt};
 ghost use Rattle.consolidate.specs.Consolidating.{ClimbReady, ConsolidateReady, RowReady};
 ghost use Rattle.consolidate.specs.Consolidating.{Consolidates, LinksRow, Climbs, WritesRow};
 ghost use Rattle.consolidate.specs.Extract.{ExtractReady, Performs};
-ghost use Rattle.consolidate.specs.Released.{ReleaseReady, Releases};
-ghost use Rattle.consolidate.specs.Removed.{RemovesRoot, RootReady};
+ghost use Rattle.consolidate.specs.Released.{ReleaseReady, Releases, releasedOne};
+ghost use Rattle.consolidate.specs.Removed.{DetachesRoot, RemovesRoot, RootReady};
 ghost use Rattle.consolidate.specs.Writing.{TreeReady, WritesTree};
 use linking_places::free_place;
 use linking_places::free_places;
@@ -118,7 +118,19 @@ fn climb(
     }
 }
 
-// The trees of the row of heap h come to the places, left to right. Its links are left as they are.
+// The item x becomes a root of heap h, unmarked: its own words only.
+fn release_tree(s: &mut [u32], n: usize, h: u32, x: u32)
+    requires { ⌜ h < 8 ⌝ }
+    requires { ⌜ Within n (now s) Parent x ⌝ }
+    ensures { λ r. ⌜ Changes n (now (s .entry)) (releasedOne h x) (now (s .exit)) ⌝ }
+{
+    let state = 1 + 2 * h;
+    put(s, n, Field::Parent, x, NONE);
+    put(s, n, Field::State, x, state);
+}
+
+// The trees of the row of heap h come to the places, left to right. Each is released first, since the children of a
+// root that was taken out are not yet. The links of the row are left as they are.
 fn link_row(s: &mut [u32], n: usize, h: u32) -> Linked
     requires { ⌜ ConsolidateReady n (now s) h 0 ⌝ }
     ensures { λ r. ⌜ LinksRow n (now (s .entry)) h (now (s .exit)) (treesOf (r .places)) (r .links) ⌝ }
@@ -131,6 +143,7 @@ fn link_row(s: &mut [u32], n: usize, h: u32) -> Linked
     let mut x = get(s, n, Field::FirstTree, h);
     while x != NONE {
         let next = get(s, n, Field::Next, x);
+        release_tree(s, n, h, x);
         let c = climb(s, n, h, places, taken, x, links);
         let q = c.places;
         places = q;
@@ -150,15 +163,28 @@ fn release(s: &mut [u32], n: usize, h: u32, child: u32, count: u32)
     requires { ⌜ ReleaseReady n (now s) h child count ⌝ }
     ensures { λ r. ⌜ Releases n (now (s .entry)) h child count (now (s .exit)) ⌝ }
 {
-    let state = 1 + 2 * h;
     let mut c = child;
     let mut k = count;
     while k > 0 {
-        put(s, n, Field::Parent, c, NONE);
-        put(s, n, Field::State, c, state);
+        release_tree(s, n, h, c);
         c = get(s, n, Field::Next, c);
         k -= 1;
     }
+}
+
+// The root x of heap h leaves the row and is free; its children join the end, not yet released. The minimum is left as
+// it is.
+fn detach_root(s: &mut [u32], n: usize, h: u32, x: u32)
+    requires { ⌜ RootReady n (now s) h x ⌝ }
+    ensures { λ r. ⌜ DetachesRoot n (now (s .entry)) h x (now (s .exit)) ⌝ }
+{
+    let first = get(s, n, Field::FirstChild, x);
+    let end = get(s, n, Field::LastChild, x);
+    let count = get(s, n, Field::Count, h);
+    remove(s, n, Owner::Row(h), x);
+    concat(s, n, Owner::Row(h), first, end);
+    free_item(s, n, x);
+    put(s, n, Field::Count, h, count - 1);
 }
 
 // The root x of heap h leaves the row and is free; its children join the end. The minimum is left as it is.
@@ -167,14 +193,9 @@ pub fn remove_root(s: &mut [u32], n: usize, h: u32, x: u32)
     ensures { λ r. ⌜ RemovesRoot n (now (s .entry)) h x (now (s .exit)) ⌝ }
 {
     let first = get(s, n, Field::FirstChild, x);
-    let end = get(s, n, Field::LastChild, x);
     let rank = get(s, n, Field::Rank, x);
-    let count = get(s, n, Field::Count, h);
-    remove(s, n, Owner::Row(h), x);
+    detach_root(s, n, h, x);
     release(s, n, h, first, rank);
-    concat(s, n, Owner::Row(h), first, end);
-    free_item(s, n, x);
-    put(s, n, Field::Count, h, count - 1);
 }
 
 // The tree at place r, unless that is free, put at the end of the row of heap h, whose least item was m. Gives the
@@ -236,7 +257,7 @@ pub struct Extracted {
     pub tally: Tally,
 }
 
-// T: the minimum of heap h leaves, then linking follows.
+// T: the minimum of heap h leaves, then linking follows, which releases its children.
 pub fn extract_min(s: &mut [u32], n: usize, h: u32, tally: Tally) -> Extracted
     requires { ⌜ ExtractReady n (now s) h (tally .links) ⌝ }
     ensures { λ r. ⌜ Performs (now (s .exit)) (tally .links) (r .item) (r .key) (r .tally .links)
@@ -245,7 +266,7 @@ pub fn extract_min(s: &mut [u32], n: usize, h: u32, tally: Tally) -> Extracted
 {
     let x = get(s, n, Field::Minimum, h);
     let key = key_of(s, n, h, x);
-    remove_root(s, n, h, x);
+    detach_root(s, n, h, x);
     let t = consolidate(s, n, h, tally);
     settle_amount(s, n, h);
     Extracted {

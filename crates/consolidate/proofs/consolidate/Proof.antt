@@ -17,7 +17,8 @@ link-row-requires c κs =
       least = p .least;
       amounts = p .amounts;
       forests = p .forests;
-      rowed = p .rowed;
+      children = p .children;
+      gathered = p .gathered;
       formed = p .formed;
       fits = omega arith;
     }
@@ -28,7 +29,7 @@ write-row-requires c κs =
     let c4 = c .before .before .before .before in
     let c7 = c4 .before .before .before in
     let p = c7 .pre in
-    let S = c4 .link-row .ensures .0 (p .least) (p .amounts) (p .forests) (p .rowed) (p .formed) in (
+    let S = c4 .link-row .ensures .0 (p .least) (p .amounts) (p .forests) (p .children) (p .gathered) (p .formed) in (
       record { amounts = p .amounts; forests = linkRow (c7 .args .h) (p .forests) .forests; state = S .state },
       c4 .link-row .ensures .1 .1,
     )
@@ -44,8 +45,8 @@ returns c =
     let c3 = c .before .before .before in
     let c8 = c3 .before .before .before .before .before in
     let c11 = c8 .before .before .before in (
-      λ m a t R W.
-          let S = c8 .link-row .ensures .0 m a t R W in
+      λ m a t cs R W.
+          let S = c8 .link-row .ensures .0 m a t cs R W in
           let l = linkRow (c11 .args .h) t in
           record {
             words = c3 .write-row .ensures a (l .forests) (S .state)

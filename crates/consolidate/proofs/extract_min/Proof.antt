@@ -2,11 +2,11 @@
 use borrow.Author.Needs.{needs}
 use Rattle.consolidate.proofs.Extracting.{
   consolidate-ready,
+  detach-ready,
   extract-performs,
   heap-inside,
   least-inside,
   linked-says,
-  remove-ready,
   sound-rowed,
 }
 use Rattle.consolidate.proofs.extract_min.Statement.{statement}
@@ -23,18 +23,18 @@ key-of-requires c κs =
     let p = c1 .before .before .before .pre in
     (record { sized = sound-rowed p .says .sized; inside = least-inside p (c1 .get .ensures) }, heap-inside p)
 
-remove-root-requires : tie.Need-remove-root-requires
-remove-root-requires c κs =
+detach-root-requires : tie.Need-detach-root-requires
+detach-root-requires c κs =
     let c3 = c .before .before .before in
     let c6 = c3 .before .before .before in
-    remove-ready (c6 .pre) (c3 .get .ensures)
+    detach-ready (c6 .pre) (c3 .get .ensures)
 
 consolidate-requires : tie.Need-consolidate-requires
 consolidate-requires c κs =
     let c3 = c .before .before .before in
     let c7 = c3 .before .before .before .before in
     let c10 = c7 .before .before .before in
-    consolidate-ready (c10 .pre) (c7 .get .ensures) _ (c3 .remove-root .ensures)
+    consolidate-ready (c10 .pre) (c7 .get .ensures) _ (c3 .detach-root .ensures)
 
 settle-amount-requires : tie.Need-settle-amount-requires
 settle-amount-requires c κs =
@@ -42,7 +42,7 @@ settle-amount-requires c κs =
     let c7 = c3 .before .before .before .before in
     let c11 = c7 .before .before .before .before in
     let p = c11 .before .before .before .pre in
-    let s = linked-says p (c11 .get .ensures) _ (c7 .remove-root .ensures) _ _ (c3 .consolidate .ensures .0) in
+    let s = linked-says p (c11 .get .ensures) _ (c7 .detach-root .ensures) _ _ (c3 .consolidate .ensures .0) in
     (s .sized, heap-inside p)
 
 returns : tie.Need-returns
@@ -53,7 +53,7 @@ returns c =
     let c12 = c10 .before .before in
     let c14 = c12 .before .before in
     let p = c14 .before .before .before .pre in (
-      extract-performs p (c14 .get .ensures) _ (c10 .remove-root .ensures) _ _ (c6 .consolidate .ensures .0) _
+      extract-performs p (c14 .get .ensures) _ (c10 .detach-root .ensures) _ _ (c6 .consolidate .ensures .0) _
           (c12 .key-of .ensures) (c2 .settle-amount .ensures),
       c6 .consolidate .ensures .1,
     )
@@ -64,7 +64,7 @@ extract-min-spec =
     (tie.spec
     get-requires
     key-of-requires
-    remove-root-requires
+    detach-root-requires
     consolidate-requires
     settle-amount-requires
     (λ c. search needs)

@@ -11,17 +11,11 @@ use Rattle.consolidate.proofs.release.Statement.{statement}
 use Rattle.consolidate.proofs.release.Tie as tie
 
 abbrev Inv-loop : tie.InvT-loop
-Inv-loop s₀ n h child count state c₀ k₀ s c k =
+Inv-loop s₀ n h child count c₀ k₀ s c k =
     (length s ≡ length s₀) × ((cs : List ℕ) → ListFrom n s₀ c₀ k₀ cs → Releasing n h s₀ cs s c k)
 
 abbrev μ-loop : tie.MeasureT-loop
-μ-loop s₀ n h child count state c₀ k₀ s c k = k
-
-mul-state : tie.Need-mul-state Inv-loop μ-loop
-mul-state c = record { fits = omega (arith, c .before .pre .heap) }
-
-add-state : tie.Need-add-state Inv-loop μ-loop
-add-state c = record { fits = omega (arith, c .before .pre .heap) }
+μ-loop s₀ n h child count c₀ k₀ s c k = k
 
 loop-holds : tie.Need-loop-holds Inv-loop μ-loop
 loop-holds c = (refl, λ cs L. release-starts _ L)
@@ -32,43 +26,34 @@ here : (c : tie.At-loop Inv-loop μ-loop) →
     Releasing (a .n) (a .h) (a .s .now) (c .before .before .pre .list) (c .loop .s) (c .loop .c) (c .loop .k)
 here c = c .loop .inv .1 _ (c .before .before .pre .listed)
 
-put-requires : tie.Need-put-requires Inv-loop μ-loop
-put-requires c κs =
-    let g = here (c .before .before) in
-    record { sized = g .listed .sized; inside = child-inside g (c .before .loop-test .taken) }
-
-put-requires-2 : tie.Need-put-requires-2 Inv-loop μ-loop
-put-requires-2 c κs =
-    let c3 = c .before .before .before in
-    let c5 = c3 .before .before in
-    let c6 = c5 .before in
-    record { sized = c3 .put .ensures .sized; inside = child-inside (here c6) (c5 .loop-test .taken) }
+release-tree-requires : tie.Need-release-tree-requires Inv-loop μ-loop
+release-tree-requires c κs =
+    let c2 = c .before .before in
+    let g = here c2 in
+    let i = child-inside g (c .before .loop-test .taken) in
+    (c2 .before .before .pre .heap, record { sized = g .listed .sized; inside = i })
 
 get-requires : tie.Need-get-requires Inv-loop μ-loop
 get-requires c κs =
     let c3 = c .before .before .before in
-    let c9 = c3 .before .before .before .before .before .before in
-    let c10 = c9 .before in
-    record { sized = c3 .put2 .ensures .sized; inside = child-inside (here c10) (c9 .loop-test .taken) }
+    let c5 = c3 .before .before in
+    let i = child-inside (here (c5 .before)) (c5 .loop-test .taken) in
+    record { sized = c3 .release-tree .ensures .sized; inside = i }
 
 sub-k : tie.Need-sub-k Inv-loop μ-loop
-sub-k c =
-    omega (arith, c .before .before .before .before .before .before .before .before .before .before .loop-test .taken)
+sub-k c = omega (arith, c .before .before .before .before .before .before .loop-test .taken)
 
 loop-less : tie.Need-loop-less Inv-loop μ-loop
-loop-less c =
-    omega (arith, c .before .before .before .before .before .before .before .before .before .before .loop-test .taken)
+loop-less c = omega (arith, c .before .before .before .before .before .before .loop-test .taken)
 
 loop-again : tie.Need-loop-again Inv-loop μ-loop
 loop-again c =
     let c4 = c .before .before .before .before in
-    let c8 = c4 .before .before .before .before in
-    let c10 = c8 .before .before in
-    let c11 = c10 .before in (
-      omega (arith, c4 .put2 .kept .0, c8 .put .kept .0, c11 .loop .inv .0),
-      λ cs L. release-step (c11 .loop .inv .1 cs L) (c10 .loop-test .taken) refl (c8 .put .ensures)
-          (c4 .put2 .ensures)
-          (c .get .ensures) refl,
+    let c6 = c4 .before .before in
+    let c7 = c6 .before in (
+      omega (arith, c4 .release-tree .kept .0, c7 .loop .inv .0),
+      λ cs L. release-step (c7 .loop .inv .1 cs L) (c6 .loop-test .taken) (c4 .release-tree .ensures) (c .get .ensures)
+          refl,
     )
 
 same-length : tie.Need-same-length Inv-loop μ-loop
@@ -84,11 +69,8 @@ release-spec =
     (tie.spec
     Inv-loop
     μ-loop
-    mul-state
-    add-state
     loop-holds
-    put-requires
-    put-requires-2
+    release-tree-requires
     get-requires
     sub-k
     loop-less
