@@ -22,20 +22,20 @@ pub record OnTheWay (held ps : List ℕ) (taken r : ℕ) : Type 0 where
   pub number : taken ≡ takenOf ps
   pub above : (i : ℕ) → r ≤ i → getD ps i 0 ≡ getD held i 0
 
--- what a test of a place says
-pub is-free : {b : Bool} {a : ℕ} → b ≡ not (eqb a none) → b ≡ false → a ≡ none
-is-free {b} {a} e f = go (eqb a none) refl (sym f ∙ e)
+-- what a test says of two numbers
+pub equal-by : {b : Bool} {a z : ℕ} → b ≡ not (eqb a z) → b ≡ false → a ≡ z
+equal-by {b} {a} {z} e f = go (eqb a z) refl (sym f ∙ e)
   where
-    go : (c : Bool) → eqb a none ≡ c → false ≡ not c → a ≡ none
-    go true q z = eqb-true a none q
-    go false q z = absurd (true≢false (sym z))
+    go : (c : Bool) → eqb a z ≡ c → false ≡ not c → a ≡ z
+    go true q y = eqb-true a z q
+    go false q y = absurd (true≢false (sym y))
 
-pub is-tree : {b : Bool} {a : ℕ} → b ≡ not (eqb a none) → b ≡ true → a ≢ none
-is-tree {b} {a} e f = go (eqb a none) refl (sym f ∙ e)
+pub apart-by : {b : Bool} {a z : ℕ} → b ≡ not (eqb a z) → b ≡ true → a ≢ z
+apart-by {b} {a} {z} e f = go (eqb a z) refl (sym f ∙ e)
   where
-    go : (c : Bool) → eqb a none ≡ c → true ≡ not c → a ≢ none
-    go true q z = absurd (true≢false z)
-    go false q z = eqb-false a none q
+    go : (c : Bool) → eqb a z ≡ c → true ≡ not c → a ≢ z
+    go true q y = absurd (true≢false y)
+    go false q y = eqb-false a z q
 
 -- and its negation
 pub was-false : (b : Bool) → not b ≡ true → b ≡ false

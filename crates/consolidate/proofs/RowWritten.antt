@@ -1,13 +1,15 @@
 -- The row of heap h written anew from the places: its start, one place, and its end.
-use Prim.Native.Nat.{ℕ, _+_, _≤_, _<_}
+use Prim.Native.Nat.{ℕ, zero, suc, _+_, _<_}
 use mathlib.Core.Path.{_≡_, refl, sym, ap, subst, _∙_}
+use mathlib.Core.Logic.{_≢_}
 use mathlib.Core.List.{List, [], _∷_, _++_, append-assoc, append-nil}
 use mathlib.Core.Bool.{Bool, true, false, cond}
 use native.Mathlib.Numerals.{add-one}
 use native.Mathlib.Omega.{arith}
 use lib.Dec.{eqb}
 use lib.ListN.{length, getD, take, drop, length-set, take-append-drop}
-use lib.Seq.{getD-set-same, take-all, take-suc}
+use lib.Seq.{getD-set-same, take-suc}
+use borrow.Author.Tests.{eqb-false}
 use Rattle.rules.specs.declared.Field.the-variants.{FirstTree, LastTree, Minimum}
 use Rattle.rules.specs.Consolidate.{occupied}
 use Rattle.rules.specs.Forests.{Forests, none, rowOf, setRow}
@@ -18,6 +20,8 @@ use Rattle.rules.specs.WellFormed.{Disjoint, KeysFit, WellFormed}
 use Rattle.rules.specs.Words.{wordsWith, headOr, lastOr}
 use Rattle.rules.proofs.Occurs.{eqb-self}
 use Rattle.store.specs.Says.{Changes}
+use Rattle.linking_places.specs.Taken.{takenOf}
+use Rattle.linking_places.proofs.Taken.{a-tree}
 use Rattle.consolidate.specs.Consolidating.{Consolidating}
 use Rattle.consolidate.specs.Released.{released}
 use Rattle.consolidate.specs.Writing.{Coming, WritingRow}
@@ -34,6 +38,24 @@ occupied-append (x ∷ a) b = go (eqb x none) (occupied-append a b)
         → cond t (occupied (a ++ b)) (x ∷ occupied (a ++ b)) ≡ cond t (occupied a) (x ∷ occupied a) ++ occupied b
     go true e = e
     go false e = ap (λ l. x ∷ l) e
+
+-- no bit, no tree
+none-taken : (l : List ℕ) → takenOf l ≡ 0 → occupied l ≡ []
+unfolding occupied takenOf
+none-taken [] e = refl
+none-taken (x ∷ l) e = go (eqb x none) refl (none-taken l (omega (arith, e)))
+  where
+    go : (b : Bool) → eqb x none ≡ b → occupied l ≡ [] → cond b (occupied l) (x ∷ occupied l) ≡ []
+    go true q z = z
+    go false q z = absurd (omega (arith, e, a-tree x (eqb-false x none q)))
+
+-- some bit: the places go on
+pub some-taken : (ps : List ℕ) (r : ℕ) → takenOf (drop r ps) ≢ 0 → r < length ps
+unfolding takenOf
+some-taken [] zero d = absurd (d refl)
+some-taken [] (suc r) d = absurd (d refl)
+some-taken (x ∷ ps) zero d = omega arith
+some-taken (x ∷ ps) (suc r) d = let k = some-taken ps r d in omega (arith, k)
 
 -- the forests with the row of the places
 module _ {n h : ℕ} {w ps : List ℕ} {amounts : ℕ → ℕ} {t : Forests} (C : Consolidating n h w ps [] [] amounts t) where
@@ -96,13 +118,18 @@ module _ (h : ℕ) (ps : List ℕ) (r : ℕ) (t : Forests) (D : Disjoint t) (K :
 
   -- ---- all places
 
-  pub row-written : {n m : ℕ} {w w′ : List ℕ} {amounts : ℕ → ℕ} → 17 ≤ r
+  pub row-written : {n m : ℕ} {w w′ : List ℕ} {amounts : ℕ → ℕ} → takenOf (drop r ps) ≡ 0
       → WritingRow n h w (occupied (take r ps)) m amounts t
       → Changes n w (setWord Minimum h m) w′
       → w′ ≡ wordsWith amounts t
   unfolding minimum
   row-written {n} {m} {w} {w′} {amounts} k W c =
-      let z : occupied (take r ps) ≡ rowOf t h = ap occupied (take-all r ps (omega arith)) ∙ sym e in
+      let z : occupied (take r ps) ≡ rowOf t h =
+      sym (append-nil (occupied (take r ps)))
+      ∙ ap (λ l. occupied (take r ps) ++ l) (sym (none-taken (drop r ps) k))
+      ∙ sym (occupied-append (take r ps) (drop r ps))
+      ∙ ap occupied (take-append-drop r ps)
+      ∙ sym e in
       rowed-words amounts t D {n = n} {h = h} {w = w′}
       (record {
         values = setWord Minimum h m (W .values);

@@ -16,6 +16,7 @@ ghost use Rattle.consolidate.specs.Extract.{ExtractReady, Performs};
 ghost use Rattle.consolidate.specs.Released.{ReleaseReady, Releases, releasedOne};
 ghost use Rattle.consolidate.specs.Removed.{DetachesRoot, RemovesRoot, RootReady};
 ghost use Rattle.consolidate.specs.Writing.{TreeReady, WritesTree};
+use linking_places::any_from;
 use linking_places::free_place;
 use linking_places::free_places;
 use linking_places::hold;
@@ -231,7 +232,7 @@ fn write_row(s: &mut [u32], n: usize, h: u32, places: [u16; 17], taken: u32)
     put(s, n, Field::LastTree, h, NONE);
     let mut m = NONE;
     let mut r = 0;
-    while r < 17 {
+    while any_from(taken, r) {
         m = write_tree(s, n, h, m, &places, taken, r);
         r += 1;
     }

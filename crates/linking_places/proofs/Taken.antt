@@ -12,7 +12,7 @@ use lib.ListN.{length, getD, set}
 use lib.Pow.{shl-exact, shr-shr}
 use borrow.Author.Tests.{eq-eqb, ne-eqb}
 use Rattle.rules.specs.Forests.{none}
-use Rattle.linking_places.specs.Laws.{BitOfPlace, BitWritten, WorkedTaken}
+use Rattle.linking_places.specs.Laws.{BitOfPlace, BitsFrom, BitWritten, WorkedTaken}
 use Rattle.linking_places.specs.Taken.{takenOf, treeBit}
 
 pub no-tree : (x : ℕ) → x ≡ none → treeBit x ≡ 0
@@ -51,6 +51,16 @@ next-power r = let z = pow-suc 2 r in omega (arith, z)
 -- the bits after the first are those of half the number
 later : (m r : ℕ) → m / 2 ^ (suc r) ≡ m / 2 / 2 ^ r
 later m r = sym (shr-shr m 1 r ∙ ap (λ k. m / 2 ^ k) (one-add r))
+
+zero-shifted : (r : ℕ) → 0 / 2 ^ r ≡ 0
+zero-shifted zero = refl
+zero-shifted (suc r) = later 0 r ∙ zero-shifted r
+
+pub bitsFrom : BitsFrom
+unfolding takenOf
+bitsFrom ps zero = omega arith
+bitsFrom [] (suc r) = zero-shifted (suc r)
+bitsFrom (x ∷ xs) (suc r) = later (takenOf (x ∷ xs)) r ∙ ap (λ m. m / 2 ^ r) (half x xs) ∙ bitsFrom xs r
 
 pub bitOfPlace : BitOfPlace
 unfolding takenOf

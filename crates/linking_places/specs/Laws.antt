@@ -3,7 +3,7 @@
 use Prim.Native.Nat.{ℕ, _+_, _*_, _/_, _%_, _^_, _<_}
 use mathlib.Core.Path.{_≡_}
 use mathlib.Core.List.{List, [], _∷_}
-use lib.ListN.{length, getD, set}
+use lib.ListN.{length, drop, getD, set}
 use Rattle.rules.specs.Forests.{none}
 use Rattle.linking_places.specs.Places.{Holdable, treeOf, treesOf, without}
 use Rattle.linking_places.specs.Taken.{takenOf, treeBit}
@@ -35,6 +35,10 @@ LeavesOne =
 -- The bit of a place says whether it is taken.
 abbrev pub BitOfPlace : Type 0
 BitOfPlace = (ps : List ℕ) (r : ℕ) → r < length ps → takenOf ps / 2 ^ r % 2 ≡ treeBit (getD ps r 0)
+
+-- The bits from a place on are those of the places from there on.
+abbrev pub BitsFrom : Type 0
+BitsFrom = (ps : List ℕ) (r : ℕ) → takenOf ps / 2 ^ r ≡ takenOf (drop r ps)
 
 -- A place that is written changes the number by its bit.
 abbrev pub BitWritten : Type 0

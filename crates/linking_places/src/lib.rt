@@ -4,9 +4,9 @@ ghost use mathlib.Core.Path.{_≡_};
 ghost use mathlib.Core.Logic.{_≢_};
 ghost use mathlib.Core.List.{List};
 ghost use mathlib.Core.Bool.{cond, not};
-ghost use Prim.Native.Nat.{ℕ, _<_};
+ghost use Prim.Native.Nat.{ℕ, _≤_, _<_};
 ghost use lib.Dec.{eqb};
-ghost use lib.ListN.{getD, replicate, set};
+ghost use lib.ListN.{drop, getD, replicate, set};
 ghost use Rattle.rules.specs.Forests.{none};
 ghost use Rattle.linking_places.specs.Places.{freePlace, Holdable, treesOf, without};
 ghost use Rattle.linking_places.specs.Taken.{takenOf, TakenAt};
@@ -84,6 +84,14 @@ pub fn is_taken(taken: u32, r: u16) -> bool
     ensures { λ b. ⌜ ((ps : List ℕ) → TakenAt ps taken r → b ≡ not (eqb (getD ps r 0) none)) ⌝ }
 {
     (taken >> (r as u32)) % 2 == 1
+}
+
+// Whether a place from place r on is taken.
+pub fn any_from(taken: u32, r: u16) -> bool
+    requires { ⌜ r ≤ 17 ⌝ }
+    ensures { λ b. ⌜ ((ps : List ℕ) → taken ≡ takenOf ps → b ≡ not (eqb (takenOf (drop r ps)) 0)) ⌝ }
+{
+    taken >> (r as u32) != 0
 }
 
 // The number of the taken places when place r, which was free, is taken.

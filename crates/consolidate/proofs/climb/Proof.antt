@@ -19,10 +19,10 @@ use Rattle.consolidate.proofs.ClimbLink.{climb-step, links-fit}
 use Rattle.consolidate.proofs.ClimbMeeting.{holder-inside, link-ready}
 use Rattle.consolidate.proofs.ClimbPlaces.{
   OnTheWay,
+  apart-by,
+  equal-by,
   holder-here,
   holder-leaves,
-  is-free,
-  is-tree,
   next-way,
   place-taken,
   was-false,
@@ -85,7 +85,7 @@ stands : (c : tie.Else1 Inv-loop μ-loop)
     → getD (treesOf (c .before .before .loop .places)) (c .before .before .loop .r) 0 ≢ none
 stands c =
     let l = c .before .before in
-    is-tree (c .before .is-taken .ensures _ (place-taken (here l) (l .loop .inv .1))) (was-true _ (c .if1 .left))
+    apart-by (c .before .is-taken .ensures _ (place-taken (here l) (l .loop .inv .1))) (was-true _ (c .if1 .left))
 
 holder-requires : tie.Need-holder-requires Inv-loop μ-loop
 holder-requires c κs =
@@ -184,7 +184,7 @@ free-here : (c : tie.Then1 Inv-loop μ-loop)
     → getD (treesOf (c .before .before .loop .places)) (c .before .before .loop .r) 0 ≡ none
 free-here c =
     let l = c .before .before in
-    is-free (c .before .is-taken .ensures _ (place-taken (here l) (l .loop .inv .1))) (was-false _ (c .if1 .taken))
+    equal-by (c .before .is-taken .ensures _ (place-taken (here l) (l .loop .inv .1))) (was-false _ (c .if1 .taken))
 
 take-place-requires : tie.Need-take-place-requires Inv-loop μ-loop
 take-place-requires c κs =

@@ -6,7 +6,7 @@ use lib.ListN.{getD}
 use Rattle.rules.specs.Forests.{none}
 use Rattle.linking_places.specs.Places.{treesOf}
 use Rattle.consolidate.specs.Writing.{WritesTree}
-use Rattle.consolidate.proofs.ClimbPlaces.{is-free, is-tree, was-false, was-true}
+use Rattle.consolidate.proofs.ClimbPlaces.{apart-by, equal-by, was-false, was-true}
 use Rattle.consolidate.proofs.WritingRow.{least-inside, none-written-tree, tree-inside, tree-ready, tree-written}
 use Rattle.consolidate.proofs.write_tree.Statement.{statement}
 use Rattle.consolidate.proofs.write_tree.Tie as tie
@@ -21,7 +21,7 @@ unfolding WritesTree
 returns c =
     let c1 = c .before in
     let p = c1 .before .before .pre in
-    λ written rest a t C W. none-written-tree C W (is-free (c1 .is-taken .ensures _ (p .1)) (was-false _ (c .if1 .taken)))
+    λ written rest a t C W. none-written-tree C W (equal-by (c1 .is-taken .ensures _ (p .1)) (was-false _ (c .if1 .taken)))
 
 -- the place has a tree
 stands : (c : tie.Else1) →
@@ -29,7 +29,7 @@ stands : (c : tie.Else1) →
     getD (treesOf (a .places .now)) (a .r) 0 ≢ none
 stands c =
     let c1 = c .before in
-    is-tree (c1 .is-taken .ensures _ (c1 .before .before .pre .1)) (was-true _ (c .if1 .left))
+    apart-by (c1 .is-taken .ensures _ (c1 .before .before .pre .1)) (was-true _ (c .if1 .left))
 
 holder-requires : tie.Need-holder-requires
 holder-requires c κs =
