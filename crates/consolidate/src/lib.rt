@@ -73,8 +73,8 @@ struct Linked {
 }
 
 // A tree of heap h comes to the places: it is linked with the holder of the place of its rank, and the winner climbs
-// one rank, until it rests at a free place. Whether a place is taken is asked of `taken`, so that the test need not wait
-// for the comparison that decides which tree is there; holders are read from the places as they were before.
+// one rank, until it rests at a free place. `taken` tells whether a place is taken before it is known by which tree;
+// holders are read from the places as they were before.
 fn climb(
     s: &mut [u32],
     n: usize,

@@ -45,7 +45,8 @@ left-tree x p k = go (eqb p x) refl (ltb p freePlace) refl
         rw (z, ne-eqb none x (λ q. omega (arith, q, k))) refl
 
 -- all of them
-pub all-left : (x i : ℕ) (ps : List ℕ) → x < freePlace → length ps ≤ i → treesOf (leftTo x i ps) ≡ without x (treesOf ps)
+pub all-left : (x i : ℕ) (ps : List ℕ) → x < freePlace → length ps ≤ i
+    → treesOf (leftTo x i ps) ≡ without x (treesOf ps)
 unfolding leftTo treesOf without
 all-left x zero [] k m = refl
 all-left x zero (p ∷ ps) k m = absurd (omega (arith, m))

@@ -46,8 +46,7 @@ fn digits_at(s: &[u8], at: usize) -> DigitRun
     let mut i = at;
     let mut v: u64 = 0;
     while i < stop {
-        // A byte below `0` wraps to a number above 9, so one test instead of two finds a byte that is no digit, and d is
-        // the value of a digit as it is.
+        // A byte below `0` wraps to a number above 9: one test instead of two finds a byte that is no digit.
         let d = std::num::wrapping_sub_u32(s[i] as u32, 48);
         if d > 9 {
             break;

@@ -21,7 +21,8 @@ unfolding WritesTree
 returns c =
     let c1 = c .before in
     let p = c1 .before .before .pre in
-    λ written rest a t C W. none-written-tree C W (equal-by (c1 .is-taken .ensures _ (p .1)) (was-false _ (c .if1 .taken)))
+    λ written rest a t C W.
+    none-written-tree C W (equal-by (c1 .is-taken .ensures _ (p .1)) (was-false _ (c .if1 .taken)))
 
 -- the place has a tree
 stands : (c : tie.Else1) →
@@ -69,4 +70,5 @@ returns-2 c =
 pub write-tree-spec : {M : Type 1} → statement M
 write-tree-spec =
     tie.close
-    (tie.spec is-taken-requires returns holder-requires append-requires lesser-of-requires (λ c. search needs) returns-2)
+    (tie.spec is-taken-requires returns holder-requires append-requires lesser-of-requires (λ c. search needs)
+    returns-2)
