@@ -30,15 +30,15 @@ module _ (b : ℕ) (bs : List ℕ) where
   unfolding digitRun isDigit
   run-high hi = let lo : 48 ≤ b = omega arith in simp (le-leb 48 b lo, lt-leb b 57 hi)
 
--- the byte b less 48 is d, wrapped to 32 bits
+-- the byte b less 48 is d, wrapped to 64 bits
 abbrev WrapsTo : (b d : ℕ) → Type 0
-WrapsTo b d = (d + 48) % 2 ^ 32 ≡ b
+WrapsTo b d = (d + 48) % 2 ^ 64 ≡ b
 
 module _ {b d : ℕ} (wraps : WrapsTo b d) where
   digit-byte : d ≤ 9 → b ≡ d + 48
   digit-byte small = omega arith
 
-  other-byte : d < 2 ^ 32 → 9 < d → (b < 48) ⊎ (57 < b)
+  other-byte : d < 2 ^ 64 → 9 < d → (b < 48) ⊎ (57 < b)
   other-byte fits large = ⊎-elim (λ (h : 48 ≤ b). inr (omega arith)) inl (le-or-lt 48 b)
 
 -- the run at a position of a text
@@ -100,7 +100,7 @@ module _ {s : List ℕ} {at i v : ℕ} (r : DigitsReadTo s at i v) where
         omega (arith, r .small, pow-le-pow-right {n = 10} (omega arith) few)
 
     module _ {d : ℕ} (wraps : WrapsTo (getD s i 0) d) where
-      pub other-read : d < 2 ^ 32 → 9 < d → DigitsRead (firstDigits s at) at i v
+      pub other-read : d < 2 ^ 64 → 9 < d → DigitsRead (firstDigits s at) at i v
       other-read fits large = run-read (ends-other s i inside (other-byte wraps fits large))
 
       module _ (small : d ≤ 9) where

@@ -47,11 +47,11 @@ fn digits_at(s: &[u8], at: usize) -> DigitRun
     let mut v: u64 = 0;
     while i < stop {
         // A byte below `0` wraps to a number above 9: one test instead of two finds a byte that is no digit.
-        let d = std::num::wrapping_sub_u32(s[i] as u32, 48);
+        let d = std::num::wrapping_sub_u64(s[i] as u64, 48);
         if d > 9 {
             break;
         }
-        v = v * 10 + (d as u64);
+        v = v * 10 + d;
         i += 1;
     }
     DigitRun { end: i, value: v }

@@ -18,23 +18,20 @@ reading-end-requires c κs = search needs
 loop-holds : tie.Need-loop-holds Inv-loop μ-loop
 loop-holds c = none-read _ _
 
-shared-slice-read-wrapping-sub-u32 : tie.Need-shared-slice-read-wrapping-sub-u32 Inv-loop μ-loop
-shared-slice-read-wrapping-sub-u32 c = search needs
+shared-slice-read-wrapping-sub-u64 : tie.Need-shared-slice-read-wrapping-sub-u64 Inv-loop μ-loop
+shared-slice-read-wrapping-sub-u64 c = search needs
 
-cast-wrapping-sub-u32 : tie.Need-cast-wrapping-sub-u32 Inv-loop μ-loop
-cast-wrapping-sub-u32 c = omega (arith, c .shared-slice-known2 .given (c .before .before .loop .i))
+cast-wrapping-sub-u64 : tie.Need-cast-wrapping-sub-u64 Inv-loop μ-loop
+cast-wrapping-sub-u64 c = omega (arith, c .shared-slice-known2 .given (c .before .before .loop .i))
 
-wrapping-sub-u32-requires : tie.Need-wrapping-sub-u32-requires Inv-loop μ-loop
-wrapping-sub-u32-requires c κs = search needs
+wrapping-sub-u64-requires : tie.Need-wrapping-sub-u64-requires Inv-loop μ-loop
+wrapping-sub-u64-requires c κs = search needs
 
 mul-v : tie.Need-mul-v Inv-loop μ-loop
 mul-v c =
     let test = c .before .before .before in
     let more = rw (test .before .before .reading-end .ensures) at (test .loop-test .taken) in
     omega (arith, value-fits (test .before .loop .inv) more)
-
-cast-v : tie.Need-cast-v Inv-loop μ-loop
-cast-v c = search needs
 
 add-v : tie.Need-add-v Inv-loop μ-loop
 add-v c =
@@ -52,7 +49,7 @@ loop-again : tie.Need-loop-again Inv-loop μ-loop
 loop-again c =
     let test = c .before .before .before in
     let more = rw (test .before .before .reading-end .ensures) at (test .loop-test .taken) in
-    one-read (test .before .loop .inv) more (c .before .wrapping-sub-u32 .ensures) (c .if1 .left)
+    one-read (test .before .loop .inv) more (c .before .wrapping-sub-u64 .ensures) (c .if1 .left)
 
 returns : tie.Need-returns Inv-loop μ-loop
 returns c = read-end (c .before .loop .inv) (rw (c .before .before .reading-end .ensures) at (c .loop-test .left))
@@ -61,7 +58,7 @@ returns-2 : tie.Need-returns-2 Inv-loop μ-loop
 returns-2 c =
     let test = c .before .before .before in
     let more = rw (test .before .before .reading-end .ensures) at (test .loop-test .taken) in
-    other-read (test .before .loop .inv) more (c .before .wrapping-sub-u32 .ensures) (omega arith) (c .if1 .taken)
+    other-read (test .before .loop .inv) more (c .before .wrapping-sub-u64 .ensures) (omega arith) (c .if1 .taken)
 
 pub digits-at-spec : {M : Type 1} → statement M
 digits-at-spec =
@@ -71,11 +68,10 @@ digits-at-spec =
     μ-loop
     reading-end-requires
     loop-holds
-    shared-slice-read-wrapping-sub-u32
-    cast-wrapping-sub-u32
-    wrapping-sub-u32-requires
+    shared-slice-read-wrapping-sub-u64
+    cast-wrapping-sub-u64
+    wrapping-sub-u64-requires
     mul-v
-    cast-v
     add-v
     add-i
     loop-less
