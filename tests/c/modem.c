@@ -47,6 +47,9 @@ int main(void) {
     expect("zeros before numbers", answered("0,255,7,0,0\n0,255,7,0,0\n6,0,0,0,0\n",
                                             run_text("I,07,0000000255,007\nT,07\nT,00000000007\n", 96)));
 
+    expect("bytes beside the digits", answered("6,0,0,0,0\n6,0,0,0,0\n6,0,0,0,0\n0,255,7,0,0\n",
+                                               run_text("T,:\nT,0/\nI,7,255,7:\nI,7,255,7\n", 4 * 32)));
+
     expect("raises", answered("0,255,7,0,0\n0,7,1,0,0\n0,255,4294967295,0,0\n25,0,0,0,0\n0,255,4294967295,0,0\n",
                               run_text("I,7,255,7\nA,7,4294967288\nM,7\nA,7,1\nT,7\n", 5 * 32)));
     expect("a raise of an empty heap", answered("0,7,0,0,0\n", run_text("A,7,4294967295\n", 32)));

@@ -1,20 +1,17 @@
 -- The laws of a place of 16 bits.
-use Prim.Native.Nat.{ℕ, _%_}
+use Prim.Native.Nat.{ℕ}
 use mathlib.Core.Path.{_≡_, refl, sym, _∙_}
 use mathlib.Core.Bool.{Bool, true, false}
 use native.Mathlib.Omega.{arith}
 use lib.Dec.{ltb}
 use borrow.Author.Tests.{ltb-true, ltb-false}
 use Rattle.rules.specs.Forests.{none}
-use Rattle.linking_places.specs.Laws.{CutStands, ItemsHoldable, OneNumber, WorkedPlaces}
+use Rattle.linking_places.specs.Laws.{ItemsStand, OneNumber, WorkedPlaces}
 use Rattle.linking_places.specs.Places.{freePlace, treeOf, treesOf}
-use Rattle.linking_places.proofs.Places.{tree-item, tree-none, tree-of}
+use Rattle.linking_places.proofs.Places.{tree-item, tree-none}
 
-pub itemsHoldable : ItemsHoldable
-itemsHoldable x i d = omega (arith, i)
-
-pub cutStands : CutStands
-cutStands x h = tree-of (x % 65536) x (λ d. (omega (arith, h d), h d)) (λ e. omega (arith, e))
+pub itemsStand : ItemsStand
+itemsStand x i = tree-item x (omega (arith, i))
 
 pub oneNumber : OneNumber
 oneNumber p q i j e = go (ltb p freePlace) refl (ltb q freePlace) refl

@@ -5,16 +5,12 @@ use mathlib.Core.Path.{_≡_}
 use mathlib.Core.List.{List, [], _∷_}
 use lib.ListN.{length, drop, getD, set}
 use Rattle.rules.specs.Forests.{none}
-use Rattle.linking_places.specs.Places.{Holdable, treeOf, treesOf, without}
+use Rattle.linking_places.specs.Places.{treeOf, treesOf, without}
 use Rattle.linking_places.specs.Taken.{takenOf, treeBit}
 
--- The items of a store end at 4,095: each can be held.
-abbrev pub ItemsHoldable : Type 0
-ItemsHoldable = (x : ℕ) → x < 4096 → Holdable x
-
--- What can be held stands there when it is cut to 16 bits: no item is lost, and `none` is a free place.
-abbrev pub CutStands : Type 0
-CutStands = (x : ℕ) → Holdable x → treeOf (x % 65536) ≡ x
+-- The items of a store end at 4,095: each stands at a place as it is.
+abbrev pub ItemsStand : Type 0
+ItemsStand = (x : ℕ) → x < 4096 → treeOf x ≡ x
 
 -- Two numbers of 16 bits that stand for one tree are one: what the places stand for leaves no choice of their bits.
 abbrev pub OneNumber : Type 0

@@ -1,6 +1,5 @@
 -- The places of linking in 16 bits. The rules have an item or `none` at a place: this is what its number stands for.
-use Prim.Native.Nat.{ℕ, _<_}
-use mathlib.Core.Logic.{_≢_}
+use Prim.Native.Nat.{ℕ}
 use mathlib.Core.List.{List, map}
 use mathlib.Core.Bool.{cond}
 use lib.Dec.{eqb, ltb}
@@ -17,10 +16,6 @@ treeOf p = cond (ltb p freePlace) p none
 -- what the numbers at all places stand for
 unfoldable pub treesOf : List ℕ → List ℕ
 treesOf = map treeOf
-
--- `none`, or an item that 16 bits tell from a free place
-abbrev pub Holdable : ℕ → Type 0
-Holdable x = x ≢ none → x < freePlace
 
 -- the places when the tree x has left
 unfoldable pub without : ℕ → List ℕ → List ℕ

@@ -8,7 +8,7 @@ ghost use Prim.Native.Nat.{ℕ, _≤_, _<_};
 ghost use lib.Dec.{eqb};
 ghost use lib.ListN.{drop, getD, replicate, set};
 ghost use Rattle.rules.specs.Forests.{none};
-ghost use Rattle.linking_places.specs.Places.{freePlace, Holdable, treesOf, without};
+ghost use Rattle.linking_places.specs.Places.{freePlace, treesOf, without};
 ghost use Rattle.linking_places.specs.Taken.{takenOf, TakenAt};
 
 // What a place holds that has no tree.
@@ -41,10 +41,10 @@ fn choose(i: u16, r: u16, place: u16, held: u16) -> u16
 // place, a copy of all would have to wait for it. For the same reason ranks have the width of a place.
 pub fn hold(held: [u16; 17], r: u16, x: u32) -> [u16; 17]
     requires { ⌜ r < 17 ⌝ }
-    requires { ⌜ Holdable x ⌝ }
+    requires { ⌜ x < freePlace ⌝ }
     ensures { λ q. ⌜ treesOf q ≡ set (treesOf held) r x ⌝ }
 {
-    let place = (x % 65536) as u16;
+    let place = x as u16;
     let mut places = held;
     let mut i = 0;
     while i < 17 {

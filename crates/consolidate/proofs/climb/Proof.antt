@@ -12,7 +12,6 @@ use Rattle.rules.specs.Forests.{Forests, none}
 use Rattle.rules.specs.Words.{look}
 use Rattle.linking_places.specs.Places.{treesOf}
 use Rattle.linking_places.specs.Taken.{takenOf}
-use Rattle.linking_places.proofs.Laws.{itemsHoldable}
 use Rattle.consolidate.specs.Consolidating.{Consolidating, Climbs, climbTree}
 use Rattle.consolidate.proofs.Climbing.{Climbing, climb-ends, climb-starts, rank-inside, tree-inside}
 use Rattle.consolidate.proofs.ClimbLink.{climb-step, links-fit}
@@ -194,7 +193,7 @@ take-place-requires c κs =
 hold-requires : tie.Need-hold-requires Inv-loop μ-loop
 hold-requires c κs =
     let g = here (c .before .before .before) in
-    (rank-inside g, itemsHoldable _ (omega (arith, tree-inside g, g .state .says .sized .small)))
+    (rank-inside g, omega (arith, tree-inside g, g .state .says .sized .small))
 
 returns : tie.Need-returns Inv-loop μ-loop
 unfolding Climbs

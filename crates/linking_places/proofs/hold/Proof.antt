@@ -4,7 +4,7 @@ use mathlib.Core.Path.{_≡_, sym, ap, _∙_}
 use native.Mathlib.Omega.{arith}
 use borrow.Author.Needs.{needs}
 use Rattle.linking_places.specs.Places.{treesOf}
-use Rattle.linking_places.proofs.Places.{tree-of, tree-put}
+use Rattle.linking_places.proofs.Places.{tree-item, tree-put}
 use Rattle.linking_places.proofs.Written.{is-set, next-written, none-written, written}
 use Rattle.linking_places.proofs.hold.Statement.{statement}
 use Rattle.linking_places.proofs.hold.Tie as tie
@@ -24,16 +24,13 @@ loop-again c =
     let a = c2 .before .args in
     rw (c .choose .ensures, c2 .loop .inv) (next-written (a .held) (a .r) _ (c2 .loop .i))
 
--- Not by `cutStands`: an item and none are shown apart, so that a wrong cut is refused where it is false.
 returns : tie.Need-returns Inv-loop μ-loop
 returns c =
     let c1 = c .before in
     let a = c1 .before .args in
-    let h = c1 .before .pre .1 in
     ap treesOf (c1 .loop .inv ∙ is-set (a .held) (a .r) _ (c1 .loop .i)
     (omega (arith, c .loop-test .left, c1 .before .pre .0)))
-    ∙ tree-put (a .held) (a .r) _ (a .x)
-    (tree-of _ (a .x) (λ d. (omega (arith, h d), h d)) (λ e. omega (arith, e)))
+    ∙ tree-put (a .held) (a .r) _ (a .x) (tree-item (a .x) (c1 .before .pre .1))
 
 pub hold-spec : {M : Type 1} → statement M
 hold-spec =
