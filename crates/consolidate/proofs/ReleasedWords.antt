@@ -8,21 +8,7 @@ use native.Mathlib.Omega.{arith}
 use lib.Dec.{eqb, leb}
 use borrow.Author.Tests.{eqb-true, leb-false, leb-true, ne-eqb}
 use Rattle.rules.specs.declared.Field.{Field}
-use Rattle.rules.specs.declared.Field.the-variants.{
-  FirstTree,
-  LastTree,
-  Minimum,
-  Count,
-  Amount,
-  Key,
-  Parent,
-  FirstChild,
-  LastChild,
-  Next,
-  Prev,
-  Rank,
-  State,
-}
+use Rattle.rules.specs.declared.Field.the-variants.{Count, Parent, State}
 use Rattle.rules.specs.Forests.{Forests, none, heapOf, markOf, parentOf}
 use Rattle.rules.specs.Lists.{occurs, sumBy}
 use Rattle.rules.specs.SetWord.{setWord}
@@ -49,6 +35,10 @@ use Rattle.consolidate.specs.Stored.{Beside, linked}
 use Rattle.consolidate.proofs.Beside.{beside-parent, beside-state}
 use Rattle.consolidate.proofs.MoveWords.{released-in, released-other, released-out}
 
+-- the kinds of words that a release stores
+abbrev own : List Field
+own = Parent ∷ State ∷ []
+
 -- ---- stores that may come before
 
 -- stores for two items, in either order
@@ -58,6 +48,10 @@ swap x c i a b d m = go (eqb c i) refl
     go : (t : Bool) → eqb c i ≡ t → cond t a (cond (eqb x i) b d) ≡ cond (eqb x i) b (cond t a d)
     go true e = rw (ne-eqb x i (λ z. m (eqb-true c i e ∙ sym z)))
     go false e = refl
+
+-- a change of values may as well come before the release of c, as to the words of kind f
+abbrev Before : ℕ → ℕ → (Values → Values) → Values → Field → Type 0
+Before h c g v f = (i : ℕ) → releasedOne h c (g v) f i ≡ g (releasedOne h c v) f i
 
 -- what may come before the release of each may come before that of all
 all-released : (h : ℕ) (g : Values → Values) (cs : List ℕ)
@@ -76,21 +70,10 @@ unfolding appended joined setNext setFirst setLast firstOf lastOf addRank parent
 released-appended h a l cs m =
     all-released h (appended (Children a) l) cs (λ c i v. fun-ext (λ f. fun-ext (λ j. one c (m c i) v f j)))
   where
-    one : (c : ℕ) → c ≢ l → (v : Values) (f : Field) (i : ℕ)
-        → releasedOne h c (appended (Children a) l v) f i ≡ appended (Children a) l (releasedOne h c v) f i
-    one c k v FirstTree i = refl
-    one c k v LastTree i = refl
-    one c k v Minimum i = refl
-    one c k v Count i = refl
-    one c k v Amount i = refl
-    one c k v Key i = refl
-    one c k v Parent i = swap l c i none a (v Parent i) k
-    one c k v FirstChild i = refl
-    one c k v LastChild i = refl
-    one c k v Next i = refl
-    one c k v Prev i = refl
-    one c k v Rank i = refl
-    one c k v State i = refl
+    one : (c : ℕ) → c ≢ l → (v : Values) (f : Field) → Before h c (appended (Children a) l) v f
+    one c k v =
+        by-kinds own (Before h c (appended (Children a) l) v) (λ i. swap l c i none a (v Parent i) k) (λ i. refl)
+        (λ f o i. let e = apart-from own f o in rw (e State refl, e Parent refl))
 
 -- siblings joined to the row
 pub released-joined : (h g a b : ℕ) (cs : List ℕ) (v : Values)
@@ -100,23 +83,12 @@ released-joined h g a b cs =
     all-released h (concatenated (Row g) a b) cs (λ c i v. fun-ext (λ f. fun-ext (λ j. one c v (eqb a none) f j)))
   where
     -- t: there are none
-    one : (c : ℕ) (v : Values) (t : Bool) (f : Field) (i : ℕ)
-        → releasedOne h c (cond t v (joined (Row g) (lastOf (Row g) v) a b v)) f i
-        ≡ cond t (releasedOne h c v) (joined (Row g) (lastOf (Row g) (releasedOne h c v)) a b (releasedOne h c v)) f i
-    one c v true f i = refl
-    one c v false FirstTree i = refl
-    one c v false LastTree i = refl
-    one c v false Minimum i = refl
-    one c v false Count i = refl
-    one c v false Amount i = refl
-    one c v false Key i = refl
-    one c v false Parent i = refl
-    one c v false FirstChild i = refl
-    one c v false LastChild i = refl
-    one c v false Next i = refl
-    one c v false Prev i = refl
-    one c v false Rank i = refl
-    one c v false State i = refl
+    one : (c : ℕ) (v : Values) (t : Bool) (f : Field)
+        → Before h c (λ u. cond t u (joined (Row g) (lastOf (Row g) u) a b u)) v f
+    one c v true = λ f i. refl
+    one c v false =
+        by-kinds own (Before h c (λ u. joined (Row g) (lastOf (Row g) u) a b u) v) (λ i. refl) (λ i. refl)
+        (λ f o i. let e = apart-from own f o in rw (e State refl, e Parent refl))
 
 -- another item freed, and a count
 pub released-freed : (h x g k : ℕ) (cs : List ℕ) → ((c : ℕ) → 1 ≤ occurs c cs → c ≢ x) → (v : Values)
@@ -126,22 +98,11 @@ released-freed h x g k cs m =
     all-released h (λ v. setWord Count g k (freeItem x v)) cs
     (λ c i v. fun-ext (λ f. fun-ext (λ j. one c (m c i) v f j)))
   where
-    one : (c : ℕ) → c ≢ x → (v : Values) (f : Field) (i : ℕ)
-        → releasedOne h c (setWord Count g k (freeItem x v)) f i
-        ≡ setWord Count g k (freeItem x (releasedOne h c v)) f i
-    one c m v FirstTree i = refl
-    one c m v LastTree i = refl
-    one c m v Minimum i = refl
-    one c m v Count i = refl
-    one c m v Amount i = refl
-    one c m v Key i = refl
-    one c m v Parent i = swap x c i none 0 (v Parent i) m
-    one c m v FirstChild i = refl
-    one c m v LastChild i = refl
-    one c m v Next i = refl
-    one c m v Prev i = refl
-    one c m v Rank i = refl
-    one c m v State i = swap x c i (1 + 2 * h) 0 (v State i) m
+    one : (c : ℕ) → c ≢ x → (v : Values) (f : Field) → Before h c (λ u. setWord Count g k (freeItem x u)) v f
+    one c m v =
+        by-kinds own (Before h c (λ u. setWord Count g k (freeItem x u)) v)
+        (λ i. swap x c i none 0 (v Parent i) m) (λ i. swap x c i (1 + 2 * h) 0 (v State i) m)
+        (λ f o i. let e = apart-from own f o in rw (e State refl, e Parent refl))
 
 -- ---- roots
 
@@ -150,7 +111,7 @@ abbrev pub Root : ℕ → Forests → ℕ → Type 0
 Root h t x = (heapOf t x ≡ suc h) × (parentOf t x ≡ none) × (markOf t x ≡ 0)
 
 abbrev all : List Field
-all = also (Parent ∷ State ∷ []) linked
+all = also own linked
 
 module _ {n h : ℕ} {amounts : ℕ → ℕ} {t : Forests} where
   -- it has the words of a root already
@@ -160,7 +121,7 @@ module _ {n h : ℕ} {amounts : ℕ → ℕ} {t : Forests} where
   root-released {v} B y (k, p, m) =
       record {
         size = B .size;
-        words = by-others linked (Parent ∷ State ∷ []) (Agree n (releasedOne h y v) amounts t) new-parent new-state
+        words = by-others linked own (Agree n (releasedOne h y v) amounts t) new-parent new-state
             (λ f o i l.
             let e = apart-from all f o in
             rw (e State refl, e Parent refl) (B .words f (apart-some all linked f refl o) i l));
@@ -213,7 +174,7 @@ released-twice h cs ρ m v = fun-ext (λ f. fun-ext (λ i. go f i))
 
     go : (f : Field) (i : ℕ) → released h ρ (released h cs v) f i ≡ released h ρ v f i
     go =
-        by-kinds (Parent ∷ State ∷ []) (λ f. (i : ℕ) → released h ρ (released h cs v) f i ≡ released h ρ v f i)
+        by-kinds own (λ f. (i : ℕ) → released h ρ (released h cs v) f i ≡ released h ρ v f i)
         (λ i. either Parent i (λ k. released-in h ρ (released h cs v) i k .0 ∙ sym (released-in h ρ v i k .0)))
         (λ i. either State i (λ k. released-in h ρ (released h cs v) i k .1 ∙ sym (released-in h ρ v i k .1)))
         (λ f o i.
