@@ -14,33 +14,33 @@ use borrow.Author.Tests.{eqb-true, eqb-false}
 use Rattle.rules.specs.declared.Layout.{Layout}
 use Rattle.rules.specs.declared.Field.TheVariants.{State}
 use Rattle.rules.specs.Lists.{indicator, sum_to}
-use Rattle.rules.specs.Words.{lookIn, stateHeap}
+use Rattle.rules.specs.Words.{look_in, state_heap}
 use Rattle.store.specs.Says.{Values}
-use Rattle.soundness.specs.Check.{allTo, heap_at}
+use Rattle.soundness.specs.Check.{all_to, heap_at}
 use Rattle.audit.specs.Promises.{StatesLow}
-use Rattle.soundness.proofs.Booleans.{allTo-at}
-use Rattle.soundness.proofs.States.{heap-low}
+use Rattle.soundness.proofs.Booleans.{all_to-at}
+use Rattle.soundness.proofs.States.{heap_low}
 
-pub sumTo-more : (i : ℕ) (f : ℕ → ℕ) → sum_to (i + 1) f ≡ sum_to i f + f i
+pub sum_to_more : (i : ℕ) (f : ℕ → ℕ) → sum_to (i + 1) f ≡ sum_to i f + f i
 unfolding sum_to
-sumTo-more i f = rw add-one
+sum_to_more i f = rw add-one
 
-pub allTo-more : (i : ℕ) (f : ℕ → Bool) → allTo i f ≡ true → f i ≡ true → allTo (i + 1) f ≡ true
-unfolding allTo
-allTo-more i f a b = rw (add-one, a, b)
+pub all_to_more : (i : ℕ) (f : ℕ → Bool) → all_to i f ≡ true → f i ≡ true → all_to (i + 1) f ≡ true
+unfolding all_to
+all_to_more i f a b = rw (add-one, a, b)
 
-pub allTo-not : (n : ℕ) (f : ℕ → Bool) (i : ℕ) → i < n → f i ≡ false → allTo n f ≡ false
-allTo-not n f i k e = go (allTo n f) refl
+pub all_to_not : (n : ℕ) (f : ℕ → Bool) (i : ℕ) → i < n → f i ≡ false → all_to n f ≡ false
+all_to_not n f i k e = go (all_to n f) refl
   where
-    go : (t : Bool) → allTo n f ≡ t → t ≡ false
-    go true q = absurd (true≢false (sym (allTo-at n f q i k) ∙ e))
+    go : (t : Bool) → all_to n f ≡ t → t ≡ false
+    go true q = absurd (true≢false (sym (all_to-at n f q i k) ∙ e))
     go false q = refl
 
 -- at most one for each number
-pub indicators-bound : (n : ℕ) (f : ℕ → Bool) → sum_to n (λ i. indicator (f i)) ≤ n
+pub indicators_bound : (n : ℕ) (f : ℕ → Bool) → sum_to n (λ i. indicator (f i)) ≤ n
 unfolding sum_to
-indicators-bound zero f = le_refl 0
-indicators-bound (suc n) f = omega (arith, indicators-bound n f, one (f n))
+indicators_bound zero f = le_refl 0
+indicators_bound (suc n) f = omega (arith, indicators_bound n f, one (f n))
   where
     one : (t : Bool) → indicator t ≤ 1
     one true = le_refl 1
@@ -66,13 +66,13 @@ module _ (n : ℕ) (v : Values) where
   unfolding sum_to
   counts_start = record { size = length-replicate {A = ℕ} 9 0; each = λ v _. zeros 9 v }
 
-  pub counts-more : (i heap : ℕ) (counts : List ℕ) → heap ≡ heap_at n v i → heap < 9 → CountsTo i counts
+  pub counts_more : (i heap : ℕ) (counts : List ℕ) → heap ≡ heap_at n v i → heap < 9 → CountsTo i counts
       → CountsTo (i + 1) (set counts heap (get_or counts heap 0 + 1))
-  counts-more i heap counts e k C =
+  counts_more i heap counts e k C =
       record { size = rw length-set C.size; each = λ g h. go g h (eqb heap g) refl }
     where
       next : (g : ℕ) → count_to (i + 1) g ≡ count_to i g + indicator (eqb heap g)
-      next g = rw e (sumTo-more i (λ j. indicator (eqb (heap_at n v j) g)))
+      next g = rw e (sum_to_more i (λ j. indicator (eqb (heap_at n v j) g)))
 
       go : (g : ℕ) → g < 9 → (t : Bool) → eqb heap g ≡ t
           → get_or (set counts heap (get_or counts heap 0 + 1)) g 0 ≡ count_to (i + 1) g
@@ -90,8 +90,8 @@ module _ (n : ℕ) (v : Values) where
           ∙ omega (arith, next g, C.each g h)
 
 -- the heap that a state word names is a place among the counts
-pub heap-index : (o : Layout) (n : ℕ) (w : List ℕ) → StatesLow o n w → (i state heap : ℕ) → i < n
-    → state ≡ lookIn o n w State i → heap ≡ stateHeap state → heap < 9
-heap-index o n w L i state heap k e f =
+pub heap_index : (o : Layout) (n : ℕ) (w : List ℕ) → StatesLow o n w → (i state heap : ℕ) → i < n
+    → state ≡ look_in o n w State i → heap ≡ state_heap state → heap < 9
+heap_index o n w L i state heap k e f =
     let a : state ≤ 16 = omega (arith, L.low i k) in
-    omega (arith, heap-low state a)
+    omega (arith, heap_low state a)

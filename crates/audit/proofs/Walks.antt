@@ -3,7 +3,7 @@ use Prim.Native.Nat.{ℕ, zero, suc, ◌+◌, ◌-◌, ◌≤◌, ◌<◌}
 use mathlib.Core.Path.{◌≡◌, refl, sym, ◌∙◌}
 use mathlib.Core.Logic.{◌≢◌, ◌⊎◌, inl, inr}
 use mathlib.Core.List.{List, [], ◌∷◌}
-use mathlib.Core.Bool.{Bool, true, false, ◌&&◌, ◌||◌, and_comm, or-true, true≢false}
+use mathlib.Core.Bool.{Bool, true, false, ◌&&◌, ◌||◌, and_comm, or_true, true≢false}
 use native.Mathlib.Nat.{zero-add}
 use native.Mathlib.Numerals.{add-one}
 use native.Mathlib.Omega.{arith}
@@ -13,37 +13,37 @@ use borrow.Author.Tests.{eqb-true, leb-true, leb-false, le-leb, lt-leb, eq-eqb, 
 use Rattle.rules.specs.declared.Field.TheVariants.{Next}
 use Rattle.rules.specs.Forests.{none}
 use Rattle.rules.specs.Words.{head_or, last_or, follow, list_from}
-use Rattle.rules.proofs.Occurs.{and_split, and-true, and-false, eqb-self}
+use Rattle.rules.proofs.Occurs.{and_split, and_true, and_false, eqb_self}
 use Rattle.store.specs.Says.{Values}
 use Rattle.soundness.specs.declared.Siblings.{Siblings}
-use Rattle.soundness.specs.Check.{namesOwner, linksOk, listOk, childRankOk, childRanksOk}
-use Rattle.soundness.proofs.Lists.{is-owned}
-use Rattle.audit.specs.Promises.{linkOk, siblingsOk, ifOk, lengthIfOk}
+use Rattle.soundness.specs.Check.{names_owner, links_ok, list_ok, child_rank_ok, child_ranks_ok}
+use Rattle.soundness.proofs.Lists.{is_owned}
+use Rattle.audit.specs.Promises.{link_ok, siblings_ok, if_ok, length_if_ok}
 
 -- as the code compares a child's rank
-pub rank-test : (i rank mark : ℕ) → leb i (rank + mark + 1) ≡ leb (i - (1 + mark)) rank
-rank-test i rank mark = go (leb i (rank + mark + 1)) refl
+pub rank_test : (i rank mark : ℕ) → leb i (rank + mark + 1) ≡ leb (i - (1 + mark)) rank
+rank_test i rank mark = go (leb i (rank + mark + 1)) refl
   where
     go : (t : Bool) → leb i (rank + mark + 1) ≡ t → t ≡ leb (i - (1 + mark)) rank
     go true e = sym (le-leb (i - (1 + mark)) rank (omega (arith, leb-true i (rank + mark + 1) e)))
     go false e = sym (lt-leb (i - (1 + mark)) rank (omega (arith, leb-false i (rank + mark + 1) e)))
 
 -- the tests of a list that starts with an item: where those of the item fail, and where they hold
-tests-fail : (a b c d e f p r q : Bool) → (a && b && (p || r)) ≡ false
+tests_fail : (a b c d e f p r q : Bool) → (a && b && (p || r)) ≡ false
     → (a && b && c && d && e && f && (p || (r && q))) ≡ false
-tests-fail true true c d e f true r q z = absurd (true≢false z)
-tests-fail true true c d e f false true q z = absurd (true≢false z)
-tests-fail true true c d e f false false q z = and-false (c && d && e && f)
-tests-fail true false c d e f p r q z = refl
-tests-fail false b c d e f p r q z = refl
+tests_fail true true c d e f true r q z = absurd (true≢false z)
+tests_fail true true c d e f false true q z = absurd (true≢false z)
+tests_fail true true c d e f false false q z = and_false (c && d && e && f)
+tests_fail true false c d e f p r q z = refl
+tests_fail false b c d e f p r q z = refl
 
-tests-hold : (a b c d f p r q : Bool) → (a && b && (p || r)) ≡ true
+tests_hold : (a b c d f p r q : Bool) → (a && b && (p || r)) ≡ true
     → (a && b && c && d && true && f && (p || (r && q))) ≡ (d && c && f && (p || q))
-tests-hold true true c d f true r q z = rw (and-true (c && d), and_comm c d)
-tests-hold true true c d f false true q z = rw (and-true (c && d), and_comm c d)
-tests-hold true true c d f false false q z = absurd (true≢false (sym z))
-tests-hold true false c d f p r q z = absurd (true≢false (sym z))
-tests-hold false b c d f p r q z = absurd (true≢false (sym z))
+tests_hold true true c d f true r q z = rw (and_true (c && d), and_comm c d)
+tests_hold true true c d f false true q z = rw (and_true (c && d), and_comm c d)
+tests_hold true true c d f false false q z = absurd (true≢false (sym z))
+tests_hold true false c d f p r q z = absurd (true≢false (sym z))
+tests_hold false b c d f p r q z = absurd (true≢false (sym z))
 
 module _ (n : ℕ) (v : Values) where
   abbrev pub next : ℕ → ℕ
@@ -65,67 +65,67 @@ module _ (n : ℕ) (v : Values) where
 
 module _ (n : ℕ) (v : Values) (l : Siblings) where
   -- the tests of the rest of a list, which starts with item x, the i-th, and has prev before it
-  unfoldable pub restOk : ℕ → ℕ → ℕ → List ℕ → Bool
-  restOk prev i x xs =
-      linksOk n v l prev xs && eqb x (head_or none xs) && eqb l.last (last_or prev xs)
-      && (eqb l.parent none || childRanksOk n v i xs)
+  unfoldable pub rest_ok : ℕ → ℕ → ℕ → List ℕ → Bool
+  rest_ok prev i x xs =
+      links_ok n v l prev xs && eqb x (head_or none xs) && eqb l.last (last_or prev xs)
+      && (eqb l.parent none || child_ranks_ok n v i xs)
 
   -- the answer, if j items are passed
-  unfoldable pub lengthFrom : ℕ → ℕ → ℕ → ℕ
-  lengthFrom j prev x =
-      ifOk (restOk prev (suc j) x (follow (n - j) (next n v) x)) (j + length (follow (n - j) (next n v) x))
+  unfoldable pub length_from : ℕ → ℕ → ℕ → ℕ
+  length_from j prev x =
+      if_ok (rest_ok prev (suc j) x (follow (n - j) (next n v) x)) (j + length (follow (n - j) (next n v) x))
 
-  pub link-inside : (prev i x : ℕ) → linkOk n v l prev i x ≡ true → x < n
-  unfolding linkOk
-  link-inside prev i x e = (is-owned n v l x (and_split _ _ (and_split _ _ e).0).0).inside
+  pub link_inside : (prev i x : ℕ) → link_ok n v l prev i x ≡ true → x < n
+  unfolding link_ok
+  link_inside prev i x e = (is_owned n v l x (and_split _ _ (and_split _ _ e).0).0).inside
 
-  pub walk_start : lengthFrom 0 none l.first ≡ lengthIfOk n v l
-  unfolding lengthFrom restOk siblingsOk listOk list_from
+  pub walk_start : length_from 0 none l.first ≡ length_if_ok n v l
+  unfolding length_from rest_ok siblings_ok list_ok list_from
   walk_start = let e : n - 0 ≡ n = omega arith in rw (e, zero-add)
 
-  rest-fails : (prev i x : ℕ) (xs : List ℕ) → linkOk n v l prev i x ≡ false → restOk prev i x (x ∷ xs) ≡ false
-  unfolding restOk linkOk linksOk childRanksOk
-  rest-fails prev i x xs e =
-      tests-fail (namesOwner n v l x) _ _ _ _ _ (eqb l.parent none) (childRankOk n v i x)
-      (childRanksOk n v (suc i) xs) e
+  rest_fails : (prev i x : ℕ) (xs : List ℕ) → link_ok n v l prev i x ≡ false → rest_ok prev i x (x ∷ xs) ≡ false
+  unfolding rest_ok link_ok links_ok child_ranks_ok
+  rest_fails prev i x xs e =
+      tests_fail (names_owner n v l x) _ _ _ _ _ (eqb l.parent none) (child_rank_ok n v i x)
+      (child_ranks_ok n v (suc i) xs) e
 
-  rest-goes-on : (prev i x : ℕ) (xs : List ℕ) → linkOk n v l prev i x ≡ true
-      → restOk prev i x (x ∷ xs) ≡ restOk x (suc i) (next n v x) xs
-  unfolding restOk linkOk linksOk head_or last_or childRanksOk
-  rest-goes-on prev i x xs e =
-      rw (eqb-self x)
-      (tests-hold (namesOwner n v l x) _ _ _ _ (eqb l.parent none) (childRankOk n v i x)
-      (childRanksOk n v (suc i) xs) e)
+  rest_goes_on : (prev i x : ℕ) (xs : List ℕ) → link_ok n v l prev i x ≡ true
+      → rest_ok prev i x (x ∷ xs) ≡ rest_ok x (suc i) (next n v x) xs
+  unfolding rest_ok link_ok links_ok head_or last_or child_ranks_ok
+  rest_goes_on prev i x xs e =
+      rw (eqb_self x)
+      (tests_hold (names_owner n v l x) _ _ _ _ (eqb l.parent none) (child_rank_ok n v i x)
+      (child_ranks_ok n v (suc i) xs) e)
 
   -- nothing is left of a list that has ended, or is too long
-  rest_ended : (prev i x : ℕ) → restOk prev i x [] ≡ (eqb x none && eqb l.last prev)
-  unfolding restOk linksOk head_or last_or childRanksOk
-  rest_ended prev i x = rw (or-true, and-true)
+  rest_ended : (prev i x : ℕ) → rest_ok prev i x [] ≡ (eqb x none && eqb l.last prev)
+  unfolding rest_ok links_ok head_or last_or child_ranks_ok
+  rest_ended prev i x = rw (or_true, and_true)
 
   -- the ways out of the walk, whose answer is a
-  pub walk_refused : (j prev x a : ℕ) → j < n → x ≢ none → linkOk n v l prev (j + 1) x ≡ false
-      → lengthFrom j prev x ≡ a → 0 ≡ a
-  unfolding lengthFrom
+  pub walk_refused : (j prev x a : ℕ) → j < n → x ≢ none → link_ok n v l prev (j + 1) x ≡ false
+      → length_from j prev x ≡ a → 0 ≡ a
+  unfolding length_from
   walk_refused j prev x a h m e i =
-      sym (rw (one_more n v j x h m, rest-fails prev (suc j) x _ (rw add-one at e))) ∙ i
+      sym (rw (one_more n v j x h m, rest_fails prev (suc j) x _ (rw add-one at e))) ∙ i
 
-  pub walk-ended : (j prev x a : ℕ) → ((n ≤ j) ⊎ (x ≡ none)) → lengthFrom j prev x ≡ a
-      → ifOk (eqb x none && eqb l.last prev) j ≡ a
-  unfolding lengthFrom
-  walk-ended j prev x a o i =
+  pub walk_ended : (j prev x a : ℕ) → ((n ≤ j) ⊎ (x ≡ none)) → length_from j prev x ≡ a
+      → if_ok (eqb x none && eqb l.last prev) j ≡ a
+  unfolding length_from
+  walk_ended j prev x a o i =
       let z : j + 0 ≡ j = omega arith in
       sym (rw (nothing_left n v j x o, rest_ended prev (suc j) x, z)) ∙ i
 
   -- an empty list
-  pub walk-empty : (eqb l.first none && eqb l.last none) ≡ true → 1 ≡ lengthIfOk n v l
-  walk-empty e =
-      rw e at (walk-ended 0 none l.first _ (inr (eqb-true l.first none (and_split _ _ e).0)) walk_start)
+  pub walk_empty : (eqb l.first none && eqb l.last none) ≡ true → 1 ≡ length_if_ok n v l
+  walk_empty e =
+      rw e at (walk_ended 0 none l.first _ (inr (eqb-true l.first none (and_split _ _ e).0)) walk_start)
 
   -- one step
-  pub walk_more : (j prev x : ℕ) → j < n → x ≢ none → linkOk n v l prev (j + 1) x ≡ true
-      → lengthFrom (j + 1) x (next n v x) ≡ lengthFrom j prev x
-  unfolding lengthFrom
+  pub walk_more : (j prev x : ℕ) → j < n → x ≢ none → link_ok n v l prev (j + 1) x ≡ true
+      → length_from (j + 1) x (next n v x) ≡ length_from j prev x
+  unfolding length_from
   walk_more j prev x h m e =
       let xs = follow (n - (j + 1)) (next n v) (next n v x) in
       let k : j + suc (length xs) ≡ j + 1 + length xs = omega arith in
-      rw (one_more n v j x h m, rest-goes-on prev (suc j) x xs (rw add-one at e), k, add-one j)
+      rw (one_more n v j x h m, rest_goes_on prev (suc j) x xs (rw add-one at e), k, add-one j)

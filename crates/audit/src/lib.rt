@@ -1,12 +1,12 @@
-//! The check of a store: are its words, in the given order, those of well-formed queues? It reads words alone and keeps
+//! The check of a store: are its words, in the given order, those of well_formed queues? It reads words alone and keeps
 //! no list. Its time grows with the number of items: an item passes in one list only, the one that its own words name.
 ghost use Rattle.std.specs.Prelude.{◌≡◌, suc, ◌<◌};
 ghost use Rattle.rules.specs.Order.{minimum};
-ghost use Rattle.rules.specs.Words.{lookIn, stateHeap, stateMark, decodeForests};
+ghost use Rattle.rules.specs.Words.{look_in, state_heap, state_mark, decode_forests};
 ghost use Rattle.store.specs.Says.{Sized, Within};
-ghost use Rattle.soundness.specs.Check.{parentOk, freeZero, itemOk, countAt, allOk, soundWordsIn, soundWords};
+ghost use Rattle.soundness.specs.Check.{parent_ok, free_zero, item_ok, count_at, all_ok, sound_words_in, sound_words};
 ghost use Rattle.audit.specs.Promises.{Item, HasState, StatesLow, RowInside, AtMost, Counts};
-ghost use Rattle.audit.specs.Promises.{linkOk, lengthIfOk, ranksIfOk, heapIfOk, treesIfOk};
+ghost use Rattle.audit.specs.Promises.{link_ok, length_if_ok, ranks_if_ok, heap_if_ok, trees_if_ok};
 
 use rules::{Field, Layout};
 use soundness::Siblings;
@@ -18,20 +18,20 @@ const NONE: usize = 4294967295;
 // Word i of a kind, as a number of any width.
 fn word_at(store: &[u32], layout: Layout, n: usize, field: Field, i: usize) -> usize
     requires { Within n store.now field i }
-    ensures { AtMost (lookIn layout n store.now field i) 4294967295 result }
+    ensures { AtMost (look_in layout n store.now field i) 4294967295 result }
 {
     get_in(store, layout, n, field, i as u32) as usize
 }
 
 // The heap that a state word names: 0 for a free item, else 1 + its number.
 fn heap_of(state: usize) -> usize
-    ensures { AtMost (stateHeap state) state result }
+    ensures { AtMost (state_heap state) state result }
 {
     state / 2 + state % 2
 }
 
 fn mark_of(state: usize) -> usize
-    ensures { AtMost (stateMark state) 1 result }
+    ensures { AtMost (state_mark state) 1 result }
 {
     if state == 0 { 0 } else { (state - 1) % 2 }
 }
@@ -47,7 +47,7 @@ fn link_ok(
     x: usize,
 ) -> bool
     requires { Sized n store.now }
-    ensures { result ≡ linkOk n (lookIn layout n store.now) l prev i x }
+    ensures { result ≡ link_ok n (look_in layout n store.now) l prev i x }
 {
     if x >= n {
         return false;
@@ -67,7 +67,7 @@ fn link_ok(
 // One more than the length of a list of siblings, 0 if it is not right.
 fn walk_list(store: &[u32], layout: Layout, n: usize, l: Siblings) -> usize
     requires { Sized n store.now }
-    ensures { AtMost (lengthIfOk n (lookIn layout n store.now) l) 4097 result }
+    ensures { AtMost (length_if_ok n (look_in layout n store.now) l) 4097 result }
 {
     let mut prev = NONE;
     let mut x = l.first;
@@ -94,7 +94,7 @@ fn walk_list(store: &[u32], layout: Layout, n: usize, l: Siblings) -> usize
 // The same of the children of an item: most have none, and then there is no list to walk along.
 fn children_length(store: &[u32], layout: Layout, n: usize, l: Siblings) -> usize
     requires { Sized n store.now }
-    ensures { AtMost (lengthIfOk n (lookIn layout n store.now) l) 4097 result }
+    ensures { AtMost (length_if_ok n (look_in layout n store.now) l) 4097 result }
 {
     if (l.first == NONE) & (l.last == NONE) {
         return 1;
@@ -105,7 +105,7 @@ fn children_length(store: &[u32], layout: Layout, n: usize, l: Siblings) -> usiz
 // A root is unmarked; any other item has a parent in its heap that comes before it.
 fn parent_ok(store: &[u32], layout: Layout, n: usize, i: usize, state: usize) -> bool
     requires { HasState layout n store.now i state }
-    ensures { result ≡ parentOk n (lookIn layout n store.now) i }
+    ensures { result ≡ parent_ok n (look_in layout n store.now) i }
 {
     let parent = word_at(store, layout, n, Field::Parent, i);
     if parent == NONE {
@@ -123,7 +123,7 @@ fn parent_ok(store: &[u32], layout: Layout, n: usize, i: usize, state: usize) ->
 // All words of a free item are 0.
 fn free_zero(store: &[u32], layout: Layout, n: usize, i: usize) -> bool
     requires { Item n store.now i }
-    ensures { result ≡ freeZero n (lookIn layout n store.now) i }
+    ensures { result ≡ free_zero n (look_in layout n store.now) i }
 {
     let key = word_at(store, layout, n, Field::Key, i);
     let parent = word_at(store, layout, n, Field::Parent, i);
@@ -144,7 +144,7 @@ fn free_zero(store: &[u32], layout: Layout, n: usize, i: usize) -> bool
 // An item of a heap has as many children as its rank says.
 fn item_ok(store: &[u32], layout: Layout, n: usize, i: usize) -> bool
     requires { Item n store.now i }
-    ensures { result ≡ itemOk n (lookIn layout n store.now) i }
+    ensures { result ≡ item_ok n (look_in layout n store.now) i }
 {
     let state = word_at(store, layout, n, Field::State, i);
     if state == 0 {
@@ -175,7 +175,7 @@ fn item_ok(store: &[u32], layout: Layout, n: usize, i: usize) -> bool
 // One more than the sum of all ranks, 0 if some item is not right.
 fn ranks(store: &[u32], layout: Layout, n: usize) -> usize
     requires { Sized n store.now }
-    ensures { AtMost (ranksIfOk n (lookIn layout n store.now)) 17592186040321 result }
+    ensures { AtMost (ranks_if_ok n (look_in layout n store.now)) 17592186040321 result }
 {
     let mut sum: usize = 0;
     let mut i: usize = 0;
@@ -193,7 +193,7 @@ fn ranks(store: &[u32], layout: Layout, n: usize) -> usize
 // How many items are free, and how many are in each heap.
 fn counts(store: &[u32], layout: Layout, n: usize) -> [usize; 9]
     requires { StatesLow layout n store.now }
-    ensures { Counts n (lookIn layout n store.now) result }
+    ensures { Counts n (look_in layout n store.now) result }
 {
     let mut counts: [usize; 9] = [0; 9];
     let mut i: usize = 0;
@@ -208,8 +208,8 @@ fn counts(store: &[u32], layout: Layout, n: usize) -> [usize; 9]
 // The least of the roots of heap h, NONE where there is none.
 fn least_root(store: &[u32], layout: Layout, n: usize, h: usize) -> u32
     requires sized { Sized n store.now }
-    requires row_inside { RowInside n (lookIn layout n store.now) h }
-    ensures { result ≡ minimum (decodeForests n (lookIn layout n store.now)) h }
+    requires row_inside { RowInside n (look_in layout n store.now) h }
+    ensures { result ≡ minimum (decode_forests n (look_in layout n store.now)) h }
 {
     let mut least = store::NONE;
     let mut x = get_in(store, layout, n, Field::FirstTree, h as u32);
@@ -229,8 +229,8 @@ fn least_root(store: &[u32], layout: Layout, n: usize, h: usize) -> u32
 fn heap_length(store: &[u32], layout: Layout, n: usize, h: usize, count: usize) -> usize
     requires sized { Sized n store.now }
     requires h_bound { h < 8 }
-    requires count_value { count ≡ countAt n (lookIn layout n store.now) (suc h) }
-    ensures { AtMost (heapIfOk n (lookIn layout n store.now) h) 4097 result }
+    requires count_value { count ≡ count_at n (look_in layout n store.now) (suc h) }
+    ensures { AtMost (heap_if_ok n (look_in layout n store.now) h) 4097 result }
 {
     let first = word_at(store, layout, n, Field::FirstTree, h);
     let last = word_at(store, layout, n, Field::LastTree, h);
@@ -262,8 +262,8 @@ fn heap_length(store: &[u32], layout: Layout, n: usize, h: usize, count: usize) 
 // One more than the number of all trees, 0 if some heap is not right.
 fn trees(store: &[u32], layout: Layout, n: usize, counts: [usize; 9]) -> usize
     requires sized { Sized n store.now }
-    requires counts { Counts n (lookIn layout n store.now) counts }
-    ensures { AtMost (treesIfOk n (lookIn layout n store.now)) 32769 result }
+    requires counts { Counts n (look_in layout n store.now) counts }
+    ensures { AtMost (trees_if_ok n (look_in layout n store.now)) 32769 result }
 {
     let mut sum: usize = 0;
     let mut h: usize = 0;
@@ -281,7 +281,7 @@ fn trees(store: &[u32], layout: Layout, n: usize, counts: [usize; 9]) -> usize
 // Every item and every heap is right, and each item stands in a list or is free.
 fn all_ok(store: &[u32], layout: Layout, n: usize) -> bool
     requires { Sized n store.now }
-    ensures { result ≡ allOk n (lookIn layout n store.now) }
+    ensures { result ≡ all_ok n (look_in layout n store.now) }
 {
     let ranks = ranks(store, layout, n);
     if ranks == 0 {
@@ -297,7 +297,7 @@ fn all_ok(store: &[u32], layout: Layout, n: usize) -> bool
 
 // Whether any words are those of a sound store, in either order.
 pub fn sound_in(store: &[u32], layout: Layout) -> bool
-    ensures { result ≡ soundWordsIn layout store.now }
+    ensures { result ≡ sound_words_in layout store.now }
 {
     if !is_store(store) {
         return false;
@@ -308,7 +308,7 @@ pub fn sound_in(store: &[u32], layout: Layout) -> bool
 
 // The same in the order in use.
 pub fn sound(store: &[u32]) -> bool
-    ensures { result ≡ soundWords store.now }
+    ensures { result ≡ sound_words store.now }
 {
     sound_in(store, Layout::ByItem)
 }

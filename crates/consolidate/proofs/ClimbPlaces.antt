@@ -14,8 +14,8 @@ use Rattle.rules.specs.Forests.{none, rank_of}
 use Rattle.rules.proofs.Default.{get_d_any}
 use Rattle.linking_places.specs.Places.{without}
 use Rattle.linking_places.specs.Taken.{taken_of, TakenAt}
-use Rattle.linking_places.proofs.Left.{leavesOne}
-use Rattle.consolidate.proofs.Climbing.{Climbing, rank-inside}
+use Rattle.linking_places.proofs.Left.{leaves_one}
+use Rattle.consolidate.proofs.Climbing.{Climbing, rank_inside}
 
 -- the places ps of a tree that has come to rank r, which were `held` before it came
 pub record OnTheWay (held ps : List ℕ) (taken r : ℕ) : Type 0 where
@@ -38,39 +38,39 @@ apart_by {b} {a} {z} e f = go (eqb a z) refl (sym f ∙ e)
     go false q y = eqb-false a z q
 
 -- and its negation
-pub was-false : (b : Bool) → not b ≡ true → b ≡ false
-was-false true e = absurd (true≢false (sym e))
-was-false false e = refl
+pub was_false : (b : Bool) → not b ≡ true → b ≡ false
+was_false true e = absurd (true≢false (sym e))
+was_false false e = refl
 
-pub was-true : (b : Bool) → not b ≡ false → b ≡ true
-was-true true e = refl
-was-true false e = absurd (true≢false e)
+pub was_true : (b : Bool) → not b ≡ false → b ≡ true
+was_true true e = refl
+was_true false e = absurd (true≢false e)
 
 module _ {n h base : ℕ} {rest : List ℕ} {amounts : ℕ → ℕ} {goal : Linking} {w ps held : List ℕ} {x r links taken : ℕ}
     (G : Climbing n h base rest amounts goal w ps x r links) (O : OnTheWay held ps taken r) where
   inside : r < length ps
-  inside = omega (arith, G.state.long, rank-inside G)
+  inside = omega (arith, G.state.long, rank_inside G)
 
-  pub place-taken : TakenAt ps taken r
-  place-taken = record { places = omega (arith, G.state.long); inside = inside; number = O.number }
+  pub place_taken : TakenAt ps taken r
+  place_taken = record { places = omega (arith, G.state.long); inside = inside; number = O.number }
 
   module _ {y : ℕ} (e : y ≡ get_or held r 0) (d : get_or ps r 0 ≢ none) where
     -- the holder is read from the places as they were
-    pub holder-here : y ≡ get_or ps r 0
-    holder-here = e ∙ sym (O.above r (omega arith))
+    pub holder_here : y ≡ get_or ps r 0
+    holder_here = e ∙ sym (O.above r (omega arith))
 
     -- it is at one place only, that of its rank
     one_place : (i : ℕ) → i < length ps → get_or ps i 0 ≡ y → i ≡ r
     one_place i k q =
-        sym (rank-at i k (q ∙ holder-here)) ∙ ap (rank_of G.here) (q ∙ holder-here) ∙ rank-at r inside refl
+        sym (rank_at i k (q ∙ holder_here)) ∙ ap (rank_of G.here) (q ∙ holder_here) ∙ rank_at r inside refl
       where
-        rank-at : (i : ℕ) → i < length ps → get_or ps i 0 ≡ get_or ps r 0 → rank_of G.here (get_or ps i 0) ≡ i
-        rank-at i k q =
+        rank_at : (i : ℕ) → i < length ps → get_or ps i 0 ≡ get_or ps r 0 → rank_of G.here (get_or ps i 0) ≡ i
+        rank_at i k q =
             let z = get_d_any ps i 0 none k in
             ap (rank_of G.here) z ∙ G.state.placed i (λ f. d (sym q ∙ z ∙ f))
 
-    pub holder-leaves : {ps' : List ℕ} → ps' ≡ without y ps → ps' ≡ set ps r none
-    holder-leaves q = q ∙ leavesOne ps r y inside (sym holder-here) one_place
+    pub holder_leaves : {ps' : List ℕ} → ps' ≡ without y ps → ps' ≡ set ps r none
+    holder_leaves q = q ∙ leaves_one ps r y inside (sym holder_here) one_place
 
     pub next_way : {ps' : List ℕ} {taken' : ℕ} → ps' ≡ set ps r none → taken' ≡ taken_of (set ps r none)
         → OnTheWay held ps' taken' (r + 1)

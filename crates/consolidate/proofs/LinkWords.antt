@@ -9,29 +9,29 @@ use borrow.Author.Tests.{ne_eqb}
 use Rattle.rules.specs.declared.Field.{Field}
 use Rattle.rules.specs.declared.Field.TheVariants.{Minimum, Parent, Rank, State}
 use Rattle.rules.specs.Consolidate.{link}
-use Rattle.rules.specs.Forests.{Forests, childrenOf, heapOf, set_row}
+use Rattle.rules.specs.Forests.{Forests, children_of, heap_of, set_row}
 use Rattle.rules.specs.Order.{minimum}
 use Rattle.rules.specs.WellFormed.{Disjoint}
 use Rattle.rules.specs.Words.{state_of, word}
-use Rattle.rules.proofs.ByKind.{also, apart_some, by-others}
-use Rattle.rules.proofs.Occurs.{byItem, eqb-self}
-use Rattle.rules.proofs.Parts.{rows, keys, heaps, kept-words}
+use Rattle.rules.proofs.ByKind.{also, apart_some, by_others}
+use Rattle.rules.proofs.Occurs.{by_item, eqb_self}
+use Rattle.rules.proofs.Parts.{rows, keys, heaps, kept_words}
 use Rattle.store.specs.declared.Owner.TheVariants.{Children}
 use Rattle.store.specs.Says.{Values, Agree}
 use Rattle.store.specs.Siblings.{appended}
-use Rattle.store.proofs.ConcatWords.{linkKinds}
+use Rattle.store.proofs.ConcatWords.{link_kinds}
 use Rattle.consolidate.specs.Stored.{linked, Beside}
-use Rattle.consolidate.proofs.Beside.{beside-parent, beside-rank, beside-state}
+use Rattle.consolidate.proofs.Beside.{beside_parent, beside_rank, beside_state}
 use Rattle.consolidate.proofs.LinkLists.{
   TwoRoots,
   a_in,
-  l-in,
-  l-root,
-  linked-families,
-  linked-frees,
-  linked-rows,
+  l_in,
+  l_root,
+  linked_families,
+  linked_frees,
+  linked_rows,
 }
-use Rattle.consolidate.proofs.MoveWords.{child-other, child-parent, child-rank}
+use Rattle.consolidate.proofs.MoveWords.{child_other, child_parent, child_rank}
 
 module _ {n h : ℕ} {v : Values} {amounts : ℕ → ℕ} {t : Forests} (B : Beside n h v amounts t) {ρ : List ℕ} {a l : ℕ}
     (T : TwoRoots h ρ t a l) where
@@ -48,52 +48,52 @@ module _ {n h : ℕ} {v : Values} {amounts : ℕ → ℕ} {t : Forests} (B : Bes
   abbrev all : List Field
   all = also changed linked
 
-  new-parent : Agree n v' amounts (link a l t) Parent
+  new_parent : Agree n v' amounts (link a l t) Parent
   unfolding link word
-  new-parent =
-      byItem l
-      (λ k. child-parent a l v l
-      ∙ rw (eqb-self l) (sym (get_or-set_same t.parent l a 0 (omega (arith, D.parentN, l-in B T)))))
-      (λ i m k. child-parent a l v i
-      ∙ rw (ne_eqb l i (λ e. m (sym e))) (beside-parent B i k ∙ sym (get_or-set_other t.parent l i a 0 m)))
+  new_parent =
+      by_item l
+      (λ k. child_parent a l v l
+      ∙ rw (eqb_self l) (sym (get_or-set_same t.parent l a 0 (omega (arith, D.parent_n, l_in B T)))))
+      (λ i m k. child_parent a l v i
+      ∙ rw (ne_eqb l i (λ e. m (sym e))) (beside_parent B i k ∙ sym (get_or-set_other t.parent l i a 0 m)))
 
-  new-rank : Agree n v' amounts (link a l t) Rank
+  new_rank : Agree n v' amounts (link a l t) Rank
   unfolding link word
-  new-rank =
-      byItem a
-      (λ k. child-rank a l v a
+  new_rank =
+      by_item a
+      (λ k. child_rank a l v a
       ∙ rw (
-        eqb-self a,
-        get_or-set_same t.children a (childrenOf t a ++ (l ∷ [])) [] (omega (arith, D.childrenN, a_in B T)),
-      ) (omega (arith, beside-rank B a k, length-append (childrenOf t a) (l ∷ []))))
-      (λ i m k. child-rank a l v i
+        eqb_self a,
+        get_or-set_same t.children a (children_of t a ++ (l ∷ [])) [] (omega (arith, D.children_n, a_in B T)),
+      ) (omega (arith, beside_rank B a k, length-append (children_of t a) (l ∷ []))))
+      (λ i m k. child_rank a l v i
       ∙ rw (
         ne_eqb a i (λ e. m (sym e)),
-        get_or-set_other t.children a i (childrenOf t a ++ (l ∷ [])) [] m,
-      ) (beside-rank B i k))
+        get_or-set_other t.children a i (children_of t a ++ (l ∷ [])) [] m,
+      ) (beside_rank B i k))
 
   -- l had no mark as a root, and has none now
-  new-state : Agree n v' amounts (link a l t) State
+  new_state : Agree n v' amounts (link a l t) State
   unfolding link word
-  new-state =
-      byItem l
-      (λ k. child-other a l v State l refl ∙ beside-state B l k
-      ∙ ap (state_of (heapOf t l))
-      (D.rootsUnmarked l (l-root B T).1 ∙ sym (get_or-set_same t.mark l 0 0 (omega (arith, D.markN, l-in B T)))))
-      (λ i m k. child-other a l v State i refl ∙ beside-state B i k
-      ∙ ap (state_of (heapOf t i)) (sym (get_or-set_other t.mark l i 0 0 m)))
+  new_state =
+      by_item l
+      (λ k. child_other a l v State l refl ∙ beside_state B l k
+      ∙ ap (state_of (heap_of t l))
+      (D.roots_unmarked l (l_root B T).1 ∙ sym (get_or-set_same t.mark l 0 0 (omega (arith, D.mark_n, l_in B T)))))
+      (λ i m k. child_other a l v State i refl ∙ beside_state B i k
+      ∙ ap (state_of (heap_of t i)) (sym (get_or-set_other t.mark l i 0 0 m)))
 
-  pub link-beside : Beside n h (appended (Children a) l v) amounts (link a l t)
+  pub link_beside : Beside n h (appended (Children a) l v) amounts (link a l t)
   unfolding link minimum
-  link-beside =
+  link_beside =
       record {
         size = B.size;
-        words = by-others linked changed (Agree n v' amounts (link a l t)) new-parent new-rank new-state (λ f o i k.
-            child-other a l v f i (apart_some all (Parent ∷ Rank ∷ linkKinds (Children a)) f refl o)
+        words = by_others linked changed (Agree n v' amounts (link a l t)) new_parent new_rank new_state (λ f o i k.
+            child_other a l v f i (apart_some all (Parent ∷ Rank ∷ link_kinds (Children a)) f refl o)
             ∙ B.words f (apart_some all linked f refl o) i k
-            ∙ kept-words (rows ∷ keys ∷ heaps ∷ []) all amounts t (link a l t) refl refl refl refl f o i);
-        frees = linked-frees B T;
-        families = linked-families B T;
-        otherRows = linked-rows B T;
-        minima = λ g k m. child-other a l v Minimum g refl ∙ B.minima g k m;
+            ∙ kept_words (rows ∷ keys ∷ heaps ∷ []) all amounts t (link a l t) refl refl refl refl f o i);
+        frees = linked_frees B T;
+        families = linked_families B T;
+        other_rows = linked_rows B T;
+        minima = λ g k m. child_other a l v Minimum g refl ∙ B.minima g k m;
       }

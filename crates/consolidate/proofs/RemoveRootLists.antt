@@ -16,33 +16,33 @@ use Rattle.rules.specs.declared.Field.TheVariants.{
   Next,
   Prev,
 }
-use Rattle.rules.specs.Calls.{removeRoot, setFree, release}
-use Rattle.rules.specs.Forests.{Forests, none, row_of, childrenOf, parent_of, heapOf, tableSize}
+use Rattle.rules.specs.Calls.{remove_root, set_free, release}
+use Rattle.rules.specs.Forests.{Forests, none, row_of, children_of, parent_of, heap_of, table_size}
 use Rattle.rules.specs.Lists.{occurs, without}
 use Rattle.rules.specs.WellFormed.{Disjoint}
-use Rattle.rules.proofs.Members.{heap-in, row-root, root-child, child-parent}
-use Rattle.rules.proofs.Occurs.{byItem, eqb-self, occurs-without}
-use Rattle.rules.proofs.RemoveRootKeeps.{heap-o, heap_x}
+use Rattle.rules.proofs.Members.{heap_in, row_root, root_child, child_parent}
+use Rattle.rules.proofs.Occurs.{by_item, eqb_self, occurs-without}
+use Rattle.rules.proofs.RemoveRootKeeps.{heap_o, heap_x}
 use Rattle.store.specs.declared.Owner.TheVariants.{Row}
-use Rattle.store.specs.Empty.{freeItem}
+use Rattle.store.specs.Empty.{free_item}
 use Rattle.store.specs.Says.{Values}
 use Rattle.store.specs.Siblings.{first_of, last_of, removed}
 use Rattle.store.proofs.ConcatWords.{
-  concat-first,
-  concat-last,
-  concat-next,
-  concat-none,
-  concat-prev,
+  concat_first,
+  concat_last,
+  concat_next,
+  concat_none,
+  concat_prev,
 }
-use Rattle.store.proofs.ListMembers.{free-child, not-child, not-row, other_row, some_item}
+use Rattle.store.proofs.ListMembers.{free_child, not_child, not_row, other_row, some_item}
 use Rattle.consolidate.specs.LinkedList.{LinkedList}
 use Rattle.consolidate.specs.Released.{released}
 use Rattle.consolidate.specs.Removed.{RootOf}
 use Rattle.consolidate.specs.Stored.{Rowed}
-use Rattle.consolidate.proofs.LinkedLists.{linked-frame, head_apart, last_apart}
-use Rattle.consolidate.proofs.MoveWords.{out_first, out-last, released-other}
-use Rattle.consolidate.proofs.RemoveRootRow.{family, out-keeps, row₂, x-in, x-row}
-use Rattle.consolidate.proofs.RootRemoved.{plain, rootRemoved, rowJoined}
+use Rattle.consolidate.proofs.LinkedLists.{linked_frame, head_apart, last_apart}
+use Rattle.consolidate.proofs.MoveWords.{out_first, out_last, released_other}
+use Rattle.consolidate.proofs.RemoveRootRow.{family, out_keeps, row₂, x_in, x_row}
+use Rattle.consolidate.proofs.RootRemoved.{plain, root_removed, row_joined}
 
 module _ {n h m : ℕ} {w : List ℕ} {amounts : ℕ → ℕ} {t : Forests} (R : Rowed n h m w amounts t) {x : ℕ}
     (O : RootOf t h x) where
@@ -50,7 +50,7 @@ module _ {n h m : ℕ} {w : List ℕ} {amounts : ℕ → ℕ} {t : Forests} (R :
   v = R.values
 
   abbrev cs : List ℕ
-  cs = childrenOf t x
+  cs = children_of t x
 
   D : Disjoint t
   D = O.disjoint
@@ -59,11 +59,11 @@ module _ {n h m : ℕ} {w : List ℕ} {amounts : ℕ → ℕ} {t : Forests} (R :
   v₂ = released h cs (removed (Row h) x v)
 
   abbrev v₃ : Values
-  v₃ = rowJoined h x cs v
+  v₃ = row_joined h x cs v
 
   -- whoever is not x, and was neither in the row of h nor a child of x
   abbrev Elsewhere : ℕ → Type 0
-  Elsewhere y = (y < tableSize t) × (y ≢ x) × (occurs y (row_of t h) ≡ 0) × (occurs y cs ≡ 0)
+  Elsewhere y = (y < table_size t) × (y ≢ x) × (occurs y (row_of t h) ≡ 0) × (occurs y cs ≡ 0)
 
   -- the ends of another row
   ends : (g : ℕ) → g ≢ h → (v₃ FirstTree g ≡ v FirstTree g) × (v₃ LastTree g ≡ v LastTree g)
@@ -75,106 +75,106 @@ module _ {n h m : ℕ} {w : List ℕ} {amounts : ℕ → ℕ} {t : Forests} (R :
 
       before : (v₂ FirstTree g ≡ v FirstTree g) × (v₂ LastTree g ≡ v LastTree g)
       before = (
-        released-other h cs (removed (Row h) x v) FirstTree g refl ∙ out_first h x v g ∙ rw d,
-        released-other h cs (removed (Row h) x v) LastTree g refl ∙ out-last h x v g ∙ rw d,
+        released_other h cs (removed (Row h) x v) FirstTree g refl ∙ out_first h x v g ∙ rw d,
+        released_other h cs (removed (Row h) x v) LastTree g refl ∙ out_last h x v g ∙ rw d,
       )
 
       go : (b : Bool) → eqb (v FirstChild x) none ≡ b
           → (v₃ FirstTree g ≡ v FirstTree g) × (v₃ LastTree g ≡ v LastTree g)
       go true e =
-          let q = concat-none (v FirstChild x) (v LastChild x) v₂ (Row h) (eqb-true (v FirstChild x) none e) in
+          let q = concat_none (v FirstChild x) (v LastChild x) v₂ (Row h) (eqb-true (v FirstChild x) none e) in
           (q FirstTree g ∙ before.0, q LastTree g ∙ before.1)
       go false e =
           let a : v FirstChild x ≢ none = eqb-false (v FirstChild x) none e in (
-            concat-first (v FirstChild x) (v LastChild x) v₂ a (Row h) (Row g) ∙ rw d before.0,
-            concat-last (v FirstChild x) (v LastChild x) v₂ a (Row h) (Row g) ∙ rw d before.1,
+            concat_first (v FirstChild x) (v LastChild x) v₂ a (Row h) (Row g) ∙ rw d before.0,
+            concat_last (v FirstChild x) (v LastChild x) v₂ a (Row h) (Row g) ∙ rw d before.1,
           )
 
   module _ (c : ℕ) where
     abbrev v₅ : Values
-    v₅ = rootRemoved h x cs c v
+    v₅ = root_removed h x cs c v
 
     -- who is elsewhere keeps its links
     keeps : (y : ℕ) → Elsewhere y → (v₅ Next y ≡ v Next y) × (v₅ Prev y ≡ v Prev y)
-    unfolding rootRemoved freeItem last_of
+    unfolding root_removed free_item last_of
     keeps y (k, m, r, j) = rw (ne_eqb x y (λ e. m (sym e))) (go (eqb (v FirstChild x) none) refl)
       where
         s : y ≢ none
         s = some_item t D y k
 
         before : (v₂ Next y ≡ v Next y) × (v₂ Prev y ≡ v Prev y)
-        before = out-keeps R O y s r
+        before = out_keeps R O y s r
 
         go : (b : Bool) → eqb (v FirstChild x) none ≡ b → (v₃ Next y ≡ v Next y) × (v₃ Prev y ≡ v Prev y)
         go true e =
-            let q = concat-none (v FirstChild x) (v LastChild x) v₂ (Row h) (eqb-true (v FirstChild x) none e) in
+            let q = concat_none (v FirstChild x) (v LastChild x) v₂ (Row h) (eqb-true (v FirstChild x) none e) in
             (q Next y ∙ before.0, q Prev y ∙ before.1)
         go false e =
             let a : v FirstChild x ≢ none = eqb-false (v FirstChild x) none e in
             let w : occurs y (without x (row_of t h)) ≡ 0 =
-            omega (arith, occurs-without y x (row_of t h) (omega (arith, x-row R O))) in
+            omega (arith, occurs-without y x (row_of t h) (omega (arith, x_row R O))) in
             let p : v₂ LastTree h ≢ y = λ z. last_apart y (without x (row_of t h)) s w (sym (row₂ R O).back ∙ z) in
             let q : v FirstChild x ≢ y = λ z. head_apart y cs s j (sym (family R O).front ∙ z) in (
-              concat-next (v FirstChild x) (v LastChild x) v₂ a (Row h) y ∙ rw (ne_eqb (v₂ LastTree h) y p) before.0,
-              concat-prev (v FirstChild x) (v LastChild x) v₂ a (Row h) y
+              concat_next (v FirstChild x) (v LastChild x) v₂ a (Row h) y ∙ rw (ne_eqb (v₂ LastTree h) y p) before.0,
+              concat_prev (v FirstChild x) (v LastChild x) v₂ a (Row h) y
                   ∙ rw (ne_eqb (v FirstChild x) y q) before.1,
             )
 
-    other-list : {f e : ℕ} (l : List ℕ) → LinkedList f e (v Next) (v Prev) l → ((y : ℕ) → 1 ≤ occurs y l → Elsewhere y)
+    other_list : {f e : ℕ} (l : List ℕ) → LinkedList f e (v Next) (v Prev) l → ((y : ℕ) → 1 ≤ occurs y l → Elsewhere y)
         → LinkedList f e (v₅ Next) (v₅ Prev) l
-    other-list l g k = linked-frame (v₅ Next) (v₅ Prev) g (λ y i. keeps y (k y i))
+    other_list l g k = linked_frame (v₅ Next) (v₅ Prev) g (λ y i. keeps y (k y i))
 
     -- the other rows
-    pub other-rows : (g : ℕ) → g < 8 → g ≢ h
-        → LinkedList (v₅ FirstTree g) (v₅ LastTree g) (v₅ Next) (v₅ Prev) (row_of (removeRoot h x t) g)
-    unfolding removeRoot setFree release rootRemoved freeItem
-    other-rows g k d =
+    pub other_rows_lem : (g : ℕ) → g < 8 → g ≢ h
+        → LinkedList (v₅ FirstTree g) (v₅ LastTree g) (v₅ Next) (v₅ Prev) (row_of (remove_root h x t) g)
+    unfolding remove_root set_free release root_removed free_item
+    other_rows_lem g k d =
         let e = ends g d in
         rw (e.0, e.1, get_or-set_other t.rows h g (without x (row_of t h) ++ cs) [] d)
-        (other-list (row_of t g) (R.beside.otherRows g k d) there)
+        (other_list (row_of t g) (R.beside.other_rows g k d) there)
       where
         there : (y : ℕ) → 1 ≤ occurs y (row_of t g) → Elsewhere y
         there y i =
-            let r = row-root t D g y i in
-            let f : heapOf t y ≢ suc h = λ e. d (omega (arith, e, r.0)) in (
-              heap-in t y (λ e. omega (arith, r.0)),
-              λ e. f (ap (heapOf t) e ∙ O.member),
+            let r = row_root t D g y i in
+            let f : heap_of t y ≢ suc h = λ e. d (omega (arith, e, r.0)) in (
+              heap_in t y (λ e. omega (arith, r.0)),
+              λ e. f (ap (heap_of t) e ∙ O.member),
               other_row t D h y f,
-              root-child t D x y (x-in R O) r.1,
+              root_child t D x y (x_in R O) r.1,
             )
 
     -- the children of any other item
-    pub other-families : (p : ℕ) → p < n → heapOf (removeRoot h x t) p ≢ 0
-        → LinkedList (v₅ FirstChild p) (v₅ LastChild p) (v₅ Next) (v₅ Prev) (childrenOf (removeRoot h x t) p)
-    unfolding removeRoot setFree release rootRemoved freeItem
-    other-families =
-        byItem x (λ k f. absurd (f (heap_x t D h x O.member O.root)))
-        (λ p d k. rw (heap-o t D h x O.member O.root p d) (λ f.
+    pub other_families : (p : ℕ) → p < n → heap_of (remove_root h x t) p ≢ 0
+        → LinkedList (v₅ FirstChild p) (v₅ LastChild p) (v₅ Next) (v₅ Prev) (children_of (remove_root h x t) p)
+    unfolding remove_root set_free release root_removed free_item
+    other_families =
+        by_item x (λ k f. absurd (f (heap_x t D h x O.member O.root)))
+        (λ p d k. rw (heap_o t D h x O.member O.root p d) (λ f.
         rw (
           get_or-set_other t.children x p [] [] d,
           ne_eqb x p (λ e. d (sym e)),
           plain h x cs v FirstChild p refl,
           plain h x cs v LastChild p refl,
         )
-        (other-list (childrenOf t p) (R.beside.families p k f) (there p (omega (arith, R.beside.size)) d))))
+        (other_list (children_of t p) (R.beside.families p k f) (there p (omega (arith, R.beside.size)) d))))
       where
-        there : (p : ℕ) → p < tableSize t → p ≢ x → (y : ℕ) → 1 ≤ occurs y (childrenOf t p) → Elsewhere y
+        there : (p : ℕ) → p < table_size t → p ≢ x → (y : ℕ) → 1 ≤ occurs y (children_of t p) → Elsewhere y
         there p k d y i =
-            let r = child-parent t D p y k i in
+            let r = child_parent t D p y k i in
             let f : parent_of t y ≢ none = λ e. some_item t D p k (sym r.1 ∙ e) in (
-              heap-in t y r.0,
+              heap_in t y r.0,
               λ e. f (ap (parent_of t) e ∙ O.root),
-              not-row t D h y f,
-              not-child t D x y (x-in R O) (λ e. d (sym r.1 ∙ e)),
+              not_row t D h y f,
+              not_child t D x y (x_in R O) (λ e. d (sym r.1 ∙ e)),
             )
 
     -- x is free, and whoever was is so still
-    pub free-links : (i : ℕ) → i < n → heapOf (removeRoot h x t) i ≡ 0
+    pub free_links : (i : ℕ) → i < n → heap_of (remove_root h x t) i ≡ 0
         → (v₅ FirstChild i ≡ 0) × (v₅ LastChild i ≡ 0) × (v₅ Next i ≡ 0) × (v₅ Prev i ≡ 0)
-    unfolding removeRoot setFree release rootRemoved freeItem
-    free-links =
-        byItem x (λ k e. rw (eqb-self x) (refl, refl, refl, refl))
-        (λ i d k. rw (heap-o t D h x O.member O.root i d) (λ e.
+    unfolding remove_root set_free release root_removed free_item
+    free_links =
+        by_item x (λ k e. rw (eqb_self x) (refl, refl, refl, refl))
+        (λ i d k. rw (heap_o t D h x O.member O.root i d) (λ e.
         let f = R.beside.frees i k e in
         let g = keeps i (there i (omega (arith, R.beside.size)) d e) in (
           rw (ne_eqb x i (λ e. d (sym e))) (plain h x cs v FirstChild i refl ∙ f.0),
@@ -183,6 +183,6 @@ module _ {n h m : ℕ} {w : List ℕ} {amounts : ℕ → ℕ} {t : Forests} (R :
           g.1 ∙ f.3,
         )))
       where
-        there : (y : ℕ) → y < tableSize t → y ≢ x → heapOf t y ≡ 0 → Elsewhere y
+        there : (y : ℕ) → y < table_size t → y ≢ x → heap_of t y ≡ 0 → Elsewhere y
         there y k d e =
-            (k, d, other_row t D h y (λ z. omega (arith, z, e)), free-child t D x y (x-in R O) e)
+            (k, d, other_row t D h y (λ z. omega (arith, z, e)), free_child t D x y (x_in R O) e)

@@ -14,19 +14,19 @@ use Rattle.rules.specs.declared.Field.TheVariants.{FirstTree, LastTree, Minimum}
 use Rattle.rules.specs.Consolidate.{occupied}
 use Rattle.rules.specs.Forests.{Forests, none, row_of, set_row}
 use Rattle.rules.specs.Lists.{occurs, sumBy}
-use Rattle.rules.specs.Order.{leastIn, minimum}
-use Rattle.rules.specs.SetWord.{setWord}
+use Rattle.rules.specs.Order.{least_in, minimum}
+use Rattle.rules.specs.SetWord.{set_word}
 use Rattle.rules.specs.WellFormed.{Disjoint, KeysFit, WellFormed}
-use Rattle.rules.specs.Words.{wordsWith, head_or, last_or}
-use Rattle.rules.proofs.Occurs.{eqb-self}
+use Rattle.rules.specs.Words.{words_with, head_or, last_or}
+use Rattle.rules.proofs.Occurs.{eqb_self}
 use Rattle.store.specs.Says.{Changes}
 use Rattle.linking_places.specs.Taken.{taken_of}
-use Rattle.linking_places.proofs.Taken.{a-tree}
+use Rattle.linking_places.proofs.Taken.{a_tree}
 use Rattle.consolidate.specs.Consolidating.{Consolidating}
 use Rattle.consolidate.specs.Released.{released}
 use Rattle.consolidate.specs.Writing.{Coming, WritingRow}
-use Rattle.consolidate.proofs.RowWords.{beside-ends, beside-minimum, beside-row}
-use Rattle.consolidate.proofs.RowedWords.{rowed-words}
+use Rattle.consolidate.proofs.RowWords.{beside_ends, beside_minimum, beside_row}
+use Rattle.consolidate.proofs.RowedWords.{rowed_words}
 
 -- the trees at the places a and then at b
 occupied-append : (a b : List ℕ) → occupied (a ++ b) ≡ occupied a ++ occupied b
@@ -40,45 +40,45 @@ occupied-append (x ∷ a) b = go (eqb x none) (occupied-append a b)
     go false e = ap (λ l. x ∷ l) e
 
 -- no bit, no tree
-none-taken : (l : List ℕ) → taken_of l ≡ 0 → occupied l ≡ []
+none_taken : (l : List ℕ) → taken_of l ≡ 0 → occupied l ≡ []
 unfolding occupied taken_of
-none-taken [] e = refl
-none-taken (x ∷ l) e = go (eqb x none) refl (none-taken l (omega (arith, e)))
+none_taken [] e = refl
+none_taken (x ∷ l) e = go (eqb x none) refl (none_taken l (omega (arith, e)))
   where
     go : (b : Bool) → eqb x none ≡ b → occupied l ≡ [] → cond b (occupied l) (x ∷ occupied l) ≡ []
     go true q z = z
-    go false q z = absurd (omega (arith, e, a-tree x (eqb-false x none q)))
+    go false q z = absurd (omega (arith, e, a_tree x (eqb-false x none q)))
 
 -- some bit: the places go on
-pub some-taken : (ps : List ℕ) (r : ℕ) → taken_of (drop r ps) ≢ 0 → r < length ps
+pub some_taken : (ps : List ℕ) (r : ℕ) → taken_of (drop r ps) ≢ 0 → r < length ps
 unfolding taken_of
-some-taken [] zero d = absurd (d refl)
-some-taken [] (suc r) d = absurd (d refl)
-some-taken (x ∷ ps) zero d = omega arith
-some-taken (x ∷ ps) (suc r) d = let k = some-taken ps r d in omega (arith, k)
+some_taken [] zero d = absurd (d refl)
+some_taken [] (suc r) d = absurd (d refl)
+some_taken (x ∷ ps) zero d = omega arith
+some_taken (x ∷ ps) (suc r) d = let k = some_taken ps r d in omega (arith, k)
 
 -- the forests with the row of the places
 module _ {n h : ℕ} {w ps : List ℕ} {amounts : ℕ → ℕ} {t : Forests} (C : Consolidating n h w ps [] [] amounts t) where
-  pub places-formed : WellFormed (set_row h (occupied ps) t)
-  places-formed = subst (λ l. WellFormed (set_row h l t)) (append-nil (occupied ps)) C.formed
+  pub places_formed : WellFormed (set_row h (occupied ps) t)
+  places_formed = subst (λ l. WellFormed (set_row h l t)) (append-nil (occupied ps)) C.formed
 
   pub places_row : row_of (set_row h (occupied ps) t) h ≡ occupied ps
   places_row =
       get_or-set_same t.rows h (occupied ps) []
-      (omega (arith, C.heap, length-set t.rows h (occupied ps), places-formed.disjoint.rows8))
+      (omega (arith, C.heap, length-set t.rows h (occupied ps), places_formed.disjoint.rows8))
 
   -- an empty row
-  pub writing-starts : {w₁ w₂ : List ℕ} → Changes n w (setWord FirstTree h none) w₁
-      → Changes n w₁ (setWord LastTree h none) w₂ → WritingRow n h w₂ [] none amounts (set_row h (occupied ps) t)
-  unfolding head_or last_or leastIn occurs released sumBy
-  writing-starts a b =
+  pub writing_starts : {w₁ w₂ : List ℕ} → Changes n w (set_word FirstTree h none) w₁
+      → Changes n w₁ (set_word LastTree h none) w₂ → WritingRow n h w₂ [] none amounts (set_row h (occupied ps) t)
+  unfolding head_or last_or least_in occurs released sumBy
+  writing_starts a b =
       record {
-        values = setWord LastTree h none (setWord FirstTree h none C.values);
+        values = set_word LastTree h none (set_word FirstTree h none C.values);
         says = b.says _ (a.says _ C.says);
-        beside = beside-ends (beside-row C.beside (occupied ps)) none none;
+        beside = beside_ends (beside_row C.beside (occupied ps)) none none;
         row = record {
-          front = rw (eqb-self h);
-          back = rw (eqb-self h);
+          front = rw (eqb_self h);
+          back = rw (eqb_self h);
           nexts = λ y i. absurd (omega arith);
           prevs = λ y i. absurd (omega arith);
         };
@@ -111,30 +111,30 @@ module _ (h : ℕ) (ps : List ℕ) (r : ℕ) (t : Forests) (D : Disjoint t) (K :
             );
       }
 
-  pub place-written : {n m x : ℕ} {w : List ℕ} {amounts : ℕ → ℕ} → r < 17 → x ≡ get_or ps r 0
+  pub place_written : {n m x : ℕ} {w : List ℕ} {amounts : ℕ → ℕ} → r < 17 → x ≡ get_or ps r 0
       → WritingRow n h w (occupied (take r ps) ++ occupied (x ∷ [])) m amounts t
       → WritingRow n h w (occupied (take (r + 1) ps)) m amounts t
-  place-written {x = x} k q W = rw (next_place x k q) W
+  place_written {x = x} k q W = rw (next_place x k q) W
 
   -- ---- all places
 
   pub row_written : {n m : ℕ} {w w' : List ℕ} {amounts : ℕ → ℕ} → taken_of (drop r ps) ≡ 0
       → WritingRow n h w (occupied (take r ps)) m amounts t
-      → Changes n w (setWord Minimum h m) w'
-      → w' ≡ wordsWith amounts t
+      → Changes n w (set_word Minimum h m) w'
+      → w' ≡ words_with amounts t
   unfolding minimum
   row_written {n} {m} {w} {w'} {amounts} k W c =
       let z : occupied (take r ps) ≡ row_of t h =
       sym (append-nil (occupied (take r ps)))
-      ∙ ap (λ l. occupied (take r ps) ++ l) (sym (none-taken (drop r ps) k))
+      ∙ ap (λ l. occupied (take r ps) ++ l) (sym (none_taken (drop r ps) k))
       ∙ sym (occupied-append (take r ps) (drop r ps))
       ∙ ap occupied (take-append-drop r ps)
       ∙ sym e in
-      rowed-words amounts t D {n = n} {h = h} {w = w'}
+      rowed_words amounts t D {n = n} {h = h} {w = w'}
       (record {
-        values = setWord Minimum h m W.values;
+        values = set_word Minimum h m W.values;
         says = c.says W.values W.says;
-        beside = beside-minimum W.beside m;
+        beside = beside_minimum W.beside m;
         row = rw z at W.row;
-        least = rw (eqb-self h) (W.least ∙ ap (leastIn t.key) z);
+        least = rw (eqb_self h) (W.least ∙ ap (least_in t.key) z);
       })

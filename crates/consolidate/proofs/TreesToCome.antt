@@ -9,11 +9,11 @@ use lib.ListN.{length}
 use borrow.Author.Tests.{leb-true, leb-false}
 use Rattle.rules.specs.declared.Field.TheVariants.{Next}
 use Rattle.rules.specs.Consolidate.{occupied}
-use Rattle.rules.specs.Forests.{Forests, none, heapOf, parent_of, set_row}
+use Rattle.rules.specs.Forests.{Forests, none, heap_of, parent_of, set_row}
 use Rattle.rules.specs.Lists.{occurs}
 use Rattle.rules.specs.Words.{follow, head_or, look}
-use Rattle.rules.proofs.Follow.{follow-list, once-short}
-use Rattle.rules.proofs.LinkKeeps.{in-row, once}
+use Rattle.rules.proofs.Follow.{follow_list, once_short}
+use Rattle.rules.proofs.LinkKeeps.{in_row_lem, once}
 use Rattle.rules.proofs.Occurs.{occurs-append}
 use Rattle.rules.proofs.SiblingLists.{list_inside}
 use Rattle.rules.proofs.Siblings.{Once}
@@ -27,16 +27,16 @@ module _ {n h : ℕ} {w ps rest ahead : List ℕ} {amounts : ℕ → ℕ} {t : F
   ρ = occupied ps ++ rest
 
   -- each is a root of h
-  comes-root : (y : ℕ) → 1 ≤ occurs y rest → (heapOf t y ≡ suc h) × (parent_of t y ≡ none)
-  comes-root y i = in-row t h ρ (held C).formed C.heap y (omega (arith, occurs-append y (occupied ps) rest))
+  comes_root : (y : ℕ) → 1 ≤ occurs y rest → (heap_of t y ≡ suc h) × (parent_of t y ≡ none)
+  comes_root y i = in_row_lem t h ρ (held C).formed C.heap y (omega (arith, occurs-append y (occupied ps) rest))
 
-  pub comes-inside : (y : ℕ) → 1 ≤ occurs y rest → y < n
-  comes-inside y i =
-      let k = root_in t (comes-root y i).0 in
+  pub comes_inside : (y : ℕ) → 1 ≤ occurs y rest → y < n
+  comes_inside y i =
+      let k = root_in t (comes_root y i).0 in
       omega (arith, C.beside.size)
 
-  pub comes-once : Once rest
-  comes-once y = go (leb (occurs y rest) 1) refl
+  pub comes_once : Once rest
+  comes_once y = go (leb (occurs y rest) 1) refl
     where
       go : (b : Bool) → leb (occurs y rest) 1 ≡ b → occurs y rest ≤ 1
       go true e = leb-true (occurs y rest) 1 e
@@ -48,19 +48,19 @@ module _ {n h : ℕ} {w ps rest ahead : List ℕ} {amounts : ℕ → ℕ} {t : F
   -- none is outside the table
   outside : (y : ℕ) → n ≤ y → occurs y rest ≡ 0
   outside y k =
-      list_inside (set_row h ρ t) C.formed.disjoint rest (λ z i e. omega (arith, e, (comes-root z i).0)) y
+      list_inside (set_row h ρ t) C.formed.disjoint rest (λ z i e. omega (arith, e, (comes_root z i).0)) y
       (omega (arith, C.beside.size))
 
-  pub none-comes : occurs none rest ≡ 0
-  none-comes = outside none (omega (arith, C.says.sized.small))
+  pub none_comes : occurs none rest ≡ 0
+  none_comes = outside none (omega (arith, C.says.sized.small))
 
-  pub rest-short : length rest ≤ n
-  rest-short = once-short n rest comes-once outside
+  pub rest_short : length rest ≤ n
+  rest_short = once_short n rest comes_once outside
 
 -- the trees to come, by the next words
 pub follows : {n h : ℕ} {w ps rest : List ℕ} {amounts : ℕ → ℕ} {t : Forests}
     → Consolidating n h w ps rest rest amounts t
     → follow n (look n w Next) (head_or none rest) ≡ rest
 follows {n} {h} {w} {ps} {rest} C =
-    follow-list n (look n w Next) rest (rest-short C) (comes-once C) (none-comes C)
-    (λ y i. C.says.says Next y (comes-inside C y i) ∙ C.ahead y i)
+    follow_list n (look n w Next) rest (rest_short C) (comes_once C) (none_comes C)
+    (λ y i. C.says.says Next y (comes_inside C y i) ∙ C.ahead y i)

@@ -1,11 +1,11 @@
 -- Linking on the words: what holds between two steps, and what each step does.
 use Rattle.std.specs.Prelude.{ℕ, ◌+◌, ◌≤◌, ◌<◌, ◌≡◌, ◌≢◌, List, [], ◌∷◌, ◌++◌, length, get_or, replicate}
 use Rattle.rules.specs.declared.Field.TheVariants.{Next}
-use Rattle.rules.specs.Consolidate.{Linking, climb, consolidate, isFree, linkTrees, occupied}
+use Rattle.rules.specs.Consolidate.{Linking, climb, consolidate, is_free, link_trees, occupied}
 use Rattle.rules.specs.Forests.{Forests, none, rank_of, row_of, set_row}
 use Rattle.rules.specs.Lists.{occurs}
 use Rattle.rules.specs.WellFormed.{WellFormed}
-use Rattle.rules.specs.Words.{wordsWith, nextIn}
+use Rattle.rules.specs.Words.{words_with, next_in}
 use Rattle.store.specs.Says.{Values, Says}
 use Rattle.consolidate.specs.Released.{released}
 use Rattle.consolidate.specs.Stored.{Beside, Gathered}
@@ -21,14 +21,14 @@ pub record Consolidating (n h : ℕ) (w ps trees rest : List ℕ) (amounts : ℕ
   pub formed : WellFormed (set_row h (occupied ps ++ trees) t)
   pub long : length ps ≡ 17
   pub placed : (r : ℕ) → get_or ps r none ≢ none → rank_of t (get_or ps r none) ≡ r
-  pub ahead : (y : ℕ) → 1 ≤ occurs y rest → values Next y ≡ nextIn y rest
+  pub ahead : (y : ℕ) → 1 ≤ occurs y rest → values Next y ≡ next_in y rest
 
 -- ---- one tree
 
 -- the tree x comes to the places, where k links were made
-unfoldable pub climbTree : List ℕ → ℕ → Forests → ℕ → Linking
-climbTree ps k t x =
-    climb 18 (isFree ps (rank_of t x)) (rank_of t x) x (record { places = ps; links = k; forests = t })
+unfoldable pub climb_tree : List ℕ → ℕ → Forests → ℕ → Linking
+climb_tree ps k t x =
+    climb 18 (is_free ps (rank_of t x)) (rank_of t x) x (record { places = ps; links = k; forests = t })
 
 -- the tree x may come; links so far and trees at the places are no more than a table has items
 pub record ClimbReady (n h : ℕ) (w ps : List ℕ) (x links : ℕ) : Type 0 where
@@ -48,7 +48,7 @@ pub record Climbed (n h base : ℕ) (rest w ps : List ℕ) (links : ℕ) (amount
 unfoldable pub Climbs : ℕ → ℕ → List ℕ → List ℕ → ℕ → ℕ → List ℕ → List ℕ → ℕ → Type 0
 Climbs n h w ps x links w' ps' links' =
     (base k : ℕ) (a : ℕ → ℕ) (t : Forests) (rest : List ℕ) → Consolidating n h w ps (x ∷ rest) rest a t
-    → links ≡ base + k → Climbed n h base rest w' ps' links' a (climbTree ps k t x)
+    → links ≡ base + k → Climbed n h base rest w' ps' links' a (climb_tree ps k t x)
 
 -- ---- the row
 
@@ -64,13 +64,13 @@ pub record ConsolidateReady (n : ℕ) (w : List ℕ) (h links : ℕ) : Type 0 wh
   pub fits : links + 4096 ≤ 4294967295
 
 -- the trees of the row at the places, with no links made before
-unfoldable pub linkRow : ℕ → Forests → Linking
-linkRow h t = linkTrees 18 (row_of t h) (record { places = replicate 17 none; links = 0; forests = t })
+unfoldable pub link_row : ℕ → Forests → Linking
+link_row h t = link_trees 18 (row_of t h) (record { places = replicate 17 none; links = 0; forests = t })
 
 unfoldable pub LinksRow : ℕ → List ℕ → ℕ → List ℕ → List ℕ → ℕ → Type 0
 LinksRow n w h w' ps links =
     (m : ℕ) (a : ℕ → ℕ) (t : Forests) (cs : List ℕ) → Gathered n h m w cs a t → WellFormed t
-    → Climbed n h 0 [] w' ps links a (linkRow h t)
+    → Climbed n h 0 [] w' ps links a (link_row h t)
 
 -- the row is written anew from the places
 pub record RowReady (n : ℕ) (w : List ℕ) (h : ℕ) (ps : List ℕ) : Type 0 where
@@ -80,10 +80,10 @@ pub record RowReady (n : ℕ) (w : List ℕ) (h : ℕ) (ps : List ℕ) : Type 0 
 
 unfoldable pub WritesRow : ℕ → List ℕ → ℕ → List ℕ → List ℕ → Type 0
 WritesRow n w h ps w' =
-    (a : ℕ → ℕ) (t : Forests) → Consolidating n h w ps [] [] a t → w' ≡ wordsWith a (set_row h (occupied ps) t)
+    (a : ℕ → ℕ) (t : Forests) → Consolidating n h w ps [] [] a t → w' ≡ words_with a (set_row h (occupied ps) t)
 
 pub record Consolidated (w : List ℕ) (links : ℕ) (base : ℕ) (amounts : ℕ → ℕ) (l : Linking) : Type 0 where
-  pub words : w ≡ wordsWith amounts l.forests
+  pub words : w ≡ words_with amounts l.forests
   pub tallied : links ≡ base + l.links
 
 unfoldable pub Consolidates : ℕ → List ℕ → ℕ → ℕ → List ℕ → ℕ → Type 0

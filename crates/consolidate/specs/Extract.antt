@@ -4,13 +4,13 @@ use Rattle.rules.specs.declared.Call.TheVariants.{ExtractMin}
 use Rattle.rules.specs.Answers.{refusal}
 use Rattle.rules.specs.Calls.{perform}
 use Rattle.rules.specs.Queues.{Queues, after_call}
-use Rattle.rules.specs.Words.{Sound, decodeForests, encode, look, storeSize}
+use Rattle.rules.specs.Words.{Sound, decode_forests, encode, look, store_size}
 
 -- the call is not refused, and the tally has room for its links
 pub record ExtractReady (n : ℕ) (w : List ℕ) (h links : ℕ) : Type 0 where
   pub sound : Sound w
-  pub size : length w ≡ storeSize n
-  pub done : refusal (decodeForests n (look n w)) (ExtractMin h) ≡ 0
+  pub size : length w ≡ store_size n
+  pub done : refusal (decode_forests n (look n w)) (ExtractMin h) ≡ 0
   pub fits : links + 4096 ≤ 4294967295
 
 -- Item, key and links are those that the rules answer, the links as an addition to a tally; the words are those of the

@@ -3,17 +3,17 @@ use Rattle.std.specs.Prelude.{ℕ, ◌+◌, ◌*◌, ◌≤◌, ◌<◌, ◌≡�
 use Rattle.rules.specs.declared.Field.TheVariants.{Next, Parent, State}
 use Rattle.rules.specs.Forests.{none}
 use Rattle.rules.specs.Lists.{occurs}
-use Rattle.rules.specs.SetWord.{setWord}
-use Rattle.rules.specs.Words.{head_or, look, nextIn}
+use Rattle.rules.specs.SetWord.{set_word}
+use Rattle.rules.specs.Words.{head_or, look, next_in}
 use Rattle.store.specs.Says.{Sized, Values, Changes}
 
 -- one of them, and a list
-abbrev pub releasedOne : ℕ → ℕ → Values → Values
-releasedOne h c v = setWord State c (1 + 2 * h) (setWord Parent c none v)
+abbrev pub released_one : ℕ → ℕ → Values → Values
+released_one h c v = set_word State c (1 + 2 * h) (set_word Parent c none v)
 
 unfoldable pub released : ℕ → List ℕ → Values → Values
 released h [] v = v
-released h (c ∷ cs) v = released h cs (releasedOne h c v)
+released h (c ∷ cs) v = released h cs (released_one h c v)
 
 -- The list cs of k items starts with c and goes on by the next words.
 pub record ListFrom (n : ℕ) (w : List ℕ) (c k : ℕ) (cs : List ℕ) : Type 0 where
@@ -22,7 +22,7 @@ pub record ListFrom (n : ℕ) (w : List ℕ) (c k : ℕ) (cs : List ℕ) : Type 
   pub long : length cs ≡ k
   pub inside : (y : ℕ) → 1 ≤ occurs y cs → y < n
   pub once : (y : ℕ) → occurs y cs ≤ 1
-  pub nexts : (y : ℕ) → 1 ≤ occurs y cs → look n w Next y ≡ nextIn y cs
+  pub nexts : (y : ℕ) → 1 ≤ occurs y cs → look n w Next y ≡ next_in y cs
 
 pub record ReleaseReady (n : ℕ) (w : List ℕ) (h c k : ℕ) : Type 0 where
   pub heap : h < 8

@@ -2,7 +2,7 @@
 use Rattle.std.specs.Prelude.{ℕ, ◌≤◌, ◌<◌, ◌≡◌, ◌≢◌, List, [], ◌∷◌}
 use Rattle.rules.specs.declared.Field.{Field}
 use Rattle.rules.specs.declared.Field.TheVariants.{FirstTree, LastTree, Minimum, FirstChild, LastChild, Next, Prev}
-use Rattle.rules.specs.Forests.{Forests, row_of, childrenOf, heapOf, tableSize}
+use Rattle.rules.specs.Forests.{Forests, row_of, children_of, heap_of, table_size}
 use Rattle.rules.specs.Kinds.{Apart}
 use Rattle.rules.specs.Lists.{occurs}
 use Rattle.rules.specs.Order.{minimum}
@@ -21,13 +21,13 @@ RowIs h v l = LinkedList (v FirstTree h) (v LastTree h) (v Next) (v Prev) l
 -- v has the words of the forests t with these amounts, but for the row and the minimum of heap h: of these nothing is
 -- said.
 pub record Beside (n h : ℕ) (v : Values) (amounts : ℕ → ℕ) (t : Forests) : Type 0 where
-  pub size : tableSize t ≡ n
+  pub size : table_size t ≡ n
   pub words : (f : Field) → Apart linked f → Agree n v amounts t f
-  pub frees : (i : ℕ) → i < n → heapOf t i ≡ 0
+  pub frees : (i : ℕ) → i < n → heap_of t i ≡ 0
       → (v FirstChild i ≡ 0) × (v LastChild i ≡ 0) × (v Next i ≡ 0) × (v Prev i ≡ 0)
-  pub families : (p : ℕ) → p < n → heapOf t p ≢ 0
-      → LinkedList (v FirstChild p) (v LastChild p) (v Next) (v Prev) (childrenOf t p)
-  pub otherRows : (g : ℕ) → g < 8 → g ≢ h → RowIs g v (row_of t g)
+  pub families : (p : ℕ) → p < n → heap_of t p ≢ 0
+      → LinkedList (v FirstChild p) (v LastChild p) (v Next) (v Prev) (children_of t p)
+  pub other_rows : (g : ℕ) → g < 8 → g ≢ h → RowIs g v (row_of t g)
   pub minima : (g : ℕ) → g < 8 → g ≢ h → v Minimum g ≡ minimum t g
 
 -- The words w are those of the forests t with these amounts, but for the minimum of heap h, which is m.

@@ -2,7 +2,7 @@
 use Rattle.std.specs.Prelude.{ℕ, ◌<◌, ◌≡◌, List, [], ◌∷◌, ◌++◌}
 use Rattle.rules.specs.Consolidate.{occupied}
 use Rattle.rules.specs.Forests.{Forests, row_of}
-use Rattle.rules.specs.Order.{leastIn}
+use Rattle.rules.specs.Order.{least_in}
 use Rattle.rules.specs.WellFormed.{Disjoint, KeysFit}
 use Rattle.store.specs.Says.{Values, Says}
 use Rattle.consolidate.specs.Stored.{Beside, RowIs}
@@ -13,7 +13,7 @@ pub record WritingRow (n h : ℕ) (w written : List ℕ) (m : ℕ) (amounts : �
   pub says : Says n w values
   pub beside : Beside n h values amounts t
   pub row : RowIs h values written
-  pub least : m ≡ leastIn t.key written
+  pub least : m ≡ least_in t.key written
 
 -- the row of h: what is written, then x if it is a tree, then the rest
 pub record Coming (h : ℕ) (written : List ℕ) (x : ℕ) (rest : List ℕ) (t : Forests) : Type 0 where

@@ -1,16 +1,16 @@
 // Linking, and taking a heap's minimum, on a store for n items.
 ghost use Rattle.std.specs.Prelude.{◌≡◌, cond, ◌≤◌, ◌<◌, get_or};
 ghost use Rattle.rules.specs.declared.Field.TheVariants.{Key, Parent};
-ghost use Rattle.rules.specs.Order.{comesBefore};
+ghost use Rattle.rules.specs.Order.{comes_before};
 ghost use Rattle.rules.specs.Words.{decode, look};
-ghost use Rattle.store.specs.ItemOrder.{itemKey};
+ghost use Rattle.store.specs.ItemOrder.{item_key};
 ghost use Rattle.store.specs.Says.{Changes, Within};
-ghost use Rattle.linking_places.specs.Places.{treesOf};
+ghost use Rattle.linking_places.specs.Places.{trees_of};
 ghost use Rattle.linking_places.specs.Taken.{taken_of, TakenAt};
 ghost use Rattle.consolidate.specs.Consolidating.{ClimbReady, ConsolidateReady, RowReady};
 ghost use Rattle.consolidate.specs.Consolidating.{Consolidates, LinksRow, Climbs, WritesRow};
 ghost use Rattle.consolidate.specs.Extract.{ExtractReady, Performs};
-ghost use Rattle.consolidate.specs.Released.{ReleaseReady, Releases, releasedOne};
+ghost use Rattle.consolidate.specs.Released.{ReleaseReady, Releases, released_one};
 ghost use Rattle.consolidate.specs.Removed.{DetachesRoot, RemovesRoot, RootReady};
 ghost use Rattle.consolidate.specs.Writing.{TreeReady, WritesTree};
 
@@ -33,8 +33,8 @@ fn in_order(s: &[u32], n: usize, h: u32, a: u32, b: u32) -> Pair
     requires h_bound { h < 8 }
     requires within { Within n s.now Key a }
     requires within_2 { Within n s.now Key b }
-    ensures first_value { result.first ≡ cond (comesBefore (itemKey h (look n s.now)) a b) a b }
-    ensures second_value { result.second ≡ cond (comesBefore (itemKey h (look n s.now)) a b) b a }
+    ensures first_value { result.first ≡ cond (comes_before (item_key h (look n s.now)) a b) a b }
+    ensures second_value { result.second ≡ cond (comes_before (item_key h (look n s.now)) a b) b a }
 {
     if precedes(s, n, h, a, b) {
         Pair {
@@ -69,11 +69,11 @@ fn climb(
     tree: u32,
     made: u32,
 ) -> Linked
-    requires climb_ready { ClimbReady n h s.old (treesOf held) tree made }
-    requires held_taken_value { held_taken ≡ taken_of (treesOf held) }
-    ensures climbs { Climbs n h s.old (treesOf held) tree made
-        s.new (treesOf result.places) result.links }
-    ensures taken_value { result.taken ≡ taken_of (treesOf result.places) }
+    requires climb_ready { ClimbReady n h s.old (trees_of held) tree made }
+    requires held_taken_value { held_taken ≡ taken_of (trees_of held) }
+    ensures climbs { Climbs n h s.old (trees_of held) tree made
+        s.new (trees_of result.places) result.links }
+    ensures taken_value { result.taken ≡ taken_of (trees_of result.places) }
 {
     let mut places = held;
     let mut taken = held_taken;
@@ -108,7 +108,7 @@ fn climb(
 fn release_tree(s: &mut [u32], n: usize, h: u32, x: u32)
     requires h_bound { h < 8 }
     requires within { Within n s.old Parent x }
-    ensures { Changes n s.old (releasedOne h x) s.new }
+    ensures { Changes n s.old (released_one h x) s.new }
 {
     let state = 1 + 2 * h;
     put(s, n, Field::Parent, x, NONE);
@@ -119,9 +119,9 @@ fn release_tree(s: &mut [u32], n: usize, h: u32, x: u32)
 // root that was taken out are not yet. The links of the row are left as they are.
 fn link_row(s: &mut [u32], n: usize, h: u32) -> Linked
     requires { ConsolidateReady n s.old h 0 }
-    ensures links_row { LinksRow n s.old h s.new (treesOf result.places) result.links }
+    ensures links_row { LinksRow n s.old h s.new (trees_of result.places) result.links }
     ensures links_bound { result.links ≤ 4096 }
-    ensures taken_value { result.taken ≡ taken_of (treesOf result.places) }
+    ensures taken_value { result.taken ≡ taken_of (trees_of result.places) }
 {
     let mut places = free_places();
     let mut taken = 0;
@@ -195,9 +195,9 @@ fn write_tree(
     taken: u32,
     r: u16,
 ) -> u32
-    requires tree_ready { TreeReady n s.old h m (get_or (treesOf places.now) r 0) }
-    requires taken_at { TakenAt (treesOf places.now) taken r }
-    ensures { WritesTree n s.old h m (get_or (treesOf places.now) r 0) s.new result }
+    requires tree_ready { TreeReady n s.old h m (get_or (trees_of places.now) r 0) }
+    requires taken_at { TakenAt (trees_of places.now) taken r }
+    ensures { WritesTree n s.old h m (get_or (trees_of places.now) r 0) s.new result }
 {
     if !is_taken(taken, r) {
         return m;
@@ -209,9 +209,9 @@ fn write_tree(
 
 // The row of heap h written anew from the places, by ascending rank, with its minimum.
 fn write_row(s: &mut [u32], n: usize, h: u32, places: [u16; 17], taken: u32)
-    requires row_ready { RowReady n s.old h (treesOf places) }
-    requires taken_value { taken ≡ taken_of (treesOf places) }
-    ensures { WritesRow n s.old h (treesOf places) s.new }
+    requires row_ready { RowReady n s.old h (trees_of places) }
+    requires taken_value { taken ≡ taken_of (trees_of places) }
+    ensures { WritesRow n s.old h (trees_of places) s.new }
 {
     put(s, n, Field::FirstTree, h, NONE);
     put(s, n, Field::LastTree, h, NONE);

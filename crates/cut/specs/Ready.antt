@@ -1,6 +1,6 @@
 -- What the moves within a call require: words that hold forests, and what these must be like.
 use Rattle.std.specs.Prelude.{ℕ, suc, ◌≡◌, ◌≢◌, List}
-use Rattle.rules.specs.Forests.{Forests, none, parent_of, heapOf}
+use Rattle.rules.specs.Forests.{Forests, none, parent_of, heap_of}
 use Rattle.rules.specs.Cut.{Cuts}
 use Rattle.rules.specs.WellFormed.{Disjoint}
 use Rattle.store.specs.Families.{Holds}
@@ -8,7 +8,7 @@ use Rattle.store.specs.Families.{Holds}
 -- x is an item of heap h
 pub record Member (t : Forests) (h x : ℕ) : Type 0 where
   pub disjoint : Disjoint t
-  pub heap : heapOf t x ≡ suc h
+  pub heap : heap_of t x ≡ suc h
 
 -- and not a root
 pub record Child (t : Forests) (h x : ℕ) : Type 0 where

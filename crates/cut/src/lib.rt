@@ -1,7 +1,7 @@
 // A cut, and the cuts that follow it, on a store for n items.
 ghost use Rattle.std.specs.Prelude.{ℕ, suc, ◌<◌};
 ghost use Rattle.rules.specs.Forests.{Forests, none};
-ghost use Rattle.rules.specs.Cut.{cut, nodeKind, cascadingCut, cutOut};
+ghost use Rattle.rules.specs.Cut.{cut, node_kind, cascading_cut, cut_out};
 ghost use Rattle.store.specs.Families.{Holds};
 ghost use Rattle.cut.specs.Ready.{Member, Child, CutReady, CascadeReady, Cascaded};
 
@@ -25,7 +25,7 @@ fn cut(s: &mut [u32], n: usize, h: u32, x: u32)
 fn cascading_cut(s: &mut [u32], n: usize, h: u32, x: u32) -> u32
     requires { CascadeReady n s.old h x }
     ensures { (a c m : ℕ → ℕ) (t : Forests) → Holds n s.old a c m t none → Member t h x
-        → Cascaded n s.new a c m (cascadingCut (suc n) (nodeKind t x) h x t) result }
+        → Cascaded n s.new a c m (cascading_cut (suc n) (node_kind t x) h x t) result }
 {
     let mut p = x;
     let mut cuts: u32 = 0;
@@ -52,7 +52,7 @@ fn cascading_cut(s: &mut [u32], n: usize, h: u32, x: u32) -> u32
 pub fn cut_out(s: &mut [u32], n: usize, h: u32, x: u32) -> u32
     requires { CutReady n s.old h x }
     ensures { (a c m : ℕ → ℕ) (t : Forests) → Holds n s.old a c m t none → Child t h x
-        → Cascaded n s.new a c m (cutOut h x t) result }
+        → Cascaded n s.new a c m (cut_out h x t) result }
 {
     let p = store::get(s, n, Field::Parent, x);
     cut(s, n, h, x);

@@ -2,17 +2,17 @@
 use mathlib.Core.Path.{◌≡◌}
 use lib.Seq.{length-take-le}
 use Rattle.paths.specs.Map.{spans}
-use Rattle.paths.proofs.WithinCeiling.{feedCeiling}
-use Rattle.mapfile.specs.Read.{Reading, readMap}
+use Rattle.paths.proofs.WithinCeiling.{feed_ceiling}
+use Rattle.mapfile.specs.Read.{Reading, read_map}
 use Rattle.mapfile.proofs.Fits.{read_fits}
-use Rattle.feed.specs.Shown.{mapRead, fedBy, takeSpans, takeResults, ownSpans, ownWindows, ownResults}
+use Rattle.feed.specs.Shown.{map_read, fed_by, take_spans, take_results, own_spans, own_windows, own_results}
 use Rattle.feed.specs.Theorems.{PrintedCeiling}
-use Rattle.feed.proofs.PrintedTable.{table-printed}
+use Rattle.feed.proofs.PrintedTable.{table_printed}
 
-pub printedCeiling : PrintedCeiling
-unfolding fedBy mapRead takeSpans
-printedCeiling text z h y =
-    let w : Reading = readMap text ownSpans ownWindows in
-    let C = feedCeiling (mapRead w) (takeResults w.answer.places ownResults) y in
-    let all : spans (mapRead w) ≡ w.answer.spans = length-take-le _ _ (read_fits text ownSpans ownWindows).inFrom in
-    (table-printed w ownResults z h y, rw all at C)
+pub printed_ceiling : PrintedCeiling
+unfolding fed_by map_read take_spans
+printed_ceiling text z h y =
+    let w : Reading = read_map text own_spans own_windows in
+    let C = feed_ceiling (map_read w) (take_results w.answer.places own_results) y in
+    let all : spans (map_read w) ≡ w.answer.spans = length-take-le _ _ (read_fits text own_spans own_windows).in_from in
+    (table_printed w own_results z h y, rw all at C)

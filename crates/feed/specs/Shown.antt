@@ -1,89 +1,89 @@
 -- What the program prints of a map: the table and the figures, or the code of a refusal alone.
 use Rattle.std.specs.Prelude.{ℕ, zero, suc, ◌+◌, ◌*◌, ◌^◌, ◌≤◌, ◌<◌, ◌≡◌, List, [], ◌∷◌, ◌++◌, cond, not, length, get_or, take, replicate, eqb, ltb}
 use Rattle.rules.specs.Forests.{none}
-use Rattle.rules.specs.Words.{storeSize}
+use Rattle.rules.specs.Words.{store_size}
 use Rattle.text.specs.Fields.{comma}
-use Rattle.text.specs.Lines.{lineFeed}
+use Rattle.text.specs.Lines.{line_feed}
 use Rattle.text.specs.Decimal.{field, row}
 use Rattle.text.specs.Output.{Wrote}
-use Rattle.paths.specs.Map.{SpanLists, spanLists, Windows, windows, Map, mapAt}
-use Rattle.paths.specs.Feed.{ResultLists, resultLists, Feed, feedResult}
-use Rattle.mapfile.specs.Read.{Reading, readMap}
+use Rattle.paths.specs.Map.{SpanLists, span_lists, Windows, windows, Map, map_at}
+use Rattle.paths.specs.Feed.{ResultLists, result_lists, Feed, feed_result}
+use Rattle.mapfile.specs.Read.{Reading, read_map}
 
 -- a word of the table and the byte that ends it; `-` stands for none
-unfoldable pub wordField : ℕ → ℕ → List ℕ
-wordField w b = cond (eqb w none) (45 ∷ b ∷ []) (field w b)
+unfoldable pub word_field : ℕ → ℕ → List ℕ
+word_field w b = cond (eqb w none) (45 ∷ b ∷ []) (field w b)
 
 -- `place,loss,span,joints`
-unfoldable pub entryRow : ℕ → ℕ → ℕ → ℕ → List ℕ
-entryRow place loss span hops =
-    field place comma ++ (wordField loss comma ++ (wordField span comma ++ wordField hops lineFeed))
+unfoldable pub entry_row : ℕ → ℕ → ℕ → ℕ → List ℕ
+entry_row place loss span hops =
+    field place comma ++ (word_field loss comma ++ (word_field span comma ++ word_field hops line_feed))
 
 -- the rows of the places below a number
 unfoldable pub entry_rows : List ℕ → List ℕ → List ℕ → ℕ → List ℕ
 entry_rows best last joints zero = []
 entry_rows best last joints (suc p) =
-    entry_rows best last joints p ++ entryRow p (get_or best p 0) (get_or last p 0) (get_or joints p 0)
+    entry_rows best last joints p ++ entry_row p (get_or best p 0) (get_or last p 0) (get_or joints p 0)
 
-unfoldable pub codeLine : ℕ → List ℕ
-codeLine code = field code lineFeed
+unfoldable pub code_line : ℕ → List ℕ
+code_line code = field code line_feed
 
 -- a feed call with n places
-unfoldable pub feedText : ℕ → Feed → List ℕ
-feedText n w =
-    cond (not (eqb w.code 0)) (codeLine w.code)
+unfoldable pub feed_text : ℕ → Feed → List ℕ
+feed_text n w =
+    cond (not (eqb w.code 0)) (code_line w.code)
     (entry_rows w.left.best w.left.last w.left.joints n ++ row (w.links ∷ w.cuts ∷ w.examined ∷ []))
 
 -- ---- a map text
 
 -- the lists up to n spans, and up to n places
-unfoldable pub takeSpans : ℕ → SpanLists → SpanLists
-takeSpans n l = spanLists (take n l.from) (take n l.to) (take n l.loss)
+unfoldable pub take_spans : ℕ → SpanLists → SpanLists
+take_spans n l = span_lists (take n l.from) (take n l.to) (take n l.loss)
 
-unfoldable pub takeWindows : ℕ → Windows → Windows
-takeWindows n w = windows (take n w.opens) (take n w.closes)
+unfoldable pub take_windows : ℕ → Windows → Windows
+take_windows n w = windows (take n w.opens) (take n w.closes)
 
-unfoldable pub takeResults : ℕ → ResultLists → ResultLists
-takeResults n l =
-    resultLists (take n l.best) (take n l.last) (take n l.joints) (take (storeSize n) l.store)
+unfoldable pub take_results : ℕ → ResultLists → ResultLists
+take_results n l =
+    result_lists (take n l.best) (take n l.last) (take n l.joints) (take (store_size n) l.store)
 
 -- the map of a reading
-unfoldable pub mapRead : Reading → Map
-mapRead w =
-    mapAt w.answer.places w.answer.start w.answer.minute (takeSpans w.answer.spans w.left)
-    (takeWindows w.answer.spans w.leftWindows)
+unfoldable pub map_read : Reading → Map
+map_read w =
+    map_at w.answer.places w.answer.start w.answer.minute (take_spans w.answer.spans w.left)
+    (take_windows w.answer.spans w.left_windows)
 
 -- the feed call on it, with the first words of longer lists
-unfoldable pub fedBy : Reading → ResultLists → Feed
-fedBy w own = feedResult (mapRead w) (takeResults w.answer.places own)
+unfoldable pub fed_by : Reading → ResultLists → Feed
+fed_by w own = feed_result (map_read w) (take_results w.answer.places own)
 
 -- the program's sizes, and its lists
-abbrev pub mostSpans : ℕ
-mostSpans = 4096
+abbrev pub most_spans : ℕ
+most_spans = 4096
 
-abbrev pub mostPlaces : ℕ
-mostPlaces = 1024
+abbrev pub most_places : ℕ
+most_places = 1024
 
-unfoldable pub ownSpans : SpanLists
-ownSpans = spanLists (replicate mostSpans 0) (replicate mostSpans 0) (replicate mostSpans 0)
+unfoldable pub own_spans : SpanLists
+own_spans = span_lists (replicate most_spans 0) (replicate most_spans 0) (replicate most_spans 0)
 
-unfoldable pub ownWindows : Windows
-ownWindows = windows (replicate mostSpans 0) (replicate mostSpans 0)
+unfoldable pub own_windows : Windows
+own_windows = windows (replicate most_spans 0) (replicate most_spans 0)
 
-unfoldable pub ownResults : ResultLists
-ownResults =
-    resultLists (replicate mostPlaces 0) (replicate mostPlaces 0) (replicate mostPlaces 0)
-    (replicate (storeSize mostPlaces) 0)
+unfoldable pub own_results : ResultLists
+own_results =
+    result_lists (replicate most_places 0) (replicate most_places 0) (replicate most_places 0)
+    (replicate (store_size most_places) 0)
 
 -- The reader's code is tested first, then 14 for more places than the program has room for, then the call's code.
-unfoldable pub mapText : Reading → ResultLists → List ℕ
-mapText w own =
-    cond (not (eqb w.answer.code 0)) (codeLine w.answer.code)
-    (cond (ltb mostPlaces w.answer.places) (codeLine 14) (feedText w.answer.places (fedBy w own)))
+unfoldable pub map_text : Reading → ResultLists → List ℕ
+map_text w own =
+    cond (not (eqb w.answer.code 0)) (code_line w.answer.code)
+    (cond (ltb most_places w.answer.places) (code_line 14) (feed_text w.answer.places (fed_by w own)))
 
 -- what the program prints of a map text
-abbrev pub programText : List ℕ → List ℕ
-programText text = mapText (readMap text ownSpans ownWindows) ownResults
+abbrev pub program_text : List ℕ → List ℕ
+program_text text = map_text (read_map text own_spans own_windows) own_results
 
 -- The first r bytes are these, and they are what is printed.
 pub record Shows (bytes out : List ℕ) (r : ℕ) (out' : List ℕ) : Type 0 where
@@ -93,11 +93,11 @@ pub record Shows (bytes out : List ℕ) (r : ℕ) (out' : List ℕ) : Type 0 whe
 -- ---- for the functions inside
 
 -- the most bytes of a place's row, which has four fields of at most eleven, and of the three figures
-abbrev pub entryMost : ℕ
-entryMost = 44
+abbrev pub entry_most : ℕ
+entry_most = 44
 
-abbrev pub figuresMost : ℕ
-figuresMost = 33
+abbrev pub figures_most : ℕ
+figures_most = 33
 
 -- a row was written, of at most so many bytes
 pub record WroteRow (most : ℕ) (out : List ℕ) (at : ℕ) (bytes out' : List ℕ) (r : ℕ) : Type 0 where
@@ -106,14 +106,14 @@ pub record WroteRow (most : ℕ) (out : List ℕ) (at : ℕ) (bytes out' : List 
 
 -- room for the rows of n places and for the figures
 abbrev pub Roomy : ℕ → List ℕ → Type 0
-Roomy n out = entryMost * n + figuresMost ≤ length out
+Roomy n out = entry_most * n + figures_most ≤ length out
 
 pub record TableReady (best last joints out : List ℕ) : Type 0 where
-  pub lastN : length last ≡ length best
-  pub jointsN : length joints ≡ length best
+  pub last_n : length last ≡ length best
+  pub joints_n : length joints ≡ length best
   pub few : length best < 2 ^ 32
   pub room : Roomy (length best) out
 
 pub record TableWrote (best last joints out : List ℕ) (r : ℕ) (out' : List ℕ) : Type 0 where
   pub wrote : Wrote out 0 (entry_rows best last joints (length best)) out' r
-  pub short : r ≤ entryMost * length best
+  pub short : r ≤ entry_most * length best

@@ -2,10 +2,10 @@
 ghost use Rattle.std.specs.Prelude.{[], ◌∷◌, ◌+◌, ◌≤◌, length};
 ghost use Rattle.text.specs.Decimal.{row};
 ghost use Rattle.text.specs.Output.{Wrote};
-ghost use Rattle.paths.specs.Map.{spanLists, windows, mapAt};
-ghost use Rattle.paths.specs.Feed.{resultLists, feedResult};
-ghost use Rattle.feed.specs.Shown.{wordField, entryRow, feedText, programText, Shows};
-ghost use Rattle.feed.specs.Shown.{entryMost, figuresMost, Roomy, WroteRow, TableReady, TableWrote};
+ghost use Rattle.paths.specs.Map.{span_lists, windows, map_at};
+ghost use Rattle.paths.specs.Feed.{result_lists, feed_result};
+ghost use Rattle.feed.specs.Shown.{word_field, entry_row, feed_text, program_text, Shows};
+ghost use Rattle.feed.specs.Shown.{entry_most, figures_most, Roomy, WroteRow, TableReady, TableWrote};
 
 use libc::{STDIN_FILENO, STDOUT_FILENO};
 use store::NONE;
@@ -19,7 +19,7 @@ const SPANS: usize = 4096;
 // Writes a word of the table and the byte that ends it.
 fn put_word(out: &mut [u8], at: usize, word: u32, end: u8) -> usize
     requires { at + 11 ≤ length out.old }
-    ensures { Wrote out.old at (wordField word end) out.new result }
+    ensures { Wrote out.old at (word_field word end) out.new result }
 {
     if word == NONE {
         let next = put_byte(out, at, b'-');
@@ -30,8 +30,8 @@ fn put_word(out: &mut [u8], at: usize, word: u32, end: u8) -> usize
 
 // Writes the row of a place; `hops` is its number of joints.
 fn put_entry(out: &mut [u8], at: usize, place: u32, loss: u32, span: u32, hops: u32) -> usize
-    requires { at + entryMost ≤ length out.old }
-    ensures { WroteRow entryMost out.old at (entryRow place loss span hops) out.new result }
+    requires { at + entry_most ≤ length out.old }
+    ensures { WroteRow entry_most out.old at (entry_row place loss span hops) out.new result }
 {
     let second = put_field(out, at, place, b',');
     let third = put_word(out, second, loss, b',');
@@ -56,8 +56,8 @@ fn put_table(out: &mut [u8], best: &[u32], last: &[u32], joints: &[u32]) -> usiz
 
 // Writes the three figures of a call that is done.
 fn put_figures(out: &mut [u8], at: usize, links: u32, cuts: u32, examined: u32) -> usize
-    requires { at + figuresMost ≤ length out.old }
-    ensures { WroteRow figuresMost out.old at (row (links ∷ cuts ∷ examined ∷ [])) out.new
+    requires { at + figures_most ≤ length out.old }
+    ensures { WroteRow figures_most out.old at (row (links ∷ cuts ∷ examined ∷ [])) out.new
         result }
 {
     let second = put_field(out, at, links, b',');
@@ -83,11 +83,11 @@ fn answer_feed(
 ) -> usize
     requires { Roomy places out.old }
     ensures { Shows
-        (feedText places
-        (feedResult
-        (mapAt places start minute (spanLists from.now to.now loss.now)
+        (feed_text places
+        (feed_result
+        (map_at places start minute (span_lists from.now to.now loss.now)
         (windows opens.now closes.now))
-        (resultLists best.old last.old joints.old store.old)))
+        (result_lists best.old last.old joints.old store.old)))
         out.old result out.new }
 {
     let fed = finder::feed(
@@ -105,7 +105,7 @@ fn answer_feed(
 // 1,024 places and for the figures.
 fn answer_text(text: &[u8], out: &mut [u8]) -> usize
     requires { 46000 ≤ length out.old }
-    ensures { Shows (programText text.now) out.old result out.new }
+    ensures { Shows (program_text text.now) out.old result out.new }
 {
     let mut from = [0u32; SPANS];
     let mut to = [0u32; SPANS];

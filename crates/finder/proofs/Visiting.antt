@@ -10,39 +10,39 @@ use borrow.Author.Tests.{eq-eqb}
 use Rattle.rules.specs.Forests.{none}
 use Rattle.paths.specs.Map.{
   windows,
-  usableAt,
-  usableBy,
+  usable_at,
+  usable_by,
   Map,
   spans,
-  fromOf,
-  toOf,
+  from_of,
+  to_of,
   usable,
   WindowsFit,
   SupplyFits,
 }
 use Rattle.paths.specs.Queue.{Stop}
-use Rattle.paths.specs.Search.{Search, offer, try, tried, examine, steps, bestAt, jointsAt}
+use Rattle.paths.specs.Search.{Search, offer, try, tried, examine, steps, best_at, joints_at}
 use Rattle.paths.specs.Feed.{ResultLists}
 use Rattle.paths.specs.Theorems.{Moment, trying}
 use Rattle.paths.proofs.Invariant.{unsettled}
 use Rattle.paths.proofs.Offers.{TryingOf}
 use Rattle.paths.proofs.Tried.{try-closed}
-use Rattle.paths.proofs.Examined.{examinedAtMost}
+use Rattle.paths.proofs.Examined.{examined_at_most}
 use Rattle.relax.specs.declared.Progress.{Progress}
-use Rattle.relax.specs.Tracks.{Tracks, examineOne}
+use Rattle.relax.specs.Tracks.{Tracks, examine_one}
 use Rattle.relax.specs.Advances.{Offerable, OfferReady, Advances}
 use Rattle.finder.specs.SearchState.{Taken}
-use Rattle.finder.proofs.Ready.{logged-ready, stored-forests}
+use Rattle.finder.proofs.Ready.{logged_ready, stored_forests}
 use Rattle.finder.proofs.AtPlace.{
   at,
   left,
   left_is,
-  tryingAt,
+  trying_at,
   served_at,
-  hops-is,
-  unmet-apart,
+  hops_is,
+  unmet_apart,
   insert-allowed,
-  decrease-allowed,
+  decrease_allowed,
 }
 use Rattle.finder.proofs.Walking.{Walking}
 
@@ -59,97 +59,97 @@ module _
   module _
       {end e : ℕ} {l : ResultLists} {go : Progress} (W : Walking stop m k u end e l go)
       (j : e < end) where
-    span-in : e < spans m
-    span-in = omega (arith, W.within)
+    span_in : e < spans m
+    span_in = omega (arith, W.within)
 
-    tried-in : e ≤ spans m
-    tried-in = omega (arith, span-in)
+    tried_in : e ≤ spans m
+    tried_in = omega (arith, span_in)
 
-    leaves-u : fromOf m e ≡ u
-    leaves-u = W.own e (omega arith) j
+    leaves_u : from_of m e ≡ u
+    leaves_u = W.own e (omega arith) j
 
-    tryingE : TryingOf m u (bestAt before u) (jointsAt before u) e (left K) (at stop m k u e)
-    tryingE = tryingAt K e tried-in
+    trying_e : TryingOf m u (best_at before u) (joints_at before u) e (left K) (at stop m k u e)
+    trying_e = trying_at K e tried_in
 
     moment : Moment stop m (at stop m k u e)
-    moment = trying k u e K.next-is tried-in
+    moment = trying k u e K.next_is tried_in
 
-    pub examined-small : go.examined < 4294967295
-    examined-small =
+    pub examined_small : go.examined < 4294967295
+    examined_small =
         omega (
           arith,
-          W.tracks.examined-is,
-          examinedAtMost stop m K.accepted (at stop m k u e) moment,
+          W.tracks.examined_is,
+          examined_at_most stop m K.accepted (at stop m k u e) moment,
           K.accepted.short,
         )
 
     pub span_small : e < 16384
-    span_small = omega (arith, span-in, K.accepted.short)
+    span_small = omega (arith, span_in, K.accepted.short)
 
-    pub in-to : e < length to
-    in-to = omega (arith, span-in, K.accepted.toN, ap length K.lists.to_is)
+    pub in_to : e < length to
+    in_to = omega (arith, span_in, K.accepted.to_n, ap length K.lists.to_is)
 
-    pub in-loss : e < length loss
-    in-loss = omega (arith, span-in, K.accepted.lossN, ap length K.lists.loss-is)
+    pub in_loss : e < length loss
+    in_loss = omega (arith, span_in, K.accepted.loss_n, ap length K.lists.loss_is)
 
-    windows-fit : WindowsFit (spans m) minute (windows opens closes)
-    windows-fit = subst (SupplyFits (spans m)) K.lists.supply-is K.accepted.supplied
+    windows_fit : WindowsFit (spans m) minute (windows opens closes)
+    windows_fit = subst (SupplyFits (spans m)) K.lists.supply_is K.accepted.supplied
 
     pub in_opens : e < length opens
-    in_opens = omega (arith, span-in, windows-fit.opensN)
+    in_opens = omega (arith, span_in, windows_fit.opens_n)
 
-    pub in-closes : e < length closes
-    in-closes = omega (arith, span-in, windows-fit.closesN)
+    pub in_closes : e < length closes
+    in_closes = omega (arith, span_in, windows_fit.closes_n)
 
     -- the sum fits a word, also of a span that is closed
-    pub loss-fits : d + get_or loss e 0 < none
-    loss-fits =
-        rw K.lists.loss-is
-        (omega (arith, K.loss-is, tryingE.takenLast.room, K.accepted.high e span-in, K.accepted.few))
+    pub loss_fits : d + get_or loss e 0 < none
+    loss_fits =
+        rw K.lists.loss_is
+        (omega (arith, K.loss_is, trying_e.taken_last.room, K.accepted.high e span_in, K.accepted.few))
 
     -- whether span e is usable is what the code finds of its window
     abbrev found : Bool
-    found = usableAt minute (get_or opens e 0) (get_or closes e 0)
+    found = usable_at minute (get_or opens e 0) (get_or closes e 0)
 
-    usable-is : usable m e ≡ found
-    unfolding usableBy
-    usable-is = rw K.lists.supply-is
+    usable_is : usable m e ≡ found
+    unfolding usable_by
+    usable_is = rw K.lists.supply_is
 
-    pub offer-ready : OfferReady (get_or to e 0) (d + get_or loss e 0) l (examineOne go)
-    unfolding examineOne unsettled
-    offer-ready =
-        let I = tryingE.invariant in
-        let inside = K.accepted.toIn e span-in in
-        let forests = stored-forests stop m K.accepted (at stop m k u e) moment W.tracks.logged in
-        rw (K.lists.to_is, K.lists.loss-is, K.loss-is)
+    pub offer_ready : OfferReady (get_or to e 0) (d + get_or loss e 0) l (examine_one go)
+    unfolding examine_one unsettled
+    offer_ready =
+        let I = trying_e.invariant in
+        let inside = K.accepted.to_in e span_in in
+        let forests = stored_forests stop m K.accepted (at stop m k u e) moment W.tracks.logged in
+        rw (K.lists.to_is, K.lists.loss_is, K.loss_is)
         (record {
-          inBest = omega (arith, ap length W.tracks.best-is, I.bestN, inside);
-          inLast = omega (arith, ap length W.tracks.last-is, I.lastN, inside);
-          inJoints = omega (arith, ap length W.tracks.joints-is, I.jointsN, inside);
-          ready = logged-ready stop m K.accepted (at stop m k u e) moment W.tracks.logged;
-          room = omega (arith, W.tracks.met-is, tryingE.left, left_is K, K.accepted.few);
-          inserts = rw (W.tracks.best-is, forests) (insert-allowed K e tried-in (toOf m e) _ inside);
-          lowers = rw (W.tracks.best-is, forests) (decrease-allowed K e tried-in (toOf m e) _ (omega arith));
+          in_best = omega (arith, ap length W.tracks.best_is, I.best_n, inside);
+          in_last = omega (arith, ap length W.tracks.last_is, I.last_n, inside);
+          in_joints = omega (arith, ap length W.tracks.joints_is, I.joints_n, inside);
+          ready = logged_ready stop m K.accepted (at stop m k u e) moment W.tracks.logged;
+          room = omega (arith, W.tracks.met_is, trying_e.left, left_is K, K.accepted.few);
+          inserts = rw (W.tracks.best_is, forests) (insert-allowed K e tried_in (to_of m e) _ inside);
+          lowers = rw (W.tracks.best_is, forests) (decrease_allowed K e tried_in (to_of m e) _ (omega arith));
         })
 
-    examined-tracks : Tracks m.places (suc k) (examine (at stop m k u e)) l (examineOne go)
-    unfolding examineOne
-    examined-tracks =
+    examined_tracks : Tracks m.places (suc k) (examine (at stop m k u e)) l (examine_one go)
+    unfolding examine_one
+    examined_tracks =
         record {
-          best-is = W.tracks.best-is;
-          last-is = W.tracks.last-is;
-          joints-is = W.tracks.joints-is;
+          best_is = W.tracks.best_is;
+          last_is = W.tracks.last_is;
+          joints_is = W.tracks.joints_is;
           logged = W.tracks.logged;
-          examined-is = omega (arith, W.tracks.examined-is);
-          met-is = W.tracks.met-is;
+          examined_is = omega (arith, W.tracks.examined_is);
+          met_is = W.tracks.met_is;
         }
 
     -- the walk goes on where the search of the next span is tracked
-    next-span : {l' : ResultLists} {r : Progress} → r.visited ≡ go.visited
+    next_span : {l' : ResultLists} {r : Progress} → r.visited ≡ go.visited
         → Tracks m.places (suc k) (at stop m k u (suc e)) l' r → Walking stop m k u end (e + 1) l' r
-    next-span v T =
+    next_span v T =
         record {
-          visited-is = v ∙ W.visited-is;
+          visited_is = v ∙ W.visited_is;
           ordered = omega arith;
           within = W.within;
           own = λ i a b. W.own i (omega arith) b;
@@ -158,34 +158,34 @@ module _
         }
 
     -- the span is closed: it is examined, and no more
-    pub walking-closed : found ≡ false → Walking stop m k u end (e + 1) l (examineOne go)
-    unfolding examineOne tried
-    walking-closed c =
-        next-span refl
+    pub walking_closed : found ≡ false → Walking stop m k u end (e + 1) l (examine_one go)
+    unfolding examine_one tried
+    walking_closed c =
+        next_span refl
         (rw (
-          eq-eqb (fromOf m e) u leaves-u,
-          usable-is,
+          eq-eqb (from_of m e) u leaves_u,
+          usable_is,
           c,
-          try-closed m (bestAt before u) (jointsAt before u) e (at stop m k u e),
+          try-closed m (best_at before u) (joints_at before u) e (at stop m k u e),
         )
-        examined-tracks)
+        examined_tracks)
 
-    offerable : Offerable m.places (toOf m e) (examine (at stop m k u e))
+    offerable : Offerable m.places (to_of m e) (examine (at stop m k u e))
     offerable =
         record {
-          formed = (served_at K e tried-in).formed;
-          inside = omega (arith, tryingE.invariant.waitsN, K.accepted.toIn e span-in);
-          apart = unmet-apart K e tried-in (toOf m e);
+          formed = (served_at K e tried_in).formed;
+          inside = omega (arith, trying_e.invariant.waits_n, K.accepted.to_in e span_in);
+          apart = unmet_apart K e tried_in (to_of m e);
         }
 
     -- the span is usable: it offers
     pub walking_on : found ≡ true → {l' : ResultLists} {r : Progress}
         → Advances (get_or to e 0) (offer (get_or to e 0) (d + get_or loss e 0) (get_or l₀.joints u 0 + 1) e) l
-        (examineOne go) l' r
+        (examine_one go) l' r
         → Walking stop m k u end (e + 1) l' r
-    unfolding examineOne tried try
+    unfolding examine_one tried try
     walking_on o M₀ =
-        let M = rw (K.lists.to_is, K.lists.loss-is, K.loss-is, hops-is K, add-one) at M₀ in
-        next-span M.visited-is
-        (rw (eq-eqb (fromOf m e) u leaves-u, usable-is, o)
-        (M.tracks m.places (suc k) (examine (at stop m k u e)) offerable examined-tracks))
+        let M = rw (K.lists.to_is, K.lists.loss_is, K.loss_is, hops_is K, add-one) at M₀ in
+        next_span M.visited_is
+        (rw (eq-eqb (from_of m e) u leaves_u, usable_is, o)
+        (M.tracks m.places (suc k) (examine (at stop m k u e)) offerable examined_tracks))

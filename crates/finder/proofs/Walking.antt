@@ -8,24 +8,24 @@ use native.Mathlib.Omega.{arith}
 use lib.ListN.{get_or}
 use lib.Dec.{ltb}
 use borrow.Author.Tests.{ltb-true, ltb-false}
-use Rattle.paths.specs.Map.{Map, spans, fromOf}
+use Rattle.paths.specs.Map.{Map, spans, from_of}
 use Rattle.paths.specs.Queue.{Stop}
-use Rattle.paths.specs.Search.{Search, extracted, visit, step, steps, bestAt, jointsAt}
+use Rattle.paths.specs.Search.{Search, extracted, visit, step, steps, best_at, joints_at}
 use Rattle.paths.specs.Feed.{ResultLists}
 use Rattle.spans.specs.Range.{FirstSpan}
 use Rattle.relax.specs.declared.Progress.{Progress}
-use Rattle.relax.specs.Tracks.{Tracks, visitOne}
+use Rattle.relax.specs.Tracks.{Tracks, visit_one}
 use Rattle.finder.specs.SearchState.{Taken, Visits}
 use Rattle.finder.proofs.OwnSpans.{walk_begins, walk_ends}
 use Rattle.finder.proofs.AtPlace.{at, left_is, place_in}
 
 -- Before span e of place u, which was taken after k steps: the spans from e to `end` are its spans still to be tried.
 pub record Walking (stop : Stop) (m : Map) (k u end e : ℕ) (l : ResultLists) (go : Progress) : Type 0 where
-  pub visited-is : go.visited ≡ k
+  pub visited_is : go.visited ≡ k
   pub ordered : e ≤ end
   pub within : end ≤ spans m
-  pub own : (i : ℕ) → e ≤ i → i < end → fromOf m i ≡ u
-  pub beyond : end < spans m → u < fromOf m end
+  pub own : (i : ℕ) → e ≤ i → i < end → from_of m i ≡ u
+  pub beyond : end < spans m → u < from_of m end
   pub tracks : Tracks m.places (suc k) (at stop m k u e) l go
 
 module _
@@ -48,20 +48,20 @@ module _
   pub first_small : get_or index u 0 ≤ 16384
   first_small = omega (arith, first_of.within, K.accepted.short)
 
-  pub end-small : get_or index (u + 1) 0 ≤ 16384
-  end-small = omega (arith, end_of.within, K.accepted.short)
+  pub end_small : get_or index (u + 1) 0 ≤ 16384
+  end_small = omega (arith, end_of.within, K.accepted.short)
 
-  pub walking-begins : Walking stop m k u (get_or index (u + 1) 0) (get_or index u 0) l₀ taken
-  walking-begins =
+  pub walking_begins : Walking stop m k u (get_or index (u + 1) 0) (get_or index u 0) l₀ taken
+  walking_begins =
       record {
-        visited-is = refl;
+        visited_is = refl;
         ordered = ordered;
         within = end_of.within;
         own =
             λ i a b. omega (arith, first_of.above i a (omega (arith, end_of.within)), end_of.below i b);
         beyond = λ h. omega (arith, end_of.above end (le_refl _) h);
         tracks =
-            rw (walk_begins m u (bestAt before u) (jointsAt before u) (extracted u before) first first_of.below)
+            rw (walk_begins m u (best_at before u) (joints_at before u) (extracted u before) first first_of.below)
             K.tracks;
       }
     where
@@ -86,43 +86,43 @@ module _
               ))
 
   module _ {end e : ℕ} {l : ResultLists} {go : Progress} (W : Walking stop m k u end e l go) where
-    pub visited-small : go.visited < 4294967295
-    visited-small = omega (arith, W.visited-is, left_is K, K.accepted.few)
+    pub visited_small : go.visited < 4294967295
+    visited_small = omega (arith, W.visited_is, left_is K, K.accepted.few)
 
     -- the spans after e leave other places
     steps_next : end ≤ e → steps stop m (suc k) ≡ at stop m k u e
     unfolding steps step visit
     steps_next j =
         let q : end ≡ e = omega (arith, W.ordered) in
-        rw K.next-is
-        (walk_ends m K.accepted u (bestAt before u) (jointsAt before u) (extracted u before) end W.within
+        rw K.next_is
+        (walk_ends m K.accepted u (best_at before u) (joints_at before u) (extracted u before) end W.within
         W.beyond
         ∙ ap (λ i. at stop m k u i) q)
 
-    visited-tracks : Tracks m.places (suc k) (at stop m k u e) l (visitOne go)
-    unfolding visitOne
-    visited-tracks =
+    visited_tracks : Tracks m.places (suc k) (at stop m k u e) l (visit_one go)
+    unfolding visit_one
+    visited_tracks =
         record {
-          best-is = W.tracks.best-is;
-          last-is = W.tracks.last-is;
-          joints-is = W.tracks.joints-is;
+          best_is = W.tracks.best_is;
+          last_is = W.tracks.last_is;
+          joints_is = W.tracks.joints_is;
           logged = W.tracks.logged;
-          examined-is = W.tracks.examined-is;
-          met-is = W.tracks.met-is;
+          examined_is = W.tracks.examined_is;
+          met_is = W.tracks.met_is;
         }
 
-    turned : end ≤ e → (i : ℕ) → i ≡ suc k → Tracks m.places i (steps stop m i) l (visitOne go)
-    turned j i q = rw (q, steps_next j) visited-tracks
+    turned : end ≤ e → (i : ℕ) → i ≡ suc k → Tracks m.places i (steps stop m i) l (visit_one go)
+    turned j i q = rw (q, steps_next j) visited_tracks
 
-    pub walking-ends : end ≤ e → Visits stop m taken l (visitOne go)
-    unfolding visitOne
-    walking-ends j =
+    pub walking_ends : end ≤ e → Visits stop m taken l (visit_one go)
+    unfolding visit_one
+    walking_ends j =
         record {
           stands =
               record {
                 accepted = K.accepted;
-                few = omega (arith, W.visited-is, left_is K);
-                tracks = turned j (go.visited + 1) (omega (arith, W.visited-is));
+                few = omega (arith, W.visited_is, left_is K);
+                tracks = turned j (go.visited + 1) (omega (arith, W.visited_is));
               };
-          one_more = omega (arith, W.visited-is);
+          one_more = omega (arith, W.visited_is);
         }

@@ -5,16 +5,16 @@ use Rattle.paths.specs.Feed.{ResultLists, Feed, BudgetFeed}
 use Rattle.finder.specs.declared.Fed.{Fed}
 use Rattle.finder.specs.declared.budget.FedWithin.{FedWithin}
 
-abbrev pub refusedFed : ℕ → Fed
-refusedFed code = record { code = code; links = 0; cuts = 0; examined = 0 }
+abbrev pub refused_fed : ℕ → Fed
+refused_fed code = record { code = code; links = 0; cuts = 0; examined = 0 }
 
-abbrev pub doneFed : Progress → Fed
-doneFed r = record { code = 0; links = r.tally.links; cuts = r.tally.cuts; examined = r.examined }
+abbrev pub done_fed : Progress → Fed
+done_fed r = record { code = 0; links = r.tally.links; cuts = r.tally.cuts; examined = r.examined }
 
 -- an answer and the lists left
-abbrev pub feedOf : Fed → ResultLists → Feed
-feedOf r left = record { code = r.code; links = r.links; cuts = r.cuts; examined = r.examined; left = left }
+abbrev pub feed_of : Fed → ResultLists → Feed
+feed_of r left = record { code = r.code; links = r.links; cuts = r.cuts; examined = r.examined; left = left }
 
 -- the same of a call with a budget, which also answers how many places it lists, and leaves a place list
-abbrev pub budgetFeedOf : FedWithin → ResultLists → List ℕ → BudgetFeed
-budgetFeedOf r left listed = record { feed = feedOf r.fed left; number = r.listed; listed = listed }
+abbrev pub budget_feed_of : FedWithin → ResultLists → List ℕ → BudgetFeed
+budget_feed_of r left listed = record { feed = feed_of r.fed left; number = r.listed; listed = listed }

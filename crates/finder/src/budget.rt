@@ -1,11 +1,11 @@
 // The feed table within a budget of loss, and the list of the places in it.
 ghost use Rattle.std.specs.Prelude.{◌≡◌, cond, ℕ, length, ltb};
 ghost use Rattle.rules.specs.Forests.{none};
-ghost use Rattle.paths.specs.Map.{spanLists, windows, mapAt};
-ghost use Rattle.paths.specs.Feed.{resultLists, budgetResult};
+ghost use Rattle.paths.specs.Map.{span_lists, windows, map_at};
+ghost use Rattle.paths.specs.Feed.{result_lists, budget_result};
 ghost use Rattle.finder.specs.SearchState.{ListReady, FoundListed};
 ghost use Rattle.finder.specs.Hidden.{Hidden};
-ghost use Rattle.finder.specs.Answers.{budgetFeedOf};
+ghost use Rattle.finder.specs.Answers.{budget_feed_of};
 
 use super::visit::visit_next;
 use super::{Fed, begin_search, done, refused};
@@ -39,20 +39,20 @@ fn search_within(
     store: &mut [u32],
     begun: Progress,
 ) -> Progress
-    requires { (start : ℕ) × ListReady budget (mapAt places start minute (spanLists from.now to.now loss.now)
+    requires { (start : ℕ) × ListReady budget (map_at places start minute (span_lists from.now to.now loss.now)
         (windows opens.now closes.now))
-        (resultLists best.old last.old joints.old store.old) listed.old begun }
+        (result_lists best.old last.old joints.old store.old) listed.old begun }
     ensures { (start : ℕ)
         → ListReady budget
-        (mapAt places start minute (spanLists from.now to.now loss.now)
+        (map_at places start minute (span_lists from.now to.now loss.now)
         (windows opens.now closes.now))
-        (resultLists best.old last.old joints.old store.old)
+        (result_lists best.old last.old joints.old store.old)
         listed.old begun
         → FoundListed budget
-        (mapAt places start minute (spanLists from.now to.now loss.now)
+        (map_at places start minute (span_lists from.now to.now loss.now)
         (windows opens.now closes.now))
         listed.old
-        (resultLists best.new last.new joints.new store.new)
+        (result_lists best.new last.new joints.new store.new)
         listed.new result }
 {
     let mut index: Index = [0; 4097];
@@ -116,13 +116,13 @@ pub fn feed_within(
     listed: &mut [u32],
     store: &mut [u32],
 ) -> FedWithin
-    ensures { budgetFeedOf result
-        (resultLists best.new last.new joints.new store.new)
+    ensures { budget_feed_of result
+        (result_lists best.new last.new joints.new store.new)
         listed.new
-        ≡ budgetResult budget
-        (mapAt places start minute (spanLists from.now to.now loss.now)
+        ≡ budget_result budget
+        (map_at places start minute (span_lists from.now to.now loss.now)
         (windows opens.now closes.now))
-        (resultLists best.old last.old joints.old store.old)
+        (result_lists best.old last.old joints.old store.old)
         listed.old }
 {
     let code = feed_code(

@@ -1,10 +1,10 @@
 // The feed finder: the least losses from a start (shortest paths), found over the queues.
 ghost use Rattle.std.specs.Prelude.{◌≡◌, ℕ, length, replicate};
-ghost use Rattle.paths.specs.Map.{spanLists, windows, mapAt};
+ghost use Rattle.paths.specs.Map.{span_lists, windows, map_at};
 ghost use Rattle.paths.specs.Search.{never};
-ghost use Rattle.paths.specs.Feed.{resultLists, feedResult};
+ghost use Rattle.paths.specs.Feed.{result_lists, feed_result};
 ghost use Rattle.finder.specs.SearchState.{BeginReady, Begun, Stands, Found};
-ghost use Rattle.finder.specs.Answers.{refusedFed, doneFed, feedOf};
+ghost use Rattle.finder.specs.Answers.{refused_fed, done_fed, feed_of};
 
 use heap::insert::insert;
 use relax::Progress;
@@ -28,7 +28,7 @@ pub struct Fed {
 
 // The answer of a call that is refused.
 fn refused(code: u32) -> Fed
-    ensures { result ≡ refusedFed code }
+    ensures { result ≡ refused_fed code }
 {
     Fed {
         code,
@@ -40,7 +40,7 @@ fn refused(code: u32) -> Fed
 
 // The answer of a call that is done, by its search.
 fn done(found: Progress) -> Fed
-    ensures { result ≡ doneFed found }
+    ensures { result ≡ done_fed found }
 {
     let tally = found.tally;
     Fed {
@@ -70,9 +70,9 @@ fn begin_search(
     joints: &mut [u32],
     store: &mut [u32],
 ) -> Progress
-    requires { BeginReady places start (resultLists best.old last.old joints.old store.old) }
+    requires { BeginReady places start (result_lists best.old last.old joints.old store.old) }
     ensures { Begun places start
-        (resultLists best.new last.new joints.new store.new) result }
+        (result_lists best.new last.new joints.new store.new) result }
 {
     fill(best, NONE);
     fill(last, NONE);
@@ -107,16 +107,16 @@ fn search(
     store: &mut [u32],
     begun: Progress,
 ) -> Progress
-    requires { (start : ℕ) × Stands never (mapAt places start minute (spanLists from.now to.now loss.now)
+    requires { (start : ℕ) × Stands never (map_at places start minute (span_lists from.now to.now loss.now)
         (windows opens.now closes.now))
-        (resultLists best.old last.old joints.old store.old) begun }
+        (result_lists best.old last.old joints.old store.old) begun }
     ensures { (start : ℕ)
-        → Stands never (mapAt places start minute (spanLists from.now to.now loss.now)
+        → Stands never (map_at places start minute (span_lists from.now to.now loss.now)
         (windows opens.now closes.now))
-        (resultLists best.old last.old joints.old store.old) begun
-        → Found never (mapAt places start minute (spanLists from.now to.now loss.now)
+        (result_lists best.old last.old joints.old store.old) begun
+        → Found never (map_at places start minute (span_lists from.now to.now loss.now)
         (windows opens.now closes.now))
-        (resultLists best.new last.new joints.new store.new) result }
+        (result_lists best.new last.new joints.new store.new) result }
 {
     let mut index: Index = [0; 4097];
     index_spans(places, from, &mut index);
@@ -145,12 +145,12 @@ pub fn feed(
     joints: &mut [u32],
     store: &mut [u32],
 ) -> Fed
-    ensures { feedOf result
-        (resultLists best.new last.new joints.new store.new)
-        ≡ feedResult
-        (mapAt places start minute (spanLists from.now to.now loss.now)
+    ensures { feed_of result
+        (result_lists best.new last.new joints.new store.new)
+        ≡ feed_result
+        (map_at places start minute (span_lists from.now to.now loss.now)
         (windows opens.now closes.now))
-        (resultLists best.old last.old joints.old store.old) }
+        (result_lists best.old last.old joints.old store.old) }
 {
     let code = feed_code(
         places,

@@ -2,7 +2,7 @@
 // contracts hold for any rule, and for any map whose lists these are.
 ghost use Rattle.paths.specs.Map.{Map};
 ghost use Rattle.paths.specs.Queue.{Stop};
-ghost use Rattle.paths.specs.Feed.{resultLists};
+ghost use Rattle.paths.specs.Feed.{result_lists};
 ghost use Rattle.finder.specs.SearchState.{Taken, Goes, Visits};
 
 use heap::delete::extract_min;
@@ -30,13 +30,13 @@ fn try_spans(
 ) -> Progress
     requires { (stop : Stop) × (m : Map)
         × Taken stop m minute index.now to.now loss.now opens.now closes.now u d
-        (resultLists best.old last.old joints.old store.old) taken }
+        (result_lists best.old last.old joints.old store.old) taken }
     ensures { (stop : Stop) (m : Map)
         → Taken stop m minute index.now to.now loss.now opens.now
         closes.now u d
-        (resultLists best.old last.old joints.old store.old) taken
+        (result_lists best.old last.old joints.old store.old) taken
         → Visits stop m taken
-        (resultLists best.new last.new joints.new store.new) result }
+        (result_lists best.new last.new joints.new store.new) result }
 {
     let i = u as usize;
     let hops = joints[i] + 1;
@@ -72,13 +72,13 @@ pub fn visit_next(
 ) -> Progress
     requires { (stop : Stop) × (m : Map)
         × Goes stop m minute index.now to.now loss.now opens.now closes.now
-        (resultLists best.old last.old joints.old store.old) go }
+        (result_lists best.old last.old joints.old store.old) go }
     ensures { (stop : Stop) (m : Map)
         → Goes stop m minute index.now to.now loss.now opens.now
         closes.now
-        (resultLists best.old last.old joints.old store.old) go
+        (result_lists best.old last.old joints.old store.old) go
         → Visits stop m go
-        (resultLists best.new last.new joints.new store.new) result }
+        (result_lists best.new last.new joints.new store.new) result }
 {
     let n = items_of(store);
     let u = find_min(store, n, 0);

@@ -5,149 +5,149 @@ use Rattle.rules.specs.declared.Call.TheVariants.{DecreaseKey}
 use Rattle.rules.specs.declared.Line.TheVariants.{Yields}
 use Rattle.rules.specs.declared.Field.TheVariants.{Minimum}
 use Rattle.rules.specs.declared.Tally.{Tally}
-use Rattle.rules.specs.Answers.{answer, unlessRefused}
-use Rattle.rules.specs.Calls.{decreaseKey, hasParent, perform}
+use Rattle.rules.specs.Answers.{answer, unless_refused}
+use Rattle.rules.specs.Calls.{decrease_key, has_parent, perform}
 use Rattle.rules.specs.Cut.{cut_if}
-use Rattle.rules.specs.Forests.{Forests, count, heapNumber, heapOf, key_of, none, parent_of, setKey}
+use Rattle.rules.specs.Forests.{Forests, count, heap_number, heap_of, key_of, none, parent_of, set_key}
 use Rattle.rules.specs.Lists.{sumBy}
 use Rattle.rules.specs.Order.{lesser, minimum, precedes}
-use Rattle.rules.specs.Queues.{amountOf, amountsAfterCall}
-use Rattle.rules.specs.SetWord.{setWord}
+use Rattle.rules.specs.Queues.{amount_of, amounts_after_call}
+use Rattle.rules.specs.SetWord.{set_word}
 use Rattle.rules.specs.Theorems.{InRange, IsMinimum}
 use Rattle.rules.specs.WellFormed.{KeysFit, WellFormed}
-use Rattle.rules.specs.Words.{encodeIn, forestsOf, look, queuesOf, wordsWith}
-use Rattle.rules.proofs.Excused.{Formed, FormedBut, exact, to-formed}
-use Rattle.rules.proofs.KeepsWellFormed.{fits-set, keepsWellFormed}
-use Rattle.rules.proofs.KeyKeeps.{key-formed}
-use Rattle.rules.proofs.LeastOfTwo.{lesser-keys, lesser-two}
-use Rattle.rules.proofs.Lists.{decrease-heap, decrease-key}
-use Rattle.rules.proofs.Members.{heap-in}
-use Rattle.rules.proofs.Minimum.{minimumFirst}
-use Rattle.rules.proofs.MinimumAfter.{count-one, lowered-minimum, lowered-other}
-use Rattle.rules.proofs.Refusals.{decrease-ok}
+use Rattle.rules.specs.Words.{encode_in, forests_of, look, queues_of, words_with}
+use Rattle.rules.proofs.Excused.{Formed, FormedBut, exact, to_formed}
+use Rattle.rules.proofs.KeepsWellFormed.{fits_set, keeps_well_formed}
+use Rattle.rules.proofs.KeyKeeps.{key_formed}
+use Rattle.rules.proofs.LeastOfTwo.{lesser_keys, lesser_two}
+use Rattle.rules.proofs.Lists.{decrease_heap, decrease_key_lem}
+use Rattle.rules.proofs.Members.{heap_in}
+use Rattle.rules.proofs.Minimum.{minimum_first}
+use Rattle.rules.proofs.MinimumAfter.{count_one, lowered-minimum, lowered_other}
+use Rattle.rules.proofs.Refusals.{decrease_ok}
 use Rattle.rules.proofs.ReplyBounds.{Small, answer-small}
-use Rattle.store.specs.Families.{Holds, wordBut}
-use Rattle.store.specs.ItemOrder.{TwoItems, itemKey, keyStored}
+use Rattle.store.specs.Families.{Holds, word_but}
+use Rattle.store.specs.ItemOrder.{TwoItems, item_key, key_stored}
 use Rattle.store.specs.Says.{Changes, Sized}
 use Rattle.store.proofs.Encoded.{holds-encode}
-use Rattle.store.proofs.Holds.{holds-says}
-use Rattle.store.proofs.ItemOrder.{key-held}
-use Rattle.store.proofs.Listed.{item-not-none}
-use Rattle.store.proofs.Scalars.{instead, key-holds, minimum-holds}
+use Rattle.store.proofs.Holds.{holds_says}
+use Rattle.store.proofs.ItemOrder.{key_held}
+use Rattle.store.proofs.Listed.{item_not_none}
+use Rattle.store.proofs.Scalars.{instead, key_holds, minimum-holds}
 use Rattle.cut.specs.Ready.{CascadeReady, Cascaded, Member}
 use Rattle.heap.specs.Allowed.{MayMove, Moves, Store}
 use Rattle.heap.specs.Moving.{CutsIf, InHeap}
-use Rattle.heap.proofs.ItemHeap.{heap-inside, item-inside}
-use Rattle.heap.proofs.SoundStore.{formed, items-size, sound-holds}
+use Rattle.heap.proofs.ItemHeap.{heap_inside, item_inside}
+use Rattle.heap.proofs.SoundStore.{formed, items_size, sound_holds}
 
 module _ {w : List ℕ} {n i k : ℕ} {tally : Tally} (P : MayMove w n (DecreaseKey i k) tally) where
   abbrev t : Forests
-  t = forestsOf w
+  t = forests_of w
 
   S : Store w n
   S = P.allowed.store
 
-  W : WellFormed (forestsOf w)
+  W : WellFormed (forests_of w)
   W = formed S
 
-  ok : (heapOf (forestsOf w) i ≢ 0) × (k ≤ key_of (forestsOf w) i)
-  ok = decrease-ok (forestsOf w) i k P.allowed.done
+  ok : (heap_of (forests_of w) i ≢ 0) × (k ≤ key_of (forests_of w) i)
+  ok = decrease_ok (forests_of w) i k P.allowed.done
 
-  pub in-heap : InHeap w n i
-  in-heap = record { store = S; live = ok.0 }
+  pub in_heap_lem : InHeap w n i
+  in_heap_lem = record { store = S; live = ok.0 }
 
   abbrev h : ℕ
-  h = heapNumber (forestsOf w) i
+  h = heap_number (forests_of w) i
 
-  F : Formed (forestsOf w)
-  F = to-formed (forestsOf w) W
+  F : Formed (forests_of w)
+  F = to_formed (forests_of w) W
 
-  -- with its new key i may come before its parent: the forests are well-formed but for that
-  lowered : FormedBut i exact (setKey i k (forestsOf w))
-  lowered = key-formed (forestsOf w) W.disjoint i k ok.0 ok.1 F.ordered F.ranked
+  -- with its new key i may come before its parent: the forests are well_formed but for that
+  lowered : FormedBut i exact (set_key i k (forests_of w))
+  lowered = key_formed (forests_of w) W.disjoint i k ok.0 ok.1 F.ordered F.ranked
 
-  member : Member (setKey i k (forestsOf w)) h i
+  member : Member (set_key i k (forests_of w)) h i
   member = record { disjoint = lowered.disjoint; heap = omega (arith, ok.0) }
 
   -- the new key is of 32 bits, as the old one
-  keys-fit : KeysFit (setKey i k (forestsOf w))
+  keys_fit : KeysFit (set_key i k (forests_of w))
   unfolding KeysFit
-  keys-fit = fits-set t.key i k W.keys (omega (arith, ok.1, W.keys i))
+  keys_fit = fits_set t.key i k W.keys (omega (arith, ok.1, W.keys i))
 
-  module _ {w₁ : List ℕ} (a : Changes n w (keyStored h i k) w₁) where
-    lowered-holds : Holds n w₁ (amountOf (queuesOf w)) (count t) (minimum t) (setKey i k t) none
-    lowered-holds = key-holds (sound-holds S) h i k (item-inside in-heap) member.heap a
+  module _ {w₁ : List ℕ} (a : Changes n w (key_stored h i k) w₁) where
+    lowered-holds : Holds n w₁ (amount_of (queues_of w)) (count t) (minimum t) (set_key i k t) none
+    lowered-holds = key_holds (sound_holds S) h i k (item_inside in_heap_lem) member.heap a
 
-    pub cut-ready : CascadeReady n w₁ h i
-    cut-ready =
+    pub cut_ready : CascadeReady n w₁ h i
+    cut_ready =
         record {
-          amounts = amountOf (queuesOf w);
+          amounts = amount_of (queues_of w);
           counts = count t;
           minima = minimum t;
-          forests = setKey i k t;
+          forests = set_key i k t;
           holds = lowered-holds;
           member = member;
         }
 
     module _ {w₂ : List ℕ} {r : ℕ}
-        (b : CutsIf (λ s. hasParent s i && precedes s.key i (parent_of s i)) n w₁ h i w₂ r) where
+        (b : CutsIf (λ s. has_parent s i && precedes s.key i (parent_of s i)) n w₁ h i w₂ r) where
       abbrev after : Forests
-      after = (decreaseKey i k t).next
+      after = (decrease_key i k t).next
 
-      cutted : Cascaded n w₂ (amountOf (queuesOf w)) (count t) (minimum t)
-          (cut_if (hasParent (setKey i k t) i && precedes (set t.key i k) i (parent_of t i)) h i (setKey i k t)) r
-      cutted = b.gives (amountOf (queuesOf w)) (count t) (minimum t) (setKey i k t) lowered-holds keys-fit member
+      cutted : Cascaded n w₂ (amount_of (queues_of w)) (count t) (minimum t)
+          (cut_if (has_parent (set_key i k t) i && precedes (set t.key i k) i (parent_of t i)) h i (set_key i k t)) r
+      cutted = b.gives (amount_of (queues_of w)) (count t) (minimum t) (set_key i k t) lowered-holds keys_fit member
 
-      holds : Holds n w₂ (amountOf (queuesOf w)) (count t) (minimum t) after none
-      unfolding decreaseKey
+      holds : Holds n w₂ (amount_of (queues_of w)) (count t) (minimum t) after none
+      unfolding decrease_key
       holds = cutted.holds
 
-      next-formed : WellFormed after
-      unfolding answer unlessRefused perform InRange
-      next-formed = rw P.allowed.done at (keepsWellFormed t W (Yields (DecreaseKey i k)) tt)
+      next_formed : WellFormed after
+      unfolding answer unless_refused perform InRange
+      next_formed = rw P.allowed.done at (keeps_well_formed t W (Yields (DecreaseKey i k)) tt)
 
       pub sized₂ : Sized n w₂
       sized₂ = holds.says.sized
 
-      least-word : {m : ℕ} → m ≡ look n w₂ Minimum h → m ≡ minimum t h
-      unfolding wordBut
-      least-word e = e ∙ (holds-says holds).says Minimum h (heap-inside in-heap)
+      least_word : {m : ℕ} → m ≡ look n w₂ Minimum h → m ≡ minimum t h
+      unfolding word_but
+      least_word e = e ∙ (holds_says holds).says Minimum h (heap_inside in_heap_lem)
 
       old : IsMinimum t h (minimum t h)
       unfolding count
-      old = minimumFirst t W h (count-one t.heap h i (omega (arith, ok.0)))
+      old = minimum_first t W h (count_one t.heap h i (omega (arith, ok.0)))
 
-      old-inside : minimum t h < n
-      old-inside =
-          let q = heap-in t (minimum t h) (λ z. omega (arith, z, old.inside)) in
-          omega (arith, items-size S)
+      old_inside : minimum t h < n
+      old_inside =
+          let q = heap_in t (minimum t h) (λ z. omega (arith, z, old.inside)) in
+          omega (arith, items_size S)
 
       pub two_ready : {m : ℕ} → m ≡ look n w₂ Minimum h → TwoItems n w₂ m i
       two_ready e =
           record {
             sized = sized₂;
-            one = λ _. rw (least-word e) old-inside;
-            two = λ _. item-inside in-heap;
+            one = λ _. rw (least_word e) old_inside;
+            two = λ _. item_inside in_heap_lem;
           }
 
       -- the keys after the call, by the words
-      key-after : (x : ℕ) → heapOf t x ≡ suc h → itemKey h (look n w₂) x ≡ key_of after x
+      key_after : (x : ℕ) → heap_of t x ≡ suc h → item_key h (look n w₂) x ≡ key_of after x
       unfolding KeysFit
-      key-after x e =
-          let z = ap (λ l. get_or l x 0) (decrease-heap i k t) ∙ e in
-          let q = heap-in t x (λ y. omega (arith, y, e)) in
-          key-held holds h x (heap-inside in-heap) (omega (arith, items-size S)) z (next-formed.keys x)
+      key_after x e =
+          let z = ap (λ l. get_or l x 0) (decrease_heap i k t) ∙ e in
+          let q = heap_in t x (λ y. omega (arith, y, e)) in
+          key_held holds h x (heap_inside in_heap_lem) (omega (arith, items_size S)) z (next_formed.keys x)
 
-      module _ {w₃ : List ℕ} {m l : ℕ} (em : m ≡ look n w₂ Minimum h) (el : l ≡ lesser (itemKey h (look n w₂)) m i)
-          (d : Changes n w₂ (setWord Minimum h l) w₃) where
+      module _ {w₃ : List ℕ} {m l : ℕ} (em : m ≡ look n w₂ Minimum h) (el : l ≡ lesser (item_key h (look n w₂)) m i)
+          (d : Changes n w₂ (set_word Minimum h l) w₃) where
         least : l ≡ cond (precedes after.key i (minimum t h)) i (minimum t h)
         least =
-            el ∙ ap (λ x. lesser (itemKey h (look n w₂)) x i) (least-word em)
-            ∙ lesser-keys (itemKey h (look n w₂)) (key_of after) (minimum t h) i
-            (λ _. key-after (minimum t h) old.inside) (λ _. key-after i member.heap)
-            ∙ lesser-two (key_of after) (minimum t h) i
-            (item-not-none holds.shape (minimum t h) old-inside)
-            (item-not-none holds.shape i (item-inside in-heap))
+            el ∙ ap (λ x. lesser (item_key h (look n w₂)) x i) (least_word em)
+            ∙ lesser_keys (item_key h (look n w₂)) (key_of after) (minimum t h) i
+            (λ _. key_after (minimum t h) old.inside) (λ _. key_after i member.heap)
+            ∙ lesser_two (key_of after) (minimum t h) i
+            (item_not_none holds.shape (minimum t h) old_inside)
+            (item_not_none holds.shape i (item_inside in_heap_lem))
 
         minima : (g : ℕ) → g < 8 → instead (minimum t) h l g ≡ minimum after g
         minima g _ = go (eqb h g) refl
@@ -156,28 +156,28 @@ module _ {w : List ℕ} {n i k : ℕ} {tally : Tally} (P : MayMove w n (Decrease
             go true q =
                 least
                 ∙ sym
-                (lowered-minimum t after W next-formed i k ok.0 ok.1 (decrease-heap i k t) (decrease-key i k t))
+                (lowered-minimum t after W next_formed i k ok.0 ok.1 (decrease_heap i k t) (decrease_key_lem i k t))
                 ∙ ap (minimum after) (eqb-true h g q)
             go false q =
                 sym
-                (lowered-other t after W next-formed i k ok.0 ok.1 (decrease-heap i k t) (decrease-key i k t) g
+                (lowered_other t after W next_formed i k ok.0 ok.1 (decrease_heap i k t) (decrease_key_lem i k t) g
                 (λ z. eqb-false h g q (sym z)))
 
-        words : w₃ ≡ wordsWith (amountOf (queuesOf w)) after
+        words : w₃ ≡ words_with (amount_of (queues_of w)) after
         unfolding count
         words =
             holds-encode (minimum-holds holds h l d)
-            (λ g _. ap (λ v. sumBy (λ x. cond (eqb x (suc g)) 1 0) v) (sym (decrease-heap i k t))) minima
+            (λ g _. ap (λ v. sumBy (λ x. cond (eqb x (suc g)) 1 0) v) (sym (decrease_heap i k t))) minima
 
-        pub decrease-moves : {u : Tally} → u.links ≡ tally.links → u.cuts ≡ tally.cuts + r
-            → Moves (queuesOf w) (DecreaseKey i k) tally u w₃
-        unfolding perform decreaseKey amountsAfterCall encodeIn wordsWith
-        decrease-moves el ec =
+        pub decrease_moves : {u : Tally} → u.links ≡ tally.links → u.cuts ≡ tally.cuts + r
+            → Moves (queues_of w) (DecreaseKey i k) tally u w₃
+        unfolding perform decrease_key amounts_after_call encode_in words_with
+        decrease_moves el ec =
             record { words = words; links = omega (arith, el); cuts = omega (arith, ec, cutted.cuts) }
 
-      pub room-cuts : tally.cuts + r ≤ 4294967295
-      unfolding answer unlessRefused perform InRange decreaseKey
-      room-cuts =
-          let s : Small (decreaseKey i k t).reply =
+      pub room_cuts : tally.cuts + r ≤ 4294967295
+      unfolding answer unless_refused perform InRange decrease_key
+      room_cuts =
+          let s : Small (decrease_key i k t).reply =
           rw P.allowed.done at (answer-small t W (Yields (DecreaseKey i k)) tt) in
           omega (arith, s.moves, cutted.cuts, P.room.cuts)

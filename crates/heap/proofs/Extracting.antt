@@ -3,27 +3,27 @@ use Rattle.std.proofs.Common.{◌≡◌, ℕ, List, ap, arith}
 use Rattle.rules.specs.declared.Call.TheVariants.{ExtractMin}
 use Rattle.rules.specs.declared.Tally.{Tally}
 use Rattle.rules.specs.Calls.{extract, perform}
-use Rattle.rules.specs.Words.{decode, look, queuesOf}
+use Rattle.rules.specs.Words.{decode, look, queues_of}
 use Rattle.consolidate.specs.Extract.{ExtractReady, Performs}
 use Rattle.heap.specs.Allowed.{MayMove, Moves}
-use Rattle.heap.proofs.SoundStore.{sound-says}
+use Rattle.heap.proofs.SoundStore.{sound_says}
 
 module _ {w : List ℕ} {n h : ℕ} {tally : Tally} (P : MayMove w n (ExtractMin h) tally) where
-  same-queues : decode n (look n w) ≡ queuesOf w
-  same-queues = ap (λ k. decode k (look k w)) P.allowed.store.items
+  same_queues : decode n (look n w) ≡ queues_of w
+  same_queues = ap (λ k. decode k (look k w)) P.allowed.store.items
 
-  pub extract-ready : ExtractReady n w h tally.links
-  extract-ready =
+  pub extract_ready : ExtractReady n w h tally.links
+  extract_ready =
       record {
         sound = P.allowed.store.sound;
-        size = (sound-says P.allowed.store).sized.size;
+        size = (sound_says P.allowed.store).sized.size;
         done = rw P.allowed.store.items P.allowed.done;
         fits = omega (arith, P.room.links);
       }
 
   pub extract-moves : {w' : List ℕ} {item key : ℕ} {u : Tally}
       → Performs w' tally.links item key u.links (decode n (look n w)) h → u.cuts ≡ tally.cuts
-      → Moves (queuesOf w) (ExtractMin h) tally u w'
+      → Moves (queues_of w) (ExtractMin h) tally u w'
   unfolding perform extract
   extract-moves p e =
-      rw (← same-queues) (record { words = p.words; links = p.tallied; cuts = omega (arith, e) })
+      rw (← same_queues) (record { words = p.words; links = p.tallied; cuts = omega (arith, e) })

@@ -7,23 +7,23 @@ use Rattle.rules.specs.Forests.{Forests, none, row_of}
 use Rattle.rules.specs.Kinds.{Apart}
 use Rattle.rules.specs.Lists.{occurs, sumBy}
 use Rattle.rules.specs.WellFormed.{Disjoint}
-use Rattle.rules.specs.Words.{head_or, last_or, nextIn, prevIn}
-use Rattle.rules.proofs.ConcatLinks.{head-concat, last-concat, next-before, prev-behind, prev-first}
-use Rattle.rules.proofs.Occurs.{delta-self}
-use Rattle.rules.proofs.Relinks.{at-end}
-use Rattle.rules.proofs.SiblingLists.{once-row}
-use Rattle.rules.proofs.RemoveLinks.{none-head}
-use Rattle.rules.proofs.Siblings.{member_apart, last-in}
+use Rattle.rules.specs.Words.{head_or, last_or, next_in, prev_in}
+use Rattle.rules.proofs.ConcatLinks.{head_concat, last_concat, next_before, prev_behind, prev_first}
+use Rattle.rules.proofs.Occurs.{delta_self}
+use Rattle.rules.proofs.Relinks.{at_end}
+use Rattle.rules.proofs.SiblingLists.{once_row}
+use Rattle.rules.proofs.RemoveLinks.{none_head}
+use Rattle.rules.proofs.Siblings.{member_apart, last_in}
 use Rattle.store.specs.Says.{Values}
 use Rattle.store.specs.Siblings.{concatenated, first_of, last_of}
 use Rattle.store.proofs.ConcatWords.{
-  concat-first,
-  concat-last,
-  concat-next,
-  concat-none,
-  concat-other,
-  concat-prev,
-  linkKinds,
+  concat_first,
+  concat_last,
+  concat_next,
+  concat_none,
+  concat_other,
+  concat_prev,
+  link_kinds,
 }
 use Rattle.store.proofs.ListMembers.{none_row}
 
@@ -37,90 +37,90 @@ at_self f a g = go (eqb a g) refl
 
 head_in : (z : ℕ) (zs : List ℕ) → 1 ≤ occurs z (z ∷ zs)
 unfolding occurs sumBy
-head_in z zs = omega (arith, delta-self z)
+head_in z zs = omega (arith, delta_self z)
 
 -- v has the ends of the rows of t
 pub record RowEnds (t : Forests) (v : Values) : Type 0 where
   pub first : (g : ℕ) → v FirstTree g ≡ head_or none (row_of t g)
   pub last : (g : ℕ) → v LastTree g ≡ last_or none (row_of t g)
 
-abbrev pub rowFollowed : Values → ℕ → List ℕ → Values
-rowFollowed v a l = concatenated (Row a) (head_or none l) (last_or none l) v
+abbrev pub row_followed : Values → ℕ → List ℕ → Values
+row_followed v a l = concatenated (Row a) (head_or none l) (last_or none l) v
 
 -- the words other than links stay
-pub plain-after : (v : Values) (a : ℕ) (l : List ℕ) (f : Field) (j : ℕ) → Apart (linkKinds (Row a)) f
-    → rowFollowed v a l f j ≡ v f j
-plain-after v a l = concat-other (head_or none l) (last_or none l) v (Row a)
+pub plain_after : (v : Values) (a : ℕ) (l : List ℕ) (f : Field) (j : ℕ) → Apart (link_kinds (Row a)) f
+    → row_followed v a l f j ≡ v f j
+plain_after v a l = concat_other (head_or none l) (last_or none l) v (Row a)
 
 module _ (t : Forests) (D : Disjoint t) (v : Values) (E : RowEnds t v) (a : ℕ) where
   -- nothing follows the row, or a list with the first item z
-  unchanged : (f : Field) (j : ℕ) → rowFollowed v a [] f j ≡ v f j
+  unchanged : (f : Field) (j : ℕ) → row_followed v a [] f j ≡ v f j
   unfolding head_or
-  unchanged f j = concat-none none (last_or none []) v (Row a) refl f j
+  unchanged f j = concat_none none (last_or none []) v (Row a) refl f j
 
   next-joined : (z : ℕ) (zs : List ℕ) → occurs none (z ∷ zs) ≡ 0 → (j : ℕ)
-      → rowFollowed v a (z ∷ zs) Next j ≡ cond (eqb (last_or none (row_of t a)) j) z (v Next j)
+      → row_followed v a (z ∷ zs) Next j ≡ cond (eqb (last_or none (row_of t a)) j) z (v Next j)
   unfolding head_or last_of
-  next-joined z zs n j = concat-next z (last_or none (z ∷ zs)) v (none-head z zs n) (Row a) j ∙ rw (E.last a)
+  next-joined z zs n j = concat_next z (last_or none (z ∷ zs)) v (none_head z zs n) (Row a) j ∙ rw (E.last a)
 
-  prev-joined : (z : ℕ) (zs : List ℕ) → occurs none (z ∷ zs) ≡ 0 → (j : ℕ)
-      → rowFollowed v a (z ∷ zs) Prev j ≡ cond (eqb z j) (last_or none (row_of t a)) (v Prev j)
+  prev_joined : (z : ℕ) (zs : List ℕ) → occurs none (z ∷ zs) ≡ 0 → (j : ℕ)
+      → row_followed v a (z ∷ zs) Prev j ≡ cond (eqb z j) (last_or none (row_of t a)) (v Prev j)
   unfolding head_or last_of
-  prev-joined z zs n j = concat-prev z (last_or none (z ∷ zs)) v (none-head z zs n) (Row a) j ∙ rw (E.last a)
+  prev_joined z zs n j = concat_prev z (last_or none (z ∷ zs)) v (none_head z zs n) (Row a) j ∙ rw (E.last a)
 
   -- the ends of any row
-  pub first-after : (l : List ℕ) → occurs none l ≡ 0 → (g : ℕ)
-      → rowFollowed v a l FirstTree g ≡ cond (eqb a g) (head_or none (row_of t a ++ l)) (head_or none (row_of t g))
+  pub first_after : (l : List ℕ) → occurs none l ≡ 0 → (g : ℕ)
+      → row_followed v a l FirstTree g ≡ cond (eqb a g) (head_or none (row_of t a ++ l)) (head_or none (row_of t g))
   unfolding head_or first_of last_of
-  first-after [] n g =
+  first_after [] n g =
       unchanged FirstTree g
       ∙ E.first g
       ∙ rw (append-nil (row_of t a)) (sym (at_self (λ x. head_or none (row_of t x)) a g))
-  first-after (z ∷ zs) n g =
-      concat-first z (last_or none (z ∷ zs)) v (none-head z zs n) (Row a) (Row g)
-      ∙ rw (E.first a, E.first g, E.last a, head-concat (row_of t a) (z ∷ zs) (none_row t D a))
+  first_after (z ∷ zs) n g =
+      concat_first z (last_or none (z ∷ zs)) v (none_head z zs n) (Row a) (Row g)
+      ∙ rw (E.first a, E.first g, E.last a, head_concat (row_of t a) (z ∷ zs) (none_row t D a))
 
-  pub last-after : (l : List ℕ) → occurs none l ≡ 0 → (g : ℕ)
-      → rowFollowed v a l LastTree g ≡ cond (eqb a g) (last_or none (row_of t a ++ l)) (last_or none (row_of t g))
+  pub last_after : (l : List ℕ) → occurs none l ≡ 0 → (g : ℕ)
+      → row_followed v a l LastTree g ≡ cond (eqb a g) (last_or none (row_of t a ++ l)) (last_or none (row_of t g))
   unfolding head_or last_or last_of
-  last-after [] n g =
+  last_after [] n g =
       unchanged LastTree g
       ∙ E.last g
       ∙ rw (append-nil (row_of t a)) (sym (at_self (λ x. last_or none (row_of t x)) a g))
-  last-after (z ∷ zs) n g =
-      concat-last z (last_or none (z ∷ zs)) v (none-head z zs n) (Row a) (Row g)
-      ∙ rw (E.last g, last-concat none (row_of t a) (z ∷ zs))
+  last_after (z ∷ zs) n g =
+      concat_last z (last_or none (z ∷ zs)) v (none_head z zs n) (Row a) (Row g)
+      ∙ rw (E.last g, last_concat none (row_of t a) (z ∷ zs))
 
   -- the next word of an item outside row a, and of one in it
-  pub next-kept : (l : List ℕ) → occurs none l ≡ 0 → (j : ℕ) → j ≢ none → occurs j (row_of t a) ≡ 0
-      → rowFollowed v a l Next j ≡ v Next j
-  next-kept [] n j m k = unchanged Next j
-  next-kept (z ∷ zs) n j m k =
+  pub next_kept : (l : List ℕ) → occurs none l ≡ 0 → (j : ℕ) → j ≢ none → occurs j (row_of t a) ≡ 0
+      → row_followed v a l Next j ≡ v Next j
+  next_kept [] n j m k = unchanged Next j
+  next_kept (z ∷ zs) n j m k =
       next-joined z zs n j
       ∙ rw (ne_eqb (last_or none (row_of t a)) j
-      (at-end (last_or none (row_of t a)) j (row_of t a) (last-in none (row_of t a)) m k))
+      (at_end (last_or none (row_of t a)) j (row_of t a) (last_in none (row_of t a)) m k))
 
   pub next_one : (l : List ℕ) → occurs none l ≡ 0 → (j : ℕ) → j ≢ none → occurs j l ≡ 0
-      → v Next j ≡ nextIn j (row_of t a) → rowFollowed v a l Next j ≡ nextIn j (row_of t a ++ l)
+      → v Next j ≡ next_in j (row_of t a) → row_followed v a l Next j ≡ next_in j (row_of t a ++ l)
   unfolding head_or
   next_one [] n j m k e = unchanged Next j ∙ rw (append-nil (row_of t a)) e
   next_one (z ∷ zs) n j m k e =
       next-joined z zs n j
       ∙ ap (λ x. cond (eqb (last_or none (row_of t a)) j) z x) e
-      ∙ sym (next-before none j (row_of t a) (z ∷ zs) (once-row t D a) (λ q. m (sym q)) k)
+      ∙ sym (next_before none j (row_of t a) (z ∷ zs) (once_row t D a) (λ q. m (sym q)) k)
 
   -- the previous word of an item outside the list, and of one in it
-  pub prev-kept : (l : List ℕ) → occurs none l ≡ 0 → (j : ℕ) → occurs j l ≡ 0 → rowFollowed v a l Prev j ≡ v Prev j
-  prev-kept [] n j k = unchanged Prev j
-  prev-kept (z ∷ zs) n j k =
-      prev-joined z zs n j ∙ rw (ne_eqb z j (member_apart z j (z ∷ zs) (head_in z zs) k))
+  pub prev_kept : (l : List ℕ) → occurs none l ≡ 0 → (j : ℕ) → occurs j l ≡ 0 → row_followed v a l Prev j ≡ v Prev j
+  prev_kept [] n j k = unchanged Prev j
+  prev_kept (z ∷ zs) n j k =
+      prev_joined z zs n j ∙ rw (ne_eqb z j (member_apart z j (z ∷ zs) (head_in z zs) k))
 
-  pub prev-two : (l : List ℕ) → occurs none l ≡ 0 → (j : ℕ) → j ≢ none → occurs j (row_of t a) ≡ 0
-      → v Prev j ≡ prevIn none j l → rowFollowed v a l Prev j ≡ prevIn none j (row_of t a ++ l)
-  unfolding prevIn head_or
-  prev-two [] n j m k e = unchanged Prev j ∙ e ∙ sym (prev-behind none j (row_of t a) [] k)
-  prev-two (z ∷ zs) n j m k e =
-      prev-joined z zs n j
+  pub prev_two : (l : List ℕ) → occurs none l ≡ 0 → (j : ℕ) → j ≢ none → occurs j (row_of t a) ≡ 0
+      → v Prev j ≡ prev_in none j l → row_followed v a l Prev j ≡ prev_in none j (row_of t a ++ l)
+  unfolding prev_in head_or
+  prev_two [] n j m k e = unchanged Prev j ∙ e ∙ sym (prev_behind none j (row_of t a) [] k)
+  prev_two (z ∷ zs) n j m k e =
+      prev_joined z zs n j
       ∙ ap (λ x. cond (eqb z j) (last_or none (row_of t a)) x) e
-      ∙ sym (prev-first (last_or none (row_of t a)) j (z ∷ zs) m)
-      ∙ sym (prev-behind none j (row_of t a) (z ∷ zs) k)
+      ∙ sym (prev_first (last_or none (row_of t a)) j (z ∷ zs) m)
+      ∙ sym (prev_behind none j (row_of t a) (z ∷ zs) k)

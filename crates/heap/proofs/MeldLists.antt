@@ -2,12 +2,12 @@
 use Rattle.std.proofs.Common.{◌≡◌, ℕ, suc, ◌-◌, ◌<◌, Bool, true, false, cond, eqb, ◌≢◌, List, [], ◌++◌, set, sym, refl, ap, ◌∙◌, arith, length-set, ne_eqb, eqb-true}
 use lib.ListN.{get_or-map}
 use borrow.Author.Tests.{eqb-false}
-use Rattle.rules.specs.Calls.{meld, moveHeap}
-use Rattle.rules.specs.Forests.{Forests, heapOf, none, parent_of, row_of}
+use Rattle.rules.specs.Calls.{meld, move_heap}
+use Rattle.rules.specs.Forests.{Forests, heap_of, none, parent_of, row_of}
 use Rattle.rules.specs.Lists.{occurs}
 use Rattle.rules.specs.WellFormed.{Disjoint}
-use Rattle.rules.specs.Words.{siblings, unlessFree}
-use Rattle.rules.proofs.Occurs.{and-false, eqb-self}
+use Rattle.rules.specs.Words.{siblings, unless_free}
+use Rattle.rules.proofs.Occurs.{and_false, eqb_self}
 use Rattle.store.proofs.SetAt.{get_d_set}
 use Rattle.heap.proofs.MovedHeaps.{free_stays, heap_stays}
 
@@ -26,9 +26,9 @@ module _ {t : Forests} {a b : ℕ} (H : TwoHeaps t a b) where
   new = meld a b t
 
   -- the heap of an item, and the row of a heap
-  pub heap-at : (j : ℕ) → heapOf new j ≡ moveHeap a b (heapOf t j)
-  unfolding meld moveHeap
-  heap-at j = get_or-map (moveHeap a b) t.heap j 0
+  pub heap_at_lem : (j : ℕ) → heap_of new j ≡ move_heap a b (heap_of t j)
+  unfolding meld move_heap
+  heap_at_lem j = get_or-map (move_heap a b) t.heap j 0
 
   pub row-at : (g : ℕ) → row_of new g ≡ cond (eqb b g) [] (cond (eqb a g) (row_of t a ++ row_of t b) (row_of t g))
   unfolding meld
@@ -38,74 +38,74 @@ module _ {t : Forests} {a b : ℕ} (H : TwoHeaps t a b) where
       ∙ ap (cond (eqb b g) []) (get_d_set t.rows a g (row_of t a ++ row_of t b) [] (omega (arith, D.rows8, H.into)))
 
   -- whoever is free was so before
-  pub free-at : (j z : ℕ) → unlessFree new j z ≡ unlessFree t j z
-  unfolding unlessFree
-  free-at j z = rw (heap-at j, free_stays a b (heapOf t j))
+  pub free_at : (j z : ℕ) → unless_free new j z ≡ unless_free t j z
+  unfolding unless_free
+  free_at j z = rw (heap_at_lem j, free_stays a b (heap_of t j))
 
   -- where an item stands: a root of a or of b, or in a list that stays
   pub data Where (j : ℕ) : Type 0 where
-    inOne : heapOf t j ≡ suc a → parent_of t j ≡ none → Where j
-    inTwo : heapOf t j ≡ suc b → parent_of t j ≡ none → Where j
+    in_one : heap_of t j ≡ suc a → parent_of t j ≡ none → Where j
+    in_two : heap_of t j ≡ suc b → parent_of t j ≡ none → Where j
     stays : occurs j (row_of t a) ≡ 0 → occurs j (row_of t b) ≡ 0
-        → ((F : List ℕ → ℕ) → unlessFree new j (F (siblings new j)) ≡ unlessFree t j (F (siblings t j))) → Where j
+        → ((F : List ℕ → ℕ) → unless_free new j (F (siblings new j)) ≡ unless_free t j (F (siblings t j))) → Where j
 
   -- the siblings of a child stay; a root is in the row of its heap
-  child-list : (j : ℕ) → parent_of t j ≢ none → siblings new j ≡ siblings t j
+  child_list : (j : ℕ) → parent_of t j ≢ none → siblings new j ≡ siblings t j
   unfolding siblings meld
-  child-list j m = rw (ne_eqb (parent_of t j) none m)
+  child_list j m = rw (ne_eqb (parent_of t j) none m)
 
-  root-list : (j : ℕ) → parent_of t j ≡ none → siblings new j ≡ row_of new (moveHeap a b (heapOf t j) - 1)
+  root_list : (j : ℕ) → parent_of t j ≡ none → siblings new j ≡ row_of new (move_heap a b (heap_of t j) - 1)
   unfolding siblings meld
-  root-list j p = rw p (ap (λ g. row_of (meld a b t) (g - 1)) (heap-at j))
+  root_list j p = rw p (ap (λ g. row_of (meld a b t) (g - 1)) (heap_at_lem j))
 
   -- a root of a heap that is neither a nor b
-  other-list : (j : ℕ) → heapOf t j ≢ 0 → parent_of t j ≡ none → heapOf t j ≢ suc a → heapOf t j ≢ suc b
+  other_list : (j : ℕ) → heap_of t j ≢ 0 → parent_of t j ≡ none → heap_of t j ≢ suc a → heap_of t j ≢ suc b
       → siblings new j ≡ siblings t j
   unfolding siblings
-  other-list j l p m k =
-      root-list j p
-      ∙ ap (λ g. row_of new (g - 1)) (heap_stays a b (heapOf t j) k)
-      ∙ row-at (heapOf t j - 1)
-      ∙ rw (ne_eqb b (heapOf t j - 1) (λ e. k (omega arith)), ne_eqb a (heapOf t j - 1) (λ e. m (omega arith)), p)
+  other_list j l p m k =
+      root_list j p
+      ∙ ap (λ g. row_of new (g - 1)) (heap_stays a b (heap_of t j) k)
+      ∙ row-at (heap_of t j - 1)
+      ∙ rw (ne_eqb b (heap_of t j - 1) (λ e. k (omega arith)), ne_eqb a (heap_of t j - 1) (λ e. m (omega arith)), p)
 
   -- the links of an item whose list stays
-  same-links : (j : ℕ) → (heapOf t j ≢ 0 → siblings new j ≡ siblings t j) → (F : List ℕ → ℕ)
-      → unlessFree new j (F (siblings new j)) ≡ unlessFree t j (F (siblings t j))
-  unfolding unlessFree
-  same-links j e F = free-at j (F (siblings new j)) ∙ go (eqb (heapOf t j) 0) refl
+  same_links : (j : ℕ) → (heap_of t j ≢ 0 → siblings new j ≡ siblings t j) → (F : List ℕ → ℕ)
+      → unless_free new j (F (siblings new j)) ≡ unless_free t j (F (siblings t j))
+  unfolding unless_free
+  same_links j e F = free_at j (F (siblings new j)) ∙ go (eqb (heap_of t j) 0) refl
     where
-      go : (u : Bool) → eqb (heapOf t j) 0 ≡ u → cond u 0 (F (siblings new j)) ≡ cond u 0 (F (siblings t j))
+      go : (u : Bool) → eqb (heap_of t j) 0 ≡ u → cond u 0 (F (siblings new j)) ≡ cond u 0 (F (siblings t j))
       go true d = refl
-      go false d = ap F (e (eqb-false (heapOf t j) 0 d))
+      go false d = ap F (e (eqb-false (heap_of t j) 0 d))
 
-  pub where-is : (j : ℕ) → Where j
-  where-is j = go (eqb (parent_of t j) none) (eqb (heapOf t j) (suc a)) (eqb (heapOf t j) (suc b)) refl refl refl
+  pub where_is : (j : ℕ) → Where j
+  where_is j = go (eqb (parent_of t j) none) (eqb (heap_of t j) (suc a)) (eqb (heap_of t j) (suc b)) refl refl refl
     where
-      go : (u v w : Bool) → eqb (parent_of t j) none ≡ u → eqb (heapOf t j) (suc a) ≡ v → eqb (heapOf t j) (suc b) ≡ w
+      go : (u v w : Bool) → eqb (parent_of t j) none ≡ u → eqb (heap_of t j) (suc a) ≡ v → eqb (heap_of t j) (suc b) ≡ w
           → Where j
       go false v w p q r =
-          stays (D.in_row a j ∙ rw (p, and-false)) (D.in_row b j ∙ rw (p, and-false))
-          (same-links j (λ _. child-list j (eqb-false (parent_of t j) none p)))
-      go true true w p q r = inOne (eqb-true (heapOf t j) (suc a) q) (eqb-true (parent_of t j) none p)
-      go true false true p q r = inTwo (eqb-true (heapOf t j) (suc b) r) (eqb-true (parent_of t j) none p)
+          stays (D.in_row a j ∙ rw (p, and_false)) (D.in_row b j ∙ rw (p, and_false))
+          (same_links j (λ _. child_list j (eqb-false (parent_of t j) none p)))
+      go true true w p q r = in_one (eqb-true (heap_of t j) (suc a) q) (eqb-true (parent_of t j) none p)
+      go true false true p q r = in_two (eqb-true (heap_of t j) (suc b) r) (eqb-true (parent_of t j) none p)
       go true false false p q r =
           stays (D.in_row a j ∙ rw q) (D.in_row b j ∙ rw r)
-          (same-links j (λ l.
-          other-list j l (eqb-true (parent_of t j) none p) (eqb-false (heapOf t j) (suc a) q)
-          (eqb-false (heapOf t j) (suc b) r)))
+          (same_links j (λ l.
+          other_list j l (eqb-true (parent_of t j) none p) (eqb-false (heap_of t j) (suc a) q)
+          (eqb-false (heap_of t j) (suc b) r)))
 
   -- the list of the roots of a and of b
-  pub joined-list : (j g : ℕ) → heapOf t j ≡ suc g → moveHeap a b (suc g) ≡ suc a → parent_of t j ≡ none
-      → (F : List ℕ → ℕ) → unlessFree new j (F (siblings new j)) ≡ F (row_of t a ++ row_of t b)
-  unfolding unlessFree
-  joined-list j g h m p F =
-      free-at j (F (siblings new j))
-      ∙ rw (ne_eqb (heapOf t j) 0 (λ e. omega (arith, e, h)), root-list j p, h, m)
-      (ap F (ap (row_of new) {y = a} (omega arith) ∙ row-at a ∙ rw (ne_eqb b a (λ e. H.two (sym e)), eqb-self a)))
+  pub joined_list : (j g : ℕ) → heap_of t j ≡ suc g → move_heap a b (suc g) ≡ suc a → parent_of t j ≡ none
+      → (F : List ℕ → ℕ) → unless_free new j (F (siblings new j)) ≡ F (row_of t a ++ row_of t b)
+  unfolding unless_free
+  joined_list j g h m p F =
+      free_at j (F (siblings new j))
+      ∙ rw (ne_eqb (heap_of t j) 0 (λ e. omega (arith, e, h)), root_list j p, h, m)
+      (ap F (ap (row_of new) {y = a} (omega arith) ∙ row-at a ∙ rw (ne_eqb b a (λ e. H.two (sym e)), eqb_self a)))
 
   -- the list of a root, before
-  pub old-list : (j g : ℕ) → heapOf t j ≡ suc g → parent_of t j ≡ none → (F : List ℕ → ℕ)
-      → unlessFree t j (F (siblings t j)) ≡ F (row_of t g)
-  unfolding unlessFree siblings
-  old-list j g h p F =
-      rw (ne_eqb (heapOf t j) 0 (λ e. omega (arith, e, h)), p, h) (ap (λ x. F (row_of t x)) {y = g} (omega arith))
+  pub old_list : (j g : ℕ) → heap_of t j ≡ suc g → parent_of t j ≡ none → (F : List ℕ → ℕ)
+      → unless_free t j (F (siblings t j)) ≡ F (row_of t g)
+  unfolding unless_free siblings
+  old_list j g h p F =
+      rw (ne_eqb (heap_of t j) 0 (λ e. omega (arith, e, h)), p, h) (ap (λ x. F (row_of t x)) {y = g} (omega arith))

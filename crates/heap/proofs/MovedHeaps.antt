@@ -1,33 +1,33 @@
 -- The heap fields, state words and counts once the items of heap b are heap a's.
 use Rattle.std.proofs.Common.{◌≡◌, ℕ, zero, suc, ◌+◌, ◌*◌, ◌≤◌, Bool, true, false, cond, eqb, ◌≢◌, List, [], ◌∷◌, map, sym, refl, ap, ◌∙◌, arith, eq-eqb, ne_eqb, eqb-true}
 use borrow.Author.Tests.{eqb-false}
-use Rattle.rules.specs.Calls.{moveHeap}
+use Rattle.rules.specs.Calls.{move_heap}
 use Rattle.rules.specs.Lists.{indicator, sumBy}
 use Rattle.rules.specs.Words.{state_of}
-use Rattle.rules.proofs.Occurs.{byItem, eqb-self}
-use Rattle.heap.specs.HeapsJoined.{movedState}
+use Rattle.rules.proofs.Occurs.{by_item, eqb_self}
+use Rattle.heap.specs.HeapsJoined.{moved_state}
 
-pub free_stays : (a b g : ℕ) → eqb (moveHeap a b g) 0 ≡ eqb g 0
-unfolding moveHeap
+pub free_stays : (a b g : ℕ) → eqb (move_heap a b g) 0 ≡ eqb g 0
+unfolding move_heap
 free_stays a b zero = refl
 free_stays a b (suc g) =
     ne_eqb (suc (cond (eqb g b) a g)) 0 (λ e. omega arith) ∙ sym (ne_eqb (suc g) 0 (λ e. omega arith))
 
-pub heap_stays : (a b g : ℕ) → g ≢ suc b → moveHeap a b g ≡ g
-unfolding moveHeap
+pub heap_stays : (a b g : ℕ) → g ≢ suc b → move_heap a b g ≡ g
+unfolding move_heap
 heap_stays a b zero n = refl
 heap_stays a b (suc g) n = rw (ne_eqb g b (λ e. n (ap suc e)))
 
-pub heap-moves : (a b : ℕ) → moveHeap a b (suc b) ≡ suc a
-unfolding moveHeap
-heap-moves a b = rw (eqb-self b)
+pub heap_moves : (a b : ℕ) → move_heap a b (suc b) ≡ suc a
+unfolding move_heap
+heap_moves a b = rw (eqb_self b)
 
 -- the code tests a state word, the rules move a heap field
-pub state-moves : (a b g m : ℕ) → m ≤ 1 → movedState a b (state_of g m) ≡ state_of (moveHeap a b g) m
-unfolding movedState state_of moveHeap
-state-moves a b zero m k =
+pub state_moves : (a b g m : ℕ) → m ≤ 1 → moved_state a b (state_of g m) ≡ state_of (move_heap a b g) m
+unfolding moved_state state_of move_heap
+state_moves a b zero m k =
     rw (ne_eqb 0 (1 + 2 * b) (λ e. omega arith), ne_eqb 0 (2 + 2 * b) (λ e. omega arith))
-state-moves a b (suc g) m k = go (eqb g b) refl m k
+state_moves a b (suc g) m k = go (eqb g b) refl m k
   where
     go : (u : Bool) → eqb g b ≡ u → (m : ℕ) → m ≤ 1
         → cond (eqb (1 + 2 * g + m) (1 + 2 * b)) (1 + 2 * a)
@@ -50,30 +50,30 @@ state-moves a b (suc g) m k = go (eqb g b) refl m k
 
 -- the items of a heap that is not a: none of b, and all of any other
 module _ (a b g : ℕ) (n : g ≢ a) where
-  one-moves : (t : Bool) → eqb b g ≡ t → (x : ℕ)
-      → indicator (eqb (moveHeap a b x) (suc g)) ≡ cond t 0 (indicator (eqb x (suc g)))
-  one-moves true e = byItem (suc b) (rw (heap-moves a b, ne_eqb (suc a) (suc g) (λ q. n (omega arith))))
+  one_moves : (t : Bool) → eqb b g ≡ t → (x : ℕ)
+      → indicator (eqb (move_heap a b x) (suc g)) ≡ cond t 0 (indicator (eqb x (suc g)))
+  one_moves true e = by_item (suc b) (rw (heap_moves a b, ne_eqb (suc a) (suc g) (λ q. n (omega arith))))
       (λ y m. rw (heap_stays a b y m, ne_eqb y (suc g) (λ q. m (q ∙ ap suc (sym (eqb-true b g e))))))
-  one-moves false e =
+  one_moves false e =
       let d : b ≢ g = eqb-false b g e in
-      byItem (suc b)
+      by_item (suc b)
       (rw (
-        heap-moves a b,
+        heap_moves a b,
         ne_eqb (suc a) (suc g) (λ q. n (omega arith)),
         ne_eqb (suc b) (suc g) (λ q. d (omega arith)),
       ))
       (λ y m. rw (heap_stays a b y m))
 
   pub counts_move : (l : List ℕ)
-      → sumBy (λ v. indicator (eqb v (suc g))) (map (moveHeap a b) l)
+      → sumBy (λ v. indicator (eqb v (suc g))) (map (move_heap a b) l)
       ≡ cond (eqb b g) 0 (sumBy (λ v. indicator (eqb v (suc g))) l)
   unfolding sumBy
   counts_move l = go (eqb b g) refl l
     where
       go : (t : Bool) → eqb b g ≡ t → (l : List ℕ)
-          → sumBy (λ v. indicator (eqb v (suc g))) (map (moveHeap a b) l)
+          → sumBy (λ v. indicator (eqb v (suc g))) (map (move_heap a b) l)
           ≡ cond t 0 (sumBy (λ v. indicator (eqb v (suc g))) l)
       go true e [] = refl
-      go true e (x ∷ l) = omega (arith, one-moves true e x, go true e l)
+      go true e (x ∷ l) = omega (arith, one_moves true e x, go true e l)
       go false e [] = refl
-      go false e (x ∷ l) = omega (arith, one-moves false e x, go false e l)
+      go false e (x ∷ l) = omega (arith, one_moves false e x, go false e l)

@@ -4,7 +4,7 @@ use Rattle.rules.specs.declared.Call.{Call}
 use Rattle.rules.specs.Answers.{refusal}
 use Rattle.rules.specs.Calls.{perform}
 use Rattle.rules.specs.Queues.{Queues, after_call}
-use Rattle.rules.specs.Words.{Sound, encode, forestsOf, items_in}
+use Rattle.rules.specs.Words.{Sound, encode, forests_of, items_in}
 use Rattle.rules.specs.declared.Tally.{Tally}
 
 -- a sound store for n items
@@ -15,7 +15,7 @@ pub record Store (w : List ℕ) (n : ℕ) : Type 0 where
 -- a call that is not refused
 pub record Allowed (w : List ℕ) (n : ℕ) (c : Call) : Type 0 where
   pub store : Store w n
-  pub done : refusal (forestsOf w) c ≡ 0
+  pub done : refusal (forests_of w) c ≡ 0
 
 -- room in the tally for the moves of one call: at most 41,000 (crate rules, proofs/ReplyBounds)
 pub record TallyRoom (t : Tally) : Type 0 where

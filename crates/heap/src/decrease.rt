@@ -2,9 +2,9 @@
 ghost use Rattle.std.specs.Prelude.{◌≡◌, ◌&&◌};
 ghost use Rattle.rules.specs.declared.Call.TheVariants.{DecreaseKey};
 ghost use Rattle.rules.specs.Calls as calls;
-ghost use Rattle.rules.specs.Forests.{heapNumber, parent_of};
+ghost use Rattle.rules.specs.Forests.{heap_number, parent_of};
 ghost use Rattle.rules.specs.Order as order;
-ghost use Rattle.rules.specs.Words.{queuesOf, forestsOf};
+ghost use Rattle.rules.specs.Words.{queues_of, forests_of};
 ghost use Rattle.cut.specs.Ready.{CascadeReady};
 ghost use Rattle.heap.specs.Allowed.{MayMove, Moves};
 ghost use Rattle.heap.specs.Moving.{InHeap, CutsIf};
@@ -18,7 +18,7 @@ use store::{NONE, get, put};
 // The heap that an item is in.
 pub fn heap_of(s: &[u32], n: usize, i: u32) -> u32
     requires { InHeap s.now n i }
-    ensures { result ≡ heapNumber (forestsOf s.now) i }
+    ensures { result ≡ heap_number (forests_of s.now) i }
 {
     (get(s, n, Field::State, i) - 1) / 2
 }
@@ -26,7 +26,7 @@ pub fn heap_of(s: &[u32], n: usize, i: u32) -> u32
 // The item i is cut if it comes before its parent. Answers the number of cuts.
 fn cut_if_before(s: &mut [u32], n: usize, h: u32, i: u32) -> u32
     requires { CascadeReady n s.old h i }
-    ensures { CutsIf (λ t. calls.hasParent t i && order.precedes t.key i (parent_of t i))
+    ensures { CutsIf (λ t. calls.has_parent t i && order.precedes t.key i (parent_of t i))
         n s.old h i s.new result }
 {
     let p = get(s, n, Field::Parent, i);
@@ -42,7 +42,7 @@ fn cut_if_before(s: &mut [u32], n: usize, h: u32, i: u32) -> u32
 // D: the key is lowered, and i is cut if by the new key it comes before a parent.
 pub fn decrease_key(s: &mut [u32], n: usize, i: u32, k: u32, tally: Tally) -> Tally
     requires { MayMove s.old n (DecreaseKey i k) tally }
-    ensures { Moves (queuesOf s.old) (DecreaseKey i k) tally result s.new }
+    ensures { Moves (queues_of s.old) (DecreaseKey i k) tally result s.new }
 {
     let h = heap_of(s, n, i);
     put_key(s, n, h, i, k);

@@ -1,7 +1,7 @@
 // Taking a heap's minimum, and deleting any item.
 ghost use Rattle.rules.specs.declared.Call.TheVariants.{ExtractMin, Delete};
 ghost use Rattle.rules.specs.Calls as calls;
-ghost use Rattle.rules.specs.Words.{queuesOf};
+ghost use Rattle.rules.specs.Words.{queues_of};
 ghost use Rattle.cut.specs.Ready.{CascadeReady};
 ghost use Rattle.heap.specs.Allowed.{MayMove, Moves};
 ghost use Rattle.heap.specs.Moving.{CutsIf, DeleteOther};
@@ -15,7 +15,7 @@ use store::{NONE, get};
 // T: the minimum leaves, then linking follows.
 pub fn extract_min(s: &mut [u32], n: usize, h: u32, tally: Tally) -> Tally
     requires { MayMove s.old n (ExtractMin h) tally }
-    ensures { Moves (queuesOf s.old) (ExtractMin h) tally result s.new }
+    ensures { Moves (queues_of s.old) (ExtractMin h) tally result s.new }
 {
     let taken = consolidate::extract_min(s, n, h, tally);
     taken.tally
@@ -24,7 +24,7 @@ pub fn extract_min(s: &mut [u32], n: usize, h: u32, tally: Tally) -> Tally
 // The item i is cut if it has a parent. Answers the number of cuts.
 fn cut_if_child(s: &mut [u32], n: usize, h: u32, i: u32) -> u32
     requires { CascadeReady n s.old h i }
-    ensures { CutsIf (λ t. calls.hasParent t i) n s.old h i s.new result }
+    ensures { CutsIf (λ t. calls.has_parent t i) n s.old h i s.new result }
 {
     let p = get(s, n, Field::Parent, i);
     if p == NONE {
@@ -36,7 +36,7 @@ fn cut_if_child(s: &mut [u32], n: usize, h: u32, i: u32) -> u32
 // An item of heap h that is not its minimum is cut if it has a parent, and leaves the row with no linking.
 fn delete_other(s: &mut [u32], n: usize, h: u32, i: u32, tally: Tally) -> Tally
     requires { DeleteOther s.old n h i tally }
-    ensures { Moves (queuesOf s.old) (Delete i) tally result s.new }
+    ensures { Moves (queues_of s.old) (Delete i) tally result s.new }
 {
     let cuts = cut_if_child(s, n, h, i);
     remove_root(s, n, h, i);
@@ -46,7 +46,7 @@ fn delete_other(s: &mut [u32], n: usize, h: u32, i: u32, tally: Tally) -> Tally
 // X: a heap's minimum leaves as by T, any other item with no linking.
 pub fn delete(s: &mut [u32], n: usize, i: u32, tally: Tally) -> Tally
     requires { MayMove s.old n (Delete i) tally }
-    ensures { Moves (queuesOf s.old) (Delete i) tally result s.new }
+    ensures { Moves (queues_of s.old) (Delete i) tally result s.new }
 {
     let h = heap_of(s, n, i);
     let m = get(s, n, Field::Minimum, h);

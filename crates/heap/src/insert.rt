@@ -3,10 +3,10 @@ ghost use Rattle.std.specs.Prelude.{◌≡◌};
 ghost use Rattle.rules.specs.declared.Call.TheVariants.{Insert, FindMin};
 ghost use Rattle.rules.specs.Order as order;
 ghost use Rattle.rules.specs.Queues.{after_call};
-ghost use Rattle.rules.specs.Words.{encode, queuesOf, forestsOf};
+ghost use Rattle.rules.specs.Words.{encode, queues_of, forests_of};
 ghost use Rattle.store.specs.Says.{Changes};
 ghost use Rattle.heap.specs.Allowed.{Allowed};
-ghost use Rattle.heap.specs.Entered.{entered, itemCounted, EnterReady, CountItemReady};
+ghost use Rattle.heap.specs.Entered.{entered, item_counted, EnterReady, CountItemReady};
 
 use rules::Field;
 use store::keys::put_key;
@@ -27,7 +27,7 @@ fn enter(s: &mut [u32], n: usize, h: u32, i: u32, k: u32)
 // The heap's words: one item more, and its minimum.
 fn count_item(s: &mut [u32], n: usize, h: u32, i: u32)
     requires { CountItemReady n s.old h i }
-    ensures { Changes n s.old (itemCounted h i) s.new }
+    ensures { Changes n s.old (item_counted h i) s.new }
 {
     let m = get(s, n, Field::Minimum, h);
     let c = get(s, n, Field::Count, h);
@@ -39,7 +39,7 @@ fn count_item(s: &mut [u32], n: usize, h: u32, i: u32)
 // I: a new tree at the row's end.
 pub fn insert(s: &mut [u32], n: usize, h: u32, i: u32, k: u32)
     requires { Allowed s.old n (Insert h i k) }
-    ensures { s.new ≡ encode (after_call (queuesOf s.old) (Insert h i k)) }
+    ensures { s.new ≡ encode (after_call (queues_of s.old) (Insert h i k)) }
 {
     enter(s, n, h, i, k);
     append(s, n, Owner::Row(h), i);
@@ -49,7 +49,7 @@ pub fn insert(s: &mut [u32], n: usize, h: u32, i: u32, k: u32)
 // M: the minimum of a heap.
 pub fn find_min(s: &[u32], n: usize, h: u32) -> u32
     requires { Allowed s.now n (FindMin h) }
-    ensures { result ≡ order.minimum (forestsOf s.now) h }
+    ensures { result ≡ order.minimum (forests_of s.now) h }
 {
     get(s, n, Field::Minimum, h)
 }

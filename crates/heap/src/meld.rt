@@ -2,11 +2,11 @@
 ghost use Rattle.std.specs.Prelude.{◌≡◌, ◌<◌};
 ghost use Rattle.rules.specs.declared.Call.TheVariants.{Meld};
 ghost use Rattle.rules.specs.Queues.{after_call};
-ghost use Rattle.rules.specs.Words.{encode, queuesOf};
+ghost use Rattle.rules.specs.Words.{encode, queues_of};
 ghost use Rattle.store.specs.Says.{Changes};
 ghost use Rattle.heap.specs.Allowed.{Allowed};
-ghost use Rattle.heap.specs.HeapsJoined.{rowsJoined, heapsJoined};
-ghost use Rattle.heap.specs.HeapsJoined.{in_heap, movedState, movedKey, statesMoved, itemsMoved};
+ghost use Rattle.heap.specs.HeapsJoined.{rows_joined, heaps_joined};
+ghost use Rattle.heap.specs.HeapsJoined.{in_heap, moved_state, moved_key, states_moved, items_moved};
 ghost use Rattle.heap.specs.HeapsJoined.{JoinRowsReady, JoinHeapsReady, MoveItemsReady};
 
 use rules::Field;
@@ -17,7 +17,7 @@ use store::{Owner, concat, empty_heap, get, put};
 // b's row follows a's, and b is empty.
 fn join_rows(s: &mut [u32], n: usize, a: u32, b: u32)
     requires { JoinRowsReady n s.old a b }
-    ensures { Changes n s.old (rowsJoined a b) s.new }
+    ensures { Changes n s.old (rows_joined a b) s.new }
 {
     let x = get(s, n, Field::FirstTree, b);
     let y = get(s, n, Field::LastTree, b);
@@ -28,7 +28,7 @@ fn join_rows(s: &mut [u32], n: usize, a: u32, b: u32)
 // The words of the two heaps: a has the items of both, whose keys are by its amount, and the lesser of their minima.
 fn join_heaps(s: &mut [u32], n: usize, a: u32, b: u32)
     requires { JoinHeapsReady n s.old a b }
-    ensures { Changes n s.old (heapsJoined a b) s.new }
+    ensures { Changes n s.old (heaps_joined a b) s.new }
 {
     let c = get(s, n, Field::Count, a);
     let d = get(s, n, Field::Count, b);
@@ -44,7 +44,7 @@ fn join_heaps(s: &mut [u32], n: usize, a: u32, b: u32)
 fn moved_state(x: u32, a: u32, b: u32) -> u32
     requires a_bound { a < 8 }
     requires b_bound { b < 8 }
-    ensures { result ≡ movedState a b x }
+    ensures { result ≡ moved_state a b x }
 {
     if x == 1 + 2 * b {
         return 1 + 2 * a;
@@ -66,7 +66,7 @@ pub fn in_heap(x: u32, b: u32) -> bool
 // The key word k of an item with the state word x, once the keys of heap b's items are by the amount `to`.
 fn moved_key(x: u32, k: u32, b: u32, from: u32, to: u32) -> u32
     requires { b < 8 }
-    ensures { result ≡ movedKey b from to x k }
+    ensures { result ≡ moved_key b from to x k }
 {
     if in_heap(x, b) {
         return key_word(to, key_from(from, k));
@@ -77,7 +77,7 @@ fn moved_key(x: u32, k: u32, b: u32, from: u32, to: u32) -> u32
 // The state words of b's items, one pass over all.
 fn move_states(s: &mut [u32], n: usize, a: u32, b: u32)
     requires { MoveItemsReady n s.old a b }
-    ensures { Changes n s.old (statesMoved a b) s.new }
+    ensures { Changes n s.old (states_moved a b) s.new }
 {
     let m = n as u32;
     for i in 0..m {
@@ -90,7 +90,7 @@ fn move_states(s: &mut [u32], n: usize, a: u32, b: u32)
 // that no branch depends on the heaps of items.
 fn move_items(s: &mut [u32], n: usize, a: u32, b: u32)
     requires { MoveItemsReady n s.old a b }
-    ensures { Changes n s.old (itemsMoved a b) s.new }
+    ensures { Changes n s.old (items_moved a b) s.new }
 {
     let from = get(s, n, Field::Amount, b);
     let to = get(s, n, Field::Amount, a);
@@ -106,7 +106,7 @@ fn move_items(s: &mut [u32], n: usize, a: u32, b: u32)
 // J: b's row follows a's, and b is empty and usable again.
 pub fn meld(s: &mut [u32], n: usize, a: u32, b: u32)
     requires { Allowed s.old n (Meld a b) }
-    ensures { s.new ≡ encode (after_call (queuesOf s.old) (Meld a b)) }
+    ensures { s.new ≡ encode (after_call (queues_of s.old) (Meld a b)) }
 {
     if get(s, n, Field::Amount, a) == get(s, n, Field::Amount, b) {
         // Key words by the same amount stay: so a sheet without A pays nothing for amounts.

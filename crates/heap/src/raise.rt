@@ -1,9 +1,9 @@
 // Raising all keys of a heap.
 ghost use Rattle.std.specs.Prelude.{◌≡◌, ◌<◌};
 ghost use Rattle.rules.specs.declared.Call.TheVariants.{Raise};
-ghost use Rattle.rules.specs.Answers.{someCarriedOver};
+ghost use Rattle.rules.specs.Answers.{some_carried_over};
 ghost use Rattle.rules.specs.Queues.{after_call};
-ghost use Rattle.rules.specs.Words.{encode, queuesOf, forestsOf};
+ghost use Rattle.rules.specs.Words.{encode, queues_of, forests_of};
 ghost use Rattle.heap.specs.Allowed.{Store, Allowed};
 
 use super::meld::in_heap;
@@ -15,7 +15,7 @@ use store::{get, put};
 pub fn carries_over(s: &[u32], n: usize, h: u32, d: u32) -> bool
     requires store { Store s.now n }
     requires h_bound { h < 8 }
-    ensures { result ≡ someCarriedOver h d (forestsOf s.now) n }
+    ensures { result ≡ some_carried_over h d (forests_of s.now) n }
 {
     let most = 4294967295 - d;
     let m = n as u32;
@@ -33,7 +33,7 @@ pub fn carries_over(s: &[u32], n: usize, h: u32, d: u32) -> bool
 // A: the amount of heap h rises by d, and no other word changes. An empty heap has no key to raise.
 pub fn raise(s: &mut [u32], n: usize, h: u32, d: u32)
     requires { Allowed s.old n (Raise h d) }
-    ensures { s.new ≡ encode (after_call (queuesOf s.old) (Raise h d)) }
+    ensures { s.new ≡ encode (after_call (queues_of s.old) (Raise h d)) }
 {
     if get(s, n, Field::Count, h) != 0 {
         let amount = get(s, n, Field::Amount, h);

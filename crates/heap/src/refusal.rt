@@ -3,7 +3,7 @@ ghost use Rattle.std.specs.Prelude.{◌≡◌, ℕ};
 ghost use Rattle.rules.specs.declared.Call.TheVariants.{Insert, ExtractMin, DecreaseKey, Delete, Meld, Raise};
 ghost use Rattle.rules.specs.Answers as answers;
 ghost use Rattle.rules.specs.Forests.{Forests};
-ghost use Rattle.rules.specs.Words.{forestsOf};
+ghost use Rattle.rules.specs.Words.{forests_of};
 ghost use Rattle.heap.specs.Allowed.{Store};
 
 use super::decrease::heap_of;
@@ -14,7 +14,7 @@ use store::{NONE, get};
 
 fn refuse_insert(s: &[u32], n: usize, h: u32, i: u32) -> u32
     requires { Store s.now n }
-    ensures { (k : ℕ) → result ≡ answers.refusal (forestsOf s.now) (Insert h i k) }
+    ensures { (k : ℕ) → result ≡ answers.refusal (forests_of s.now) (Insert h i k) }
 {
     if h > 7 {
         return 7;
@@ -31,7 +31,7 @@ fn refuse_insert(s: &[u32], n: usize, h: u32, i: u32) -> u32
 // M and T.
 fn refuse_minimum(s: &[u32], n: usize, h: u32) -> u32
     requires { Store s.now n }
-    ensures { result ≡ answers.refusal (forestsOf s.now) (ExtractMin h) }
+    ensures { result ≡ answers.refusal (forests_of s.now) (ExtractMin h) }
 {
     if h > 7 {
         return 7;
@@ -45,7 +45,7 @@ fn refuse_minimum(s: &[u32], n: usize, h: u32) -> u32
 
 fn refuse_delete(s: &[u32], n: usize, i: u32) -> u32
     requires { Store s.now n }
-    ensures { result ≡ answers.refusal (forestsOf s.now) (Delete i) }
+    ensures { result ≡ answers.refusal (forests_of s.now) (Delete i) }
 {
     if i as usize >= n {
         return 8;
@@ -59,7 +59,7 @@ fn refuse_delete(s: &[u32], n: usize, i: u32) -> u32
 // As for X, and then by the key.
 fn refuse_decrease(s: &[u32], n: usize, i: u32, k: u32) -> u32
     requires { Store s.now n }
-    ensures { result ≡ answers.refusal (forestsOf s.now) (DecreaseKey i k) }
+    ensures { result ≡ answers.refusal (forests_of s.now) (DecreaseKey i k) }
 {
     let code = refuse_delete(s, n, i);
     if code != 0 {
@@ -88,7 +88,7 @@ fn refuse_meld(a: u32, b: u32) -> u32
 
 fn refuse_raise(s: &[u32], n: usize, h: u32, d: u32) -> u32
     requires { Store s.now n }
-    ensures { result ≡ answers.refusal (forestsOf s.now) (Raise h d) }
+    ensures { result ≡ answers.refusal (forests_of s.now) (Raise h d) }
 {
     if h > 7 {
         return 7;
@@ -101,7 +101,7 @@ fn refuse_raise(s: &[u32], n: usize, h: u32, d: u32) -> u32
 
 pub fn refusal(s: &[u32], n: usize, call: Call) -> u32
     requires { Store s.now n }
-    ensures { result ≡ answers.refusal (forestsOf s.now) call }
+    ensures { result ≡ answers.refusal (forests_of s.now) call }
 {
     match call {
         Call::Insert { heap, item, key: _ } => refuse_insert(s, n, heap, item),

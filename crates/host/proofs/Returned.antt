@@ -8,37 +8,37 @@ use Rattle.mapfile.specs.Read.{Reading, Reads}
 use Rattle.paths.specs.Feed.{ResultLists, Feed, BudgetFeed}
 use Rattle.finder.specs.declared.Fed.{Fed}
 use Rattle.finder.specs.declared.budget.FedWithin.{FedWithin}
-use Rattle.finder.specs.Answers.{feedOf, budgetFeedOf}
+use Rattle.finder.specs.Answers.{feed_of, budget_feed_of}
 use Rattle.host.specs.Entries.{FeedReturns, BudgetReturns, ReadReturns}
 
-pub read-returns : (w : Reading) {r : MapRead} {left : SpanLists} {leftWindows : Windows} → Reads w r left leftWindows
-    → ReadReturns w r.code left leftWindows (r.places ∷ r.start ∷ r.minute ∷ r.spans ∷ [])
-read-returns w R =
+pub read_returns : (w : Reading) {r : MapRead} {left : SpanLists} {left_windows : Windows} → Reads w r left left_windows
+    → ReadReturns w r.code left left_windows (r.places ∷ r.start ∷ r.minute ∷ r.spans ∷ [])
+read_returns w R =
     record {
-      sameCode = ap (λ (a : MapRead). a.code) R.answer-is;
-      sameFigures = ap (λ (a : MapRead). a.places ∷ a.start ∷ a.minute ∷ a.spans ∷ []) R.answer-is;
+      same_code = ap (λ (a : MapRead). a.code) R.answer_is;
+      same_figures = ap (λ (a : MapRead). a.places ∷ a.start ∷ a.minute ∷ a.spans ∷ []) R.answer_is;
       same_lists = R.left_is;
-      sameWindows = R.windows-are;
+      same_windows = R.windows_are;
     }
 
-pub feed-returns : (f : Feed) {r : Fed} {left : ResultLists} → feedOf r left ≡ f
+pub feed_returns : (f : Feed) {r : Fed} {left : ResultLists} → feed_of r left ≡ f
     → FeedReturns f r.code left (r.links ∷ r.cuts ∷ r.examined ∷ [])
-feed-returns f e =
+feed_returns f e =
     record {
-      sameCode = ap (λ (f : Feed). f.code) e;
-      sameFigures = ap (λ (f : Feed). f.links ∷ f.cuts ∷ f.examined ∷ []) e;
+      same_code = ap (λ (f : Feed). f.code) e;
+      same_figures = ap (λ (f : Feed). f.links ∷ f.cuts ∷ f.examined ∷ []) e;
       same_lists = ap (λ (f : Feed). f.left) e;
     }
 
-pub budget-returns : (b : BudgetFeed) {r : FedWithin} {left : ResultLists} {listed : List ℕ}
-    → budgetFeedOf r left listed ≡ b
+pub budget_returns : (b : BudgetFeed) {r : FedWithin} {left : ResultLists} {listed : List ℕ}
+    → budget_feed_of r left listed ≡ b
     → BudgetReturns b r.fed.code left listed
     (r.fed.links ∷ r.fed.cuts ∷ r.fed.examined ∷ r.listed ∷ [])
-budget-returns b e =
+budget_returns b e =
     record {
-      sameCode = ap (λ (b : BudgetFeed). b.feed.code) e;
-      sameFigures =
+      same_code = ap (λ (b : BudgetFeed). b.feed.code) e;
+      same_figures =
           ap (λ (b : BudgetFeed). b.feed.links ∷ b.feed.cuts ∷ b.feed.examined ∷ b.number ∷ []) e;
       same_lists = ap (λ (b : BudgetFeed). b.feed.left) e;
-      samePlaces = ap (λ (b : BudgetFeed). b.listed) e;
+      same_places = ap (λ (b : BudgetFeed). b.listed) e;
     }

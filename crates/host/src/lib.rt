@@ -1,10 +1,10 @@
 // The entries for hosts in C, all but the modem's own run and the turn of a store.
 ghost use Rattle.std.specs.Prelude.{◌≡◌};
-ghost use Rattle.sheet.specs.Runs.{freshRun, keptRun};
-ghost use Rattle.paths.specs.Map.{spanLists, windows, mapAt};
-ghost use Rattle.paths.specs.Feed.{resultLists, feedResult, budgetResult};
-ghost use Rattle.mapfile.specs.Read.{readMap};
-ghost use Rattle.host.specs.Entries.{RunReturns, soundNumber, FeedReturns, BudgetReturns, ReadReturns};
+ghost use Rattle.sheet.specs.Runs.{fresh_run, kept_run};
+ghost use Rattle.paths.specs.Map.{span_lists, windows, map_at};
+ghost use Rattle.paths.specs.Feed.{result_lists, feed_result, budget_result};
+ghost use Rattle.mapfile.specs.Read.{read_map};
+ghost use Rattle.host.specs.Entries.{RunReturns, sound_number, FeedReturns, BudgetReturns, ReadReturns};
 
 // A fresh run. Returns the code; the figures are lines and bytes written.
 #[unsafe(no_mangle)]
@@ -14,7 +14,7 @@ pub extern "C" fn fresh_run(
     out: &mut [u8],
     figures: &mut [u32; 2],
 ) -> u32
-    ensures { RunReturns (freshRun store.old sheet.now out.old) result
+    ensures { RunReturns (fresh_run store.old sheet.now out.old) result
         store.new out.new figures.new }
 {
     let fresh = sheet::run_fresh(store, sheet, out);
@@ -30,7 +30,7 @@ pub extern "C" fn kept_run(
     out: &mut [u8],
     figures: &mut [u32; 2],
 ) -> u32
-    ensures { RunReturns (keptRun store.old sheet.now out.old) result
+    ensures { RunReturns (kept_run store.old sheet.now out.old) result
         store.new out.new figures.new }
 {
     let kept = sheet::run_kept(store, sheet, out);
@@ -41,7 +41,7 @@ pub extern "C" fn kept_run(
 // 1 if the words are those of a sound store, else 0.
 #[unsafe(no_mangle)]
 pub extern "C" fn store_sound(store: &[u32]) -> u32
-    ensures { result ≡ soundNumber store.now }
+    ensures { result ≡ sound_number store.now }
 {
     if audit::sound(store) {
         return 1;
@@ -68,11 +68,11 @@ pub extern "C" fn feed_table(
     figures: &mut [u32; 3],
 ) -> u32
     ensures { FeedReturns
-        (feedResult
-        (mapAt places start minute (spanLists from.now to.now loss.now)
+        (feed_result
+        (map_at places start minute (span_lists from.now to.now loss.now)
         (windows opens.now closes.now))
-        (resultLists best.old last.old joints.old store.old))
-        result (resultLists best.new last.new joints.new store.new)
+        (result_lists best.old last.old joints.old store.old))
+        result (result_lists best.new last.new joints.new store.new)
         figures.new }
 {
     let fed = finder::feed(
@@ -103,12 +103,12 @@ pub extern "C" fn feed_budget(
     figures: &mut [u32; 4],
 ) -> u32
     ensures { BudgetReturns
-        (budgetResult budget
-        (mapAt places start minute (spanLists from.now to.now loss.now)
+        (budget_result budget
+        (map_at places start minute (span_lists from.now to.now loss.now)
         (windows opens.now closes.now))
-        (resultLists best.old last.old joints.old store.old)
+        (result_lists best.old last.old joints.old store.old)
         listed.old)
-        result (resultLists best.new last.new joints.new store.new)
+        result (result_lists best.new last.new joints.new store.new)
         listed.new figures.new }
 {
     let within = finder::budget::feed_within(
@@ -133,9 +133,9 @@ pub extern "C" fn read_map(
     figures: &mut [u32; 4],
 ) -> u32
     ensures { ReadReturns
-        (readMap text.now (spanLists from.old to.old loss.old)
+        (read_map text.now (span_lists from.old to.old loss.old)
         (windows opens.old closes.old))
-        result (spanLists from.new to.new loss.new)
+        result (span_lists from.new to.new loss.new)
         (windows opens.new closes.new) figures.new }
 {
     let map = mapfile::read(text, from, to, loss, opens, closes);

@@ -8,71 +8,71 @@ use Rattle.rules.specs.declared.Line.{Line}
 use Rattle.rules.specs.declared.Line.TheVariants.{NoCall}
 use Rattle.rules.specs.Theorems.{InRange}
 use Rattle.rules.proofs.Answers.{AllInRange}
-use Rattle.text.specs.Fields.{RowFits, field_at, named, numbersFrom, rowFrom}
+use Rattle.text.specs.Fields.{RowFits, field_at, named, numbers_from, row_from}
 use Rattle.text.specs.Lines.{lines}
 use Rattle.text.specs.Numbers.{largest}
 use Rattle.text.proofs.Cases.{by_cond}
-use Rattle.text.proofs.Range.{field-in-range, row-in-range}
+use Rattle.text.proofs.Range.{field_in_range, row_in_range}
 use Rattle.lines.specs.Parse.{
   call_of,
-  letterA,
-  letterD,
-  letterI,
-  letterJ,
-  letterM,
-  letterT,
-  letterX,
+  letter_a,
+  letter_d,
+  letter_i,
+  letter_j,
+  letter_m,
+  letter_t,
+  letter_x,
   line_of,
   lines_of,
-  ofOne,
-  ofThree,
-  ofTwo,
+  of_one,
+  of_three,
+  of_two,
 }
 use Rattle.lines.specs.Theorems.{LinesInRange}
 
-one-range : (letter x : ℕ) → InRange (ofOne letter x)
-unfolding InRange ofOne
-one-range letter x =
-    by_cond InRange (eqb letter letterM) tt
-    (by_cond InRange (eqb letter letterT) tt (by_cond InRange (eqb letter letterX) tt tt))
+one_range : (letter x : ℕ) → InRange (of_one letter x)
+unfolding InRange of_one
+one_range letter x =
+    by_cond InRange (eqb letter letter_m) tt
+    (by_cond InRange (eqb letter letter_t) tt (by_cond InRange (eqb letter letter_x) tt tt))
 
-two-range : (letter x y : ℕ) → InRange (ofTwo letter x y)
-unfolding InRange ofTwo
-two-range letter x y =
-    by_cond InRange (eqb letter letterD) tt
-    (by_cond InRange (eqb letter letterJ) tt (by_cond InRange (eqb letter letterA) tt tt))
+two_range : (letter x y : ℕ) → InRange (of_two letter x y)
+unfolding InRange of_two
+two_range letter x y =
+    by_cond InRange (eqb letter letter_d) tt
+    (by_cond InRange (eqb letter letter_j) tt (by_cond InRange (eqb letter letter_a) tt tt))
 
-three-range : (letter x y z : ℕ) → z ≤ largest → InRange (ofThree letter x y z)
-unfolding InRange ofThree
-three-range letter x y z k = by_cond InRange (eqb letter letterI) (omega arith) tt
+three_range : (letter x y z : ℕ) → z ≤ largest → InRange (of_three letter x y z)
+unfolding InRange of_three
+three_range letter x y z k = by_cond InRange (eqb letter letter_i) (omega arith) tt
 
-call-range : (letter : ℕ) (row : List ℕ) → RowFits row → InRange (call_of letter (named row))
+call_range : (letter : ℕ) (row : List ℕ) → RowFits row → InRange (call_of letter (named row))
 unfolding call_of named InRange RowFits
-call-range letter [] r = tt
-call-range letter (x ∷ []) r = one-range letter x
-call-range letter (x ∷ y ∷ []) r = two-range letter x y
-call-range letter (x ∷ y ∷ z ∷ []) r = three-range letter x y z r.1.1.0
-call-range letter (x ∷ y ∷ z ∷ t ∷ row) r = tt
+call_range letter [] r = tt
+call_range letter (x ∷ []) r = one_range letter x
+call_range letter (x ∷ y ∷ []) r = two_range letter x y
+call_range letter (x ∷ y ∷ z ∷ []) r = three_range letter x y z r.1.1.0
+call_range letter (x ∷ y ∷ z ∷ t ∷ row) r = tt
 
-pub line-range : (bytes : List ℕ) → InRange (line_of bytes)
-unfolding line_of numbersFrom RowFits
-line-range bytes =
-    call-range (get_or bytes 0 0) (rowFrom 3 bytes [] (field_at bytes 1))
-    (row-in-range 3 bytes [] (field_at bytes 1) tt (field-in-range bytes 1))
+pub line_range : (bytes : List ℕ) → InRange (line_of bytes)
+unfolding line_of numbers_from RowFits
+line_range bytes =
+    call_range (get_or bytes 0 0) (row_from 3 bytes [] (field_at bytes 1))
+    (row_in_range 3 bytes [] (field_at bytes 1) tt (field_in_range bytes 1))
 
-all-range : (ls : List (List ℕ)) → AllInRange (map line_of ls)
-all-range [] = tt
-all-range (l ∷ ls) = (line-range l, all-range ls)
+all_range : (ls : List (List ℕ)) → AllInRange (map line_of ls)
+all_range [] = tt
+all_range (l ∷ ls) = (line_range l, all_range ls)
 
-pub lines-range : (sheet : List ℕ) → AllInRange (lines_of sheet)
+pub lines_range : (sheet : List ℕ) → AllInRange (lines_of sheet)
 unfolding lines_of
-lines-range sheet = all-range (lines sheet)
+lines_range sheet = all_range (lines sheet)
 
-all-each : (ls : List Line) → AllInRange ls → (i : ℕ) → InRange (get_or ls i NoCall)
+all_each : (ls : List Line) → AllInRange ls → (i : ℕ) → InRange (get_or ls i NoCall)
 unfolding InRange
-all-each [] r i = tt
-all-each (l ∷ ls) r zero = r.0
-all-each (l ∷ ls) r (suc i) = all-each ls r.1 i
+all_each [] r i = tt
+all_each (l ∷ ls) r zero = r.0
+all_each (l ∷ ls) r (suc i) = all_each ls r.1 i
 
-pub linesInRange : LinesInRange
-linesInRange sheet = all-each (lines_of sheet) (lines-range sheet)
+pub lines_in_range : LinesInRange
+lines_in_range sheet = all_each (lines_of sheet) (lines_range sheet)

@@ -9,13 +9,13 @@ use lib.Dec.{ltb}
 use borrow.Author.Tests.{ltb-true, ltb-false}
 use Rattle.rules.specs.declared.Line.{Line}
 use Rattle.rules.specs.Theorems.{InRange}
-use Rattle.text.specs.Lines.{lineEnd, lineLength, lines}
-use Rattle.text.proofs.LineEnd.{end-within}
+use Rattle.text.specs.Lines.{line_end, line_length, lines}
+use Rattle.text.proofs.LineEnd.{end_within}
 use Rattle.text.proofs.Lines.{lines_at, lines_end}
 use Rattle.lines.specs.declared.reader.NextLine.TheVariants.{Found, NoMore}
-use Rattle.lines.specs.LineAt.{firstCall, line_at}
+use Rattle.lines.specs.LineAt.{first_call, line_at}
 use Rattle.lines.specs.Parse.{line_of, lines_of}
-use Rattle.lines.proofs.InRange.{line-range}
+use Rattle.lines.proofs.InRange.{line_range}
 
 -- a line at `at` that yields l and ends at e
 pub record LineFound (sheet : List ℕ) (at : ℕ) (l : Line) (e : ℕ) : Type 0 where
@@ -26,17 +26,17 @@ pub record LineFound (sheet : List ℕ) (at : ℕ) (l : Line) (e : ℕ) : Type 0
   pub rest : lines_of (drop at sheet) ≡ l ∷ lines_of (drop (e + 1) sheet)
 
 module _ (sheet : List ℕ) (at : ℕ) where
-  at-end : at < length sheet → (l : Line) (e : ℕ) → l ≡ firstCall (drop at sheet) → e ≡ lineEnd sheet at
+  at_end : at < length sheet → (l : Line) (e : ℕ) → l ≡ first_call (drop at sheet) → e ≡ line_end sheet at
       → LineFound sheet at l e
-  unfolding firstCall lines_of lineEnd
-  at-end h l e p q =
-      let w = end-within sheet at (omega arith) in
-      let k : at + lineLength (drop at sheet) - at ≡ lineLength (drop at sheet) = omega arith in
+  unfolding first_call lines_of line_end
+  at_end h l e p q =
+      let w = end_within sheet at (omega arith) in
+      let k : at + line_length (drop at sheet) - at ≡ line_length (drop at sheet) = omega arith in
       record {
         inside = h;
         from = omega (arith, w.0);
         within = omega (arith, w.1);
-        range = rw p (line-range (take (lineLength (drop at sheet)) (drop at sheet)));
+        range = rw p (line_range (take (line_length (drop at sheet)) (drop at sheet)));
         rest = ap (map line_of) (lines_at sheet at h) ∙ rw (p, q, k);
       }
 
@@ -45,8 +45,8 @@ module _ (sheet : List ℕ) (at : ℕ) where
   found l e q = go (ltb at (length sheet)) refl q
     where
       go : (t : Bool) → ltb at (length sheet) ≡ t
-          → cond t (Found (firstCall (drop at sheet)) (lineEnd sheet at)) NoMore ≡ Found l e → LineFound sheet at l e
-      go true p q = at-end (ltb-true _ _ p) l e (cc) (cc)
+          → cond t (Found (first_call (drop at sheet)) (line_end sheet at)) NoMore ≡ Found l e → LineFound sheet at l e
+      go true p q = at_end (ltb-true _ _ p) l e (cc) (cc)
       go false p q = let z : ◌≡◌ {A = ℕ} 0 1 = cc in absurd (omega arith)
 
   pub no_line : line_at sheet at ≡ NoMore → lines_of (drop at sheet) ≡ []
@@ -54,7 +54,7 @@ module _ (sheet : List ℕ) (at : ℕ) where
   no_line q = go (ltb at (length sheet)) refl q
     where
       go : (t : Bool) → ltb at (length sheet) ≡ t
-          → cond t (Found (firstCall (drop at sheet)) (lineEnd sheet at)) NoMore ≡ NoMore
+          → cond t (Found (first_call (drop at sheet)) (line_end sheet at)) NoMore ≡ NoMore
           → map line_of (lines (drop at sheet)) ≡ []
       go true p q = let z : ◌≡◌ {A = ℕ} 0 1 = cc in absurd (omega arith)
       go false p q = ap (map line_of) (lines_end sheet at (ltb-false _ _ p))

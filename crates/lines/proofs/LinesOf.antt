@@ -12,6 +12,6 @@ pub lines-length : (sheet : List ℕ) → length (lines_of sheet) ≡ length (li
 unfolding lines_of
 lines-length sheet = length-map (lines sheet) line_of
 
-pub lines-of-append : (a b : List ℕ) → closed a ≡ true → lines_of (a ++ b) ≡ lines_of a ++ lines_of b
+pub lines_of_append : (a b : List ℕ) → closed a ≡ true → lines_of (a ++ b) ≡ lines_of a ++ lines_of b
 unfolding lines_of
-lines-of-append a b c = rw (lines-append a b c) (map-append line_of (lines a) (lines b))
+lines_of_append a b c = rw (lines-append a b c) (map-append line_of (lines a) (lines b))

@@ -10,11 +10,11 @@ use Rattle.rules.specs.Answers.{after, answer, answers}
 use Rattle.rules.specs.Forests.{Forests}
 use Rattle.rules.specs.WellFormed.{WellFormed}
 use Rattle.rules.proofs.Answers.{AllInRange, answers-append}
-use Rattle.rules.proofs.KeepsWellFormed.{keepsWellFormed}
+use Rattle.rules.proofs.KeepsWellFormed.{keeps_well_formed}
 use Rattle.rules.proofs.ReplyBounds.{Small, answer-small}
-use Rattle.text.proofs.Decimal.{decimal-short}
+use Rattle.text.proofs.Decimal.{decimal_short}
 use Rattle.text.proofs.Row.{length-row}
-use Rattle.lines.specs.Print.{answerRow, printed}
+use Rattle.lines.specs.Print.{answer_row, printed}
 
 -- numbers of at most 2, 4, 10, 5 and 5 digits
 pub record Short (a : Answer) : Type 0 where
@@ -24,8 +24,8 @@ pub record Short (a : Answer) : Type 0 where
   pub links : a.links < 100000
   pub cuts : a.cuts < 100000
 
-pub small-short : {a : Answer} → Small a → Short a
-small-short S =
+pub small_short : {a : Answer} → Small a → Short a
+small_short S =
     record {
       code = omega (arith, S.code);
       item = omega (arith, S.item);
@@ -34,17 +34,17 @@ small-short S =
       cuts = omega (arith, S.moves);
     }
 
-pub row-32 : (a : Answer) → Short a → length (answerRow a) ≤ 32
-unfolding answerRow
-row-32 a S =
+pub row_32 : (a : Answer) → Short a → length (answer_row a) ≤ 32
+unfolding answer_row
+row_32 a S =
     omega (
       arith,
       length-row (a.code ∷ a.item ∷ a.key ∷ a.links ∷ a.cuts ∷ []),
-      decimal-short 1 a.code (omega (arith, S.code)),
-      decimal-short 3 a.item (omega (arith, S.item)),
-      decimal-short 9 a.key (omega (arith, S.key)),
-      decimal-short 4 a.links (omega (arith, S.links)),
-      decimal-short 4 a.cuts (omega (arith, S.cuts)),
+      decimal_short 1 a.code (omega (arith, S.code)),
+      decimal_short 3 a.item (omega (arith, S.item)),
+      decimal_short 9 a.key (omega (arith, S.key)),
+      decimal_short 4 a.links (omega (arith, S.links)),
+      decimal_short 4 a.cuts (omega (arith, S.cuts)),
     )
 
 printed-append : (a b : List Answer) → printed (a ++ b) ≡ printed a ++ printed b
@@ -53,16 +53,16 @@ printed-append [] b = refl
 printed-append (x ∷ a) b = rw (printed-append a b, append_assoc)
 
 -- the answers of a list fit into 32 bytes for each line
-pub printed-32 : (s : Forests) → WellFormed s → (ls : List Line) → AllInRange ls
+pub printed_32 : (s : Forests) → WellFormed s → (ls : List Line) → AllInRange ls
     → length (printed (answers s ls)) ≤ 32 * length ls
 unfolding printed answers
-printed-32 s W [] r = zero-le
-printed-32 s W (l ∷ ls) r =
+printed_32 s W [] r = zero-le
+printed_32 s W (l ∷ ls) r =
     omega (
       arith,
-      length-append (answerRow (answer s l).reply) (printed (answers (answer s l).next ls)),
-      row-32 (answer s l).reply (small-short (answer-small s W l r.0)),
-      printed-32 (answer s l).next (keepsWellFormed s W l r.0) ls r.1,
+      length-append (answer_row (answer s l).reply) (printed (answers (answer s l).next ls)),
+      row_32 (answer s l).reply (small_short (answer-small s W l r.0)),
+      printed_32 (answer s l).next (keeps_well_formed s W l r.0) ls r.1,
     )
 
 pub printed-after : (s : Forests) (a b : List Line)

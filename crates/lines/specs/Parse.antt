@@ -5,56 +5,56 @@ use Rattle.rules.specs.declared.Line.{Line}
 use Rattle.rules.specs.declared.Line.TheVariants.{Yields, NoCall}
 use Rattle.text.specs.declared.Numbers.{Numbers}
 use Rattle.text.specs.declared.Numbers.TheVariants.{One, Two, Three, Other}
-use Rattle.text.specs.Fields.{field_at, numbersFrom}
+use Rattle.text.specs.Fields.{field_at, numbers_from}
 use Rattle.text.specs.Lines.{lines}
 
 -- the letters of the seven calls, as bytes
-abbrev pub letterI : ℕ
-letterI = 73
+abbrev pub letter_i : ℕ
+letter_i = 73
 
-abbrev pub letterM : ℕ
-letterM = 77
+abbrev pub letter_m : ℕ
+letter_m = 77
 
-abbrev pub letterT : ℕ
-letterT = 84
+abbrev pub letter_t : ℕ
+letter_t = 84
 
-abbrev pub letterD : ℕ
-letterD = 68
+abbrev pub letter_d : ℕ
+letter_d = 68
 
-abbrev pub letterX : ℕ
-letterX = 88
+abbrev pub letter_x : ℕ
+letter_x = 88
 
-abbrev pub letterJ : ℕ
-letterJ = 74
+abbrev pub letter_j : ℕ
+letter_j = 74
 
-abbrev pub letterA : ℕ
-letterA = 65
+abbrev pub letter_a : ℕ
+letter_a = 65
 
 -- M, T and X have one number
-unfoldable pub ofOne : ℕ → ℕ → Line
-ofOne letter x =
-    cond (eqb letter letterM) (Yields (FindMin x))
-    (cond (eqb letter letterT) (Yields (ExtractMin x)) (cond (eqb letter letterX) (Yields (Delete x)) NoCall))
+unfoldable pub of_one : ℕ → ℕ → Line
+of_one letter x =
+    cond (eqb letter letter_m) (Yields (FindMin x))
+    (cond (eqb letter letter_t) (Yields (ExtractMin x)) (cond (eqb letter letter_x) (Yields (Delete x)) NoCall))
 
 -- D, J and A have two
-unfoldable pub ofTwo : ℕ → ℕ → ℕ → Line
-ofTwo letter x y =
-    cond (eqb letter letterD) (Yields (DecreaseKey x y))
-    (cond (eqb letter letterJ) (Yields (Meld x y)) (cond (eqb letter letterA) (Yields (Raise x y)) NoCall))
+unfoldable pub of_two : ℕ → ℕ → ℕ → Line
+of_two letter x y =
+    cond (eqb letter letter_d) (Yields (DecreaseKey x y))
+    (cond (eqb letter letter_j) (Yields (Meld x y)) (cond (eqb letter letter_a) (Yields (Raise x y)) NoCall))
 
 -- I has three
-unfoldable pub ofThree : ℕ → ℕ → ℕ → ℕ → Line
-ofThree letter x y z = cond (eqb letter letterI) (Yields (Insert x y z)) NoCall
+unfoldable pub of_three : ℕ → ℕ → ℕ → ℕ → Line
+of_three letter x y z = cond (eqb letter letter_i) (Yields (Insert x y z)) NoCall
 
 unfoldable pub call_of : ℕ → Numbers → Line
-call_of letter (One x) = ofOne letter x
-call_of letter (Two x y) = ofTwo letter x y
-call_of letter (Three x y z) = ofThree letter x y z
+call_of letter (One x) = of_one letter x
+call_of letter (Two x y) = of_two letter x y
+call_of letter (Three x y z) = of_three letter x y z
 call_of letter Other = NoCall
 
 -- an empty line has no number either
 unfoldable pub line_of : List ℕ → Line
-line_of bytes = call_of (get_or bytes 0 0) (numbersFrom bytes (field_at bytes 1))
+line_of bytes = call_of (get_or bytes 0 0) (numbers_from bytes (field_at bytes 1))
 
 -- the calls of a sheet, line by line
 unfoldable pub lines_of : List ℕ → List Line

@@ -3,9 +3,9 @@ use Rattle.std.specs.Prelude.{ℕ, List, [], ◌∷◌, ◌++◌}
 use Rattle.rules.specs.declared.Answer.{Answer}
 use Rattle.text.specs.Decimal.{row}
 
-unfoldable pub answerRow : Answer → List ℕ
-answerRow a = row (a.code ∷ a.item ∷ a.key ∷ a.links ∷ a.cuts ∷ [])
+unfoldable pub answer_row : Answer → List ℕ
+answer_row a = row (a.code ∷ a.item ∷ a.key ∷ a.links ∷ a.cuts ∷ [])
 
 unfoldable pub printed : List Answer → List ℕ
 printed [] = []
-printed (a ∷ rest) = answerRow a ++ printed rest
+printed (a ∷ rest) = answer_row a ++ printed rest

@@ -4,7 +4,7 @@ use Rattle.std.specs.Prelude.{ℕ, ◌≡◌, List, ◌∷◌, get_or}
 use Rattle.rules.specs.declared.Line.TheVariants.{NoCall}
 use Rattle.rules.specs.Theorems.{InRange}
 use Rattle.text.specs.Fields.{comma, named}
-use Rattle.text.specs.Padding.{Padded, paddedRow, rowNumbers, AllStand}
+use Rattle.text.specs.Padding.{Padded, padded_row, row_numbers, AllStand}
 use Rattle.lines.specs.Parse.{call_of, line_of, lines_of}
 
 -- The numbers of every line that a sheet yields are words, whatever its bytes: line i of any sheet is in range.
@@ -15,4 +15,4 @@ LinesInRange = (sheet : List ℕ) (i : ℕ) → InRange (get_or (lines_of sheet)
 abbrev pub PaddedLine : Type 0
 PaddedLine =
     (letter : ℕ) (p : Padded) (ps : List Padded) → AllStand (p ∷ ps)
-    → line_of (letter ∷ comma ∷ paddedRow p ps) ≡ call_of letter (named (rowNumbers (p ∷ ps)))
+    → line_of (letter ∷ comma ∷ padded_row p ps) ≡ call_of letter (named (row_numbers (p ∷ ps)))

@@ -2,7 +2,7 @@
 ghost use Rattle.std.specs.Prelude.{[], ◌∷◌, ◌+◌, ◌≤◌, length};
 ghost use Rattle.text.specs.Decimal.{row};
 ghost use Rattle.text.specs.Output.{Wrote};
-ghost use Rattle.lines.specs.Print.{answerRow};
+ghost use Rattle.lines.specs.Print.{answer_row};
 
 use rules::Answer;
 use text::output::put_field;
@@ -18,8 +18,8 @@ fn put_counts(out: &mut [u8], at: usize, links: u32, cuts: u32) -> usize
 
 // Writes an answer from `at` on, and returns the position after it.
 pub fn put_answer(out: &mut [u8], at: usize, a: Answer) -> usize
-    requires { at + length (answerRow a) ≤ length out.old }
-    ensures { Wrote out.old at (answerRow a) out.new result }
+    requires { at + length (answer_row a) ≤ length out.old }
+    ensures { Wrote out.old at (answer_row a) out.new result }
 {
     let item = put_field(out, at, a.code, b',');
     let key = put_field(out, item, a.item, b',');

@@ -1,8 +1,8 @@
 // The call that a line yields: a letter and its numbers.
 ghost use Rattle.std.specs.Prelude.{◌≡◌};
 ghost use Rattle.rules.specs.declared.Line.TheVariants.{NoCall};
-ghost use Rattle.text.specs.Lines.{lineLength};
-ghost use Rattle.lines.specs.Parse.{ofOne, ofTwo, ofThree, call_of};
+ghost use Rattle.text.specs.Lines.{line_length};
+ghost use Rattle.lines.specs.Parse.{of_one, of_two, of_three, call_of};
 ghost use Rattle.lines.specs.LineAt.{Parses};
 
 use rules::{Call, Line};
@@ -10,7 +10,7 @@ use text::Numbers;
 
 // The call of a letter and one number.
 fn of_one(letter: u8, x: u32) -> Line
-    ensures { result ≡ ofOne letter x }
+    ensures { result ≡ of_one letter x }
 {
     if letter == b'M' {
         return Line::Yields(Call::FindMin { heap: x });
@@ -26,7 +26,7 @@ fn of_one(letter: u8, x: u32) -> Line
 
 // The call of a letter and two numbers.
 fn of_two(letter: u8, x: u32, y: u32) -> Line
-    ensures { result ≡ ofTwo letter x y }
+    ensures { result ≡ of_two letter x y }
 {
     if letter == b'D' {
         return Line::Yields(Call::DecreaseKey { item: x, key: y });
@@ -42,7 +42,7 @@ fn of_two(letter: u8, x: u32, y: u32) -> Line
 
 // The call of a letter and three numbers.
 fn of_three(letter: u8, x: u32, y: u32, z: u32) -> Line
-    ensures { result ≡ ofThree letter x y z }
+    ensures { result ≡ of_three letter x y z }
 {
     if letter == b'I' {
         return Line::Yields(Call::Insert {
@@ -75,7 +75,7 @@ pub struct Parsed {
 
 // A line that yields no call: only then the text is searched for its end.
 fn no_call(text: &[u8]) -> Parsed
-    ensures { (result.line ≡ NoCall) × (result.bytes ≡ lineLength text.now) }
+    ensures { (result.line ≡ NoCall) × (result.bytes ≡ line_length text.now) }
 {
     Parsed {
         line: Line::NoCall,

@@ -9,49 +9,49 @@ use lib.ListN.{length, get_or, set}
 use borrow.Author.Tests.{eqb-true, eq-eqb, ne_eqb, ltb-true, ltb-false}
 use Rattle.rules.specs.Forests.{none}
 use Rattle.linking_places.specs.Laws.{LeavesOne}
-use Rattle.linking_places.specs.Places.{freePlace, tree_of, treesOf, without}
-use Rattle.linking_places.proofs.Places.{tree-item, tree-none}
+use Rattle.linking_places.specs.Places.{free_place, tree_of, trees_of, without}
+use Rattle.linking_places.proofs.Places.{tree_item, tree_none}
 
 -- what a place holds when g has left
 abbrev pub freed : ℕ → ℕ → ℕ
-freed g p = cond (eqb p g) freePlace p
+freed g p = cond (eqb p g) free_place p
 
 -- the places when those below i are written
-unfoldable pub leftTo : ℕ → ℕ → List ℕ → List ℕ
-leftTo g zero ps = ps
-leftTo g (suc i) [] = []
-leftTo g (suc i) (p ∷ ps) = freed g p ∷ leftTo g i ps
+unfoldable pub left_to : ℕ → ℕ → List ℕ → List ℕ
+left_to g zero ps = ps
+left_to g (suc i) [] = []
+left_to g (suc i) (p ∷ ps) = freed g p ∷ left_to g i ps
 
-pub next-left : (g i : ℕ) (ps : List ℕ)
-    → set (leftTo g i ps) i (freed g (get_or (leftTo g i ps) i 0)) ≡ leftTo g (suc i) ps
-unfolding leftTo
-next-left g zero [] = refl
-next-left g (suc i) [] = refl
-next-left g zero (p ∷ ps) = refl
-next-left g (suc i) (p ∷ ps) = ap (λ l. freed g p ∷ l) (next-left g i ps)
+pub next_left : (g i : ℕ) (ps : List ℕ)
+    → set (left_to g i ps) i (freed g (get_or (left_to g i ps) i 0)) ≡ left_to g (suc i) ps
+unfolding left_to
+next_left g zero [] = refl
+next_left g (suc i) [] = refl
+next_left g zero (p ∷ ps) = refl
+next_left g (suc i) (p ∷ ps) = ap (λ l. freed g p ∷ l) (next_left g i ps)
 
 -- one place: it stands for what it stood for, unless that was x
-left-tree : (x p : ℕ) → x < freePlace → tree_of (freed x p) ≡ cond (eqb (tree_of p) x) none (tree_of p)
-left-tree x p k = go (eqb p x) refl (ltb p freePlace) refl
+left_tree : (x p : ℕ) → x < free_place → tree_of (freed x p) ≡ cond (eqb (tree_of p) x) none (tree_of p)
+left_tree x p k = go (eqb p x) refl (ltb p free_place) refl
   where
-    go : (a : Bool) → eqb p x ≡ a → (b : Bool) → ltb p freePlace ≡ b
-        → tree_of (cond a freePlace p) ≡ cond (eqb (tree_of p) x) none (tree_of p)
+    go : (a : Bool) → eqb p x ≡ a → (b : Bool) → ltb p free_place ≡ b
+        → tree_of (cond a free_place p) ≡ cond (eqb (tree_of p) x) none (tree_of p)
     go true e b f =
         let z = eqb-true p x e in
-        rw (tree-item p (omega (arith, z, k)), e) (tree-none freePlace (omega arith))
-    go false e true f = rw (tree-item p (ltb-true p freePlace f), e) refl
+        rw (tree_item p (omega (arith, z, k)), e) (tree_none free_place (omega arith))
+    go false e true f = rw (tree_item p (ltb-true p free_place f), e) refl
     go false e false f =
-        let z = tree-none p (ltb-false p freePlace f) in
+        let z = tree_none p (ltb-false p free_place f) in
         rw (z, ne_eqb none x (λ q. omega (arith, q, k))) refl
 
 -- all of them
-pub all_left : (x i : ℕ) (ps : List ℕ) → x < freePlace → length ps ≤ i
-    → treesOf (leftTo x i ps) ≡ without x (treesOf ps)
-unfolding leftTo treesOf without
+pub all_left : (x i : ℕ) (ps : List ℕ) → x < free_place → length ps ≤ i
+    → trees_of (left_to x i ps) ≡ without x (trees_of ps)
+unfolding left_to trees_of without
 all_left x zero [] k m = refl
 all_left x zero (p ∷ ps) k m = absurd (omega (arith, m))
 all_left x (suc i) [] k m = refl
-all_left x (suc i) (p ∷ ps) k m = ap₂ (λ q l. q ∷ l) (left-tree x p k) (all_left x i ps k (omega (arith, m)))
+all_left x (suc i) (p ∷ ps) k m = ap₂ (λ q l. q ∷ l) (left_tree x p k) (all_left x i ps k (omega (arith, m)))
 
 -- no place has x
 none_left : (ps : List ℕ) (x : ℕ) → ((i : ℕ) → i < length ps → get_or ps i 0 ≡ x → ⊥) → without x ps ≡ ps
@@ -61,12 +61,12 @@ none_left (p ∷ ps) x a =
     ap₂ (λ q l. q ∷ l) (rw (ne_eqb p x (a 0 (omega arith))) refl)
     (none_left ps x (λ i k e. a (suc i) (omega (arith, k)) e))
 
-pub leavesOne : LeavesOne
+pub leaves_one : LeavesOne
 unfolding without
-leavesOne [] r x k e a = absurd (omega (arith, k))
-leavesOne (p ∷ ps) zero x k e a =
+leaves_one [] r x k e a = absurd (omega (arith, k))
+leaves_one (p ∷ ps) zero x k e a =
     ap₂ (λ q l. q ∷ l) (rw (eq-eqb p x e) refl)
     (none_left ps x (λ i m f. omega (arith, a (suc i) (omega (arith, m)) f)))
-leavesOne (p ∷ ps) (suc r) x k e a =
+leaves_one (p ∷ ps) (suc r) x k e a =
     ap₂ (λ q l. q ∷ l) (rw (ne_eqb p x (λ f. omega (arith, a 0 (omega arith) f))) refl)
-    (leavesOne ps r x (omega (arith, k)) e (λ i m f. omega (arith, a (suc i) (omega (arith, m)) f)))
+    (leaves_one ps r x (omega (arith, k)) e (λ i m f. omega (arith, a (suc i) (omega (arith, m)) f)))

@@ -26,8 +26,8 @@ module _ (l : List ℕ) (r p : ℕ) where
   pub none_written : written 0 ≡ l
   none_written = unset 0 (omega arith)
 
-  pub next-written : (i : ℕ) → set (written i) i (cond (eqb i r) p (get_or (written i) i 0)) ≡ written (i + 1)
-  next-written i = go (eqb i r) refl (ltb r i) refl
+  pub next_written : (i : ℕ) → set (written i) i (cond (eqb i r) p (get_or (written i) i 0)) ≡ written (i + 1)
+  next_written i = go (eqb i r) refl (ltb r i) refl
     where
       go : (a : Bool) → eqb i r ≡ a → (b : Bool) → ltb r i ≡ b
           → set (written i) i (cond a p (get_or (written i) i 0)) ≡ written (i + 1)

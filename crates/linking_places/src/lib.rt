@@ -2,7 +2,7 @@
 // crate knows what the 16 bits of a place stand for, and what the bits of the taken places do.
 ghost use Rattle.std.specs.Prelude.{◌≡◌, ◌≢◌, List, cond, not, ℕ, ◌≤◌, ◌<◌, eqb, drop, get_or, replicate, set};
 ghost use Rattle.rules.specs.Forests.{none};
-ghost use Rattle.linking_places.specs.Places.{freePlace, treesOf, without};
+ghost use Rattle.linking_places.specs.Places.{free_place, trees_of, without};
 ghost use Rattle.linking_places.specs.Taken.{taken_of, TakenAt};
 
 // What a place holds that has no tree.
@@ -10,7 +10,7 @@ const FREE: u16 = 65535;
 
 // The places before any tree has come.
 pub fn free_places() -> [u16; 17]
-    ensures { treesOf result ≡ replicate 17 none }
+    ensures { trees_of result ≡ replicate 17 none }
 {
     [FREE; 17]
 }
@@ -18,8 +18,8 @@ pub fn free_places() -> [u16; 17]
 // The tree at place r, which is taken.
 pub fn holder(places: &[u16; 17], r: u16) -> u32
     requires r_bound { r < 17 }
-    requires r_nonzero { get_or (treesOf places.now) r 0 ≢ none }
-    ensures { result ≡ get_or (treesOf places.now) r 0 }
+    requires r_nonzero { get_or (trees_of places.now) r 0 ≢ none }
+    ensures { result ≡ get_or (trees_of places.now) r 0 }
 {
     places[r as usize] as u32
 }
@@ -35,8 +35,8 @@ fn choose(i: u16, r: u16, place: u16, held: u16) -> u16
 // place, a copy of all would have to wait for it. For the same reason ranks have the width of a place.
 pub fn hold(held: [u16; 17], r: u16, x: u32) -> [u16; 17]
     requires r_bound { r < 17 }
-    requires x_lt_free_place { x < freePlace }
-    ensures { treesOf result ≡ set (treesOf held) r x }
+    requires x_lt_free_place { x < free_place }
+    ensures { trees_of result ≡ set (trees_of held) r x }
 {
     let place = x as u16;
     let mut places = held;
@@ -51,15 +51,15 @@ pub fn hold(held: [u16; 17], r: u16, x: u32) -> [u16; 17]
 
 // What a place holds when `gone` has left.
 fn free_if(held: u16, gone: u16) -> u16
-    ensures { result ≡ cond (eqb held gone) freePlace held }
+    ensures { result ≡ cond (eqb held gone) free_place held }
 {
     if held == gone { FREE } else { held }
 }
 
 // The places without the tree x, found by what they hold: a comparison of ranks would be made place by place.
 pub fn leave(held: [u16; 17], x: u32) -> [u16; 17]
-    requires { x < freePlace }
-    ensures { treesOf result ≡ without x (treesOf held) }
+    requires { x < free_place }
+    ensures { trees_of result ≡ without x (trees_of held) }
 {
     let gone = x as u16;
     let mut places = held;

@@ -12,36 +12,36 @@ use Rattle.paths.specs.Map.{SpanLists, Windows}
 use Rattle.mapfile.specs.Lines.{row_of, column}
 use Rattle.mapfile.specs.Read.{
   Reading,
-  isMap,
-  runOut,
-  withSpans,
-  withWindows,
-  refusedAnswer,
-  refusedReading,
-  readAnswer,
-  readMap,
-  firstLine,
-  spanLines,
+  is_map,
+  run_out,
+  with_spans,
+  with_windows,
+  refused_answer,
+  refused_reading,
+  read_answer,
+  read_map,
+  first_line,
+  span_lines,
 }
 use Rattle.mapfile.proofs.Room.{spans_fit}
 
 pub record ReadFits (w : Reading) : Type 0 where
-  pub inFrom : w.answer.spans ≤ length w.left.from
-  pub inTo : w.answer.spans ≤ length w.left.to
-  pub inLoss : w.answer.spans ≤ length w.left.loss
-  pub inOpens : w.answer.spans ≤ length w.leftWindows.opens
-  pub inCloses : w.answer.spans ≤ length w.leftWindows.closes
+  pub in_from : w.answer.spans ≤ length w.left.from
+  pub in_to : w.answer.spans ≤ length w.left.to
+  pub in_loss : w.answer.spans ≤ length w.left.loss
+  pub in_opens : w.answer.spans ≤ length w.left_windows.opens
+  pub in_closes : w.answer.spans ≤ length w.left_windows.closes
 
 -- a refusal names no span
-refused-fits : (code : ℕ) (lent : SpanLists) (w : Windows) → ReadFits (refusedReading code lent w)
-unfolding refusedReading refusedAnswer
-refused-fits code lent w =
+refused_fits : (code : ℕ) (lent : SpanLists) (w : Windows) → ReadFits (refused_reading code lent w)
+unfolding refused_reading refused_answer
+refused_fits code lent w =
     record {
-      inFrom = omega arith;
-      inTo = omega arith;
-      inLoss = omega arith;
-      inOpens = omega arith;
-      inCloses = omega arith;
+      in_from = omega arith;
+      in_to = omega arith;
+      in_loss = omega arith;
+      in_opens = omega arith;
+      in_closes = omega arith;
     }
 
 -- storing leaves a list as long as it was
@@ -49,36 +49,36 @@ still : (l : List ℕ) (ls : List (List ℕ)) (i : ℕ) → length ls ≤ length
     → length ls ≤ length (sets l 0 (column i ls))
 still l ls i h = omega (arith, length-sets l 0 (column i ls))
 
-stored-fits : (head : List ℕ) (ls : List (List ℕ)) (lent : SpanLists) (w : Windows) → runOut lent w (length ls) ≡ false
+stored_fits : (head : List ℕ) (ls : List (List ℕ)) (lent : SpanLists) (w : Windows) → run_out lent w (length ls) ≡ false
     → ReadFits
-    (record { answer = readAnswer head (length ls); left = withSpans ls lent; leftWindows = withWindows ls w })
-unfolding readAnswer withSpans withWindows
-stored-fits head ls lent w e =
+    (record { answer = read_answer head (length ls); left = with_spans ls lent; left_windows = with_windows ls w })
+unfolding read_answer with_spans with_windows
+stored_fits head ls lent w e =
     let fit = spans_fit ls lent w e in
     record {
-      inFrom = still lent.from ls 0 fit.inFrom;
-      inTo = still lent.to ls 1 fit.inTo;
-      inLoss = still lent.loss ls 2 fit.inLoss;
-      inOpens = still w.opens ls 3 fit.inOpens;
-      inCloses = still w.closes ls 4 fit.inCloses;
+      in_from = still lent.from ls 0 fit.in_from;
+      in_to = still lent.to ls 1 fit.in_to;
+      in_loss = still lent.loss ls 2 fit.in_loss;
+      in_opens = still w.opens ls 3 fit.in_opens;
+      in_closes = still w.closes ls 4 fit.in_closes;
     }
 
-pub read_fits : (text : List ℕ) (lent : SpanLists) (w : Windows) → ReadFits (readMap text lent w)
-unfolding readMap
+pub read_fits : (text : List ℕ) (lent : SpanLists) (w : Windows) → ReadFits (read_map text lent w)
+unfolding read_map
 read_fits text lent w =
-    go (ltb 60000 (length text) || not (isMap (lines text))) (runOut lent w (length ls)) refl
+    go (ltb 60000 (length text) || not (is_map (lines text))) (run_out lent w (length ls)) refl
   where
     ls : List (List ℕ)
-    ls = spanLines (lines text)
+    ls = span_lines (lines text)
 
     head : List ℕ
-    head = row_of (firstLine (lines text))
+    head = row_of (first_line (lines text))
 
-    go : (s t : Bool) → runOut lent w (length ls) ≡ t
+    go : (s t : Bool) → run_out lent w (length ls) ≡ t
         → ReadFits
-        (cond s (refusedReading 21 lent w)
-        (cond t (refusedReading 16 lent w)
-        (record { answer = readAnswer head (length ls); left = withSpans ls lent; leftWindows = withWindows ls w })))
-    go true t e = refused-fits 21 lent w
-    go false true e = refused-fits 16 lent w
-    go false false e = stored-fits head ls lent w e
+        (cond s (refused_reading 21 lent w)
+        (cond t (refused_reading 16 lent w)
+        (record { answer = read_answer head (length ls); left = with_spans ls lent; left_windows = with_windows ls w })))
+    go true t e = refused_fits 21 lent w
+    go false true e = refused_fits 16 lent w
+    go false false e = stored_fits head ls lent w e

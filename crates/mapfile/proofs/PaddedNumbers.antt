@@ -1,10 +1,10 @@
 -- Zeros before the numbers of a map's line do not change them.
 use mathlib.Core.Path.{refl}
-use Rattle.text.specs.Padding.{paddedRow}
-use Rattle.text.proofs.PaddedRow.{reads-row}
+use Rattle.text.specs.Padding.{padded_row}
+use Rattle.text.proofs.PaddedRow.{reads_row}
 use Rattle.mapfile.specs.Lines.{row_of}
 use Rattle.mapfile.specs.Theorems.{PaddedNumbers}
 
-pub paddedNumbers : PaddedNumbers
+pub padded_numbers : PaddedNumbers
 unfolding row_of
-paddedNumbers p ps a = reads-row 5 (paddedRow p ps) 0 p ps a refl
+padded_numbers p ps a = reads_row 5 (padded_row p ps) 0 p ps a refl

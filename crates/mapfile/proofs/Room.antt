@@ -9,10 +9,10 @@ use lib.Dec.{eqb, ltb}
 use borrow.Author.Tests.{eqb-true, ltb-false, not-false}
 use Rattle.paths.specs.Map.{SpanLists, Windows}
 use Rattle.paths.proofs.Codes.{no_or}
-use Rattle.mapfile.specs.Read.{runOut, SpansFit}
+use Rattle.mapfile.specs.Read.{run_out, SpansFit}
 
-pub spans_fit : (ls : List (List ℕ)) (l : SpanLists) (w : Windows) → runOut l w (length ls) ≡ false → SpansFit ls l w
-unfolding runOut
+pub spans_fit : (ls : List (List ℕ)) (l : SpanLists) (w : Windows) → run_out l w (length ls) ≡ false → SpansFit ls l w
+unfolding run_out
 spans_fit ls l w e =
     let words = length l.from in
     let last = no_or _ (ltb words (length ls)) e in
@@ -21,9 +21,9 @@ spans_fit ls l w e =
     let spans = no_or (not (eqb (length l.to) words)) (not (eqb (length l.loss) words)) opens.0 in
     let room = ltb-false words (length ls) last.1 in
     record {
-      inFrom = room;
-      inTo = omega (arith, eqb-true (length l.to) words (not-false _ spans.0));
-      inLoss = omega (arith, eqb-true (length l.loss) words (not-false _ spans.1));
-      inOpens = omega (arith, eqb-true (length w.opens) words (not-false _ opens.1));
-      inCloses = omega (arith, eqb-true (length w.closes) words (not-false _ closes.1));
+      in_from = room;
+      in_to = omega (arith, eqb-true (length l.to) words (not-false _ spans.0));
+      in_loss = omega (arith, eqb-true (length l.loss) words (not-false _ spans.1));
+      in_opens = omega (arith, eqb-true (length w.opens) words (not-false _ opens.1));
+      in_closes = omega (arith, eqb-true (length w.closes) words (not-false _ closes.1));
     }

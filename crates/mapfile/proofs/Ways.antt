@@ -8,63 +8,63 @@ use native.Mathlib.Omega.{arith}
 use lib.ListN.{length, get_or, take, drop}
 use lib.Dec.{ltb}
 use borrow.Author.Tests.{ne_eqb, lt-ltb, le-ltb}
-use Rattle.text.specs.Lines.{lines, lineEnd, lineLength}
+use Rattle.text.specs.Lines.{lines, line_end, line_length}
 use Rattle.text.specs.Fields.{RowRead}
 use Rattle.text.specs.declared.NumberRow.{NumberRow}
 use Rattle.mapfile.specs.declared.MapRead.{MapRead}
 use Rattle.mapfile.specs.declared.Spans.TheVariants.{Count, Malformed}
 use Rattle.paths.specs.Map.{SpanLists, Windows}
-use Rattle.mapfile.specs.Lines.{row_of, hasNumbers, allSpans, count_of}
+use Rattle.mapfile.specs.Lines.{row_of, has_numbers, all_spans, count_of}
 use Rattle.mapfile.specs.Read.{
-  firstLine,
-  spanLines,
-  isMap,
-  runOut,
-  withSpans,
-  withWindows,
-  refusedAnswer,
-  refusedReading,
-  readAnswer,
-  readMap,
+  first_line,
+  span_lines,
+  is_map,
+  run_out,
+  with_spans,
+  with_windows,
+  refused_answer,
+  refused_reading,
+  read_answer,
+  read_map,
   Reading,
   Reads,
   HeadRead,
   SpansFit,
 }
-use Rattle.mapfile.proofs.LineAt.{at-line}
+use Rattle.mapfile.proofs.LineAt.{at_line}
 use Rattle.mapfile.proofs.Room.{spans_fit}
 
 -- the first line of a text, and the lines after it, also if it is empty
-module _ (text : List ℕ) (end : ℕ) (q : end ≡ lineEnd text 0) where
-  first-line : firstLine (lines text) ≡ take (end - 0) (drop 0 text)
-  unfolding firstLine lines lineEnd lineLength
-  first-line = go text q
+module _ (text : List ℕ) (end : ℕ) (q : end ≡ line_end text 0) where
+  first_line_lem : first_line (lines text) ≡ take (end - 0) (drop 0 text)
+  unfolding first_line lines line_end line_length
+  first_line_lem = go text q
     where
-      go : (t : List ℕ) → end ≡ lineEnd t 0 → firstLine (lines t) ≡ take (end - 0) (drop 0 t)
+      go : (t : List ℕ) → end ≡ line_end t 0 → first_line (lines t) ≡ take (end - 0) (drop 0 t)
       go [] z = rw z
-      go (b ∷ bs) z = ap firstLine (at-line (b ∷ bs) 0 end z (omega arith))
+      go (b ∷ bs) z = ap first_line (at_line (b ∷ bs) 0 end z (omega arith))
 
-  later-lines : spanLines (lines text) ≡ lines (drop (end + 1) text)
-  unfolding spanLines lines lineEnd lineLength
-  later-lines = go text q
+  later_lines : span_lines (lines text) ≡ lines (drop (end + 1) text)
+  unfolding span_lines lines line_end line_length
+  later_lines = go text q
     where
-      go : (t : List ℕ) → end ≡ lineEnd t 0 → spanLines (lines t) ≡ lines (drop (end + 1) t)
+      go : (t : List ℕ) → end ≡ line_end t 0 → span_lines (lines t) ≡ lines (drop (end + 1) t)
       go [] z = rw z
-      go (b ∷ bs) z = ap spanLines (at-line (b ∷ bs) 0 end z (omega arith))
+      go (b ∷ bs) z = ap span_lines (at_line (b ∷ bs) 0 end z (omega arith))
 
 -- ---- a refusal
 
 -- A refusal leaves the lists as they are.
 pub refuses : {w : Reading} {r : MapRead} {lent : SpanLists} {lentWindows : Windows} (code : ℕ)
-    → w ≡ refusedReading code lent lentWindows → r ≡ refusedAnswer code → Reads w r lent lentWindows
-unfolding refusedReading
-refuses code e q = rw e (record { answer-is = q; left_is = refl; windows-are = refl })
+    → w ≡ refused_reading code lent lentWindows → r ≡ refused_answer code → Reads w r lent lentWindows
+unfolding refused_reading
+refuses code e q = rw e (record { answer_is = q; left_is = refl; windows_are = refl })
 
 -- ---- the first line
 
-or-true : (t : Bool) → (t || true) ≡ true
-or-true true = refl
-or-true false = refl
+or_true : (t : Bool) → (t || true) ≡ true
+or_true true = refl
+or_true false = refl
 
 -- a row of three numbers
 three : (row : List ℕ) → length row ≡ 3 → row ≡ get_or row 0 0 ∷ get_or row 1 0 ∷ get_or row 2 0 ∷ []
@@ -75,46 +75,46 @@ three (x ∷ y ∷ z ∷ []) e = refl
 three (x ∷ y ∷ z ∷ t ∷ row) e = absurd (omega arith)
 
 module _ (text : List ℕ) (lent : SpanLists) (lentWindows : Windows) where
-  pub too_long : 60000 < length text → readMap text lent lentWindows ≡ refusedReading 21 lent lentWindows
-  unfolding readMap
+  pub too_long : 60000 < length text → read_map text lent lentWindows ≡ refused_reading 21 lent lentWindows
+  unfolding read_map
   too_long h = rw (lt-ltb 60000 (length text) h)
 
-  pub bad-head : (end : ℕ) → end ≡ lineEnd text 0 → {r : NumberRow}
+  pub bad_head : (end : ℕ) → end ≡ line_end text 0 → {r : NumberRow}
       → RowRead (row_of (take (end - 0) (drop 0 text))) r → r.count ≢ 3
-      → readMap text lent lentWindows ≡ refusedReading 21 lent lentWindows
-  unfolding readMap isMap hasNumbers
-  bad-head end q R h =
+      → read_map text lent lentWindows ≡ refused_reading 21 lent lentWindows
+  unfolding read_map is_map has_numbers
+  bad_head end q R h =
       rw (
-        first-line text end q,
+        first_line_lem text end q,
         ne_eqb (length (row_of (take (end - 0) (drop 0 text)))) 3 (λ e. h (R.counted ∙ e)),
-        or-true (ltb 60000 (length text)),
+        or_true (ltb 60000 (length text)),
       )
 
-pub good-head : (text : List ℕ) → length text ≤ 60000 → (end : ℕ) → end ≡ lineEnd text 0 → {r : NumberRow}
+pub good_head : (text : List ℕ) → length text ≤ 60000 → (end : ℕ) → end ≡ line_end text 0 → {r : NumberRow}
     → RowRead (row_of (take (end - 0) (drop 0 text))) r → r.count ≡ 3
     → HeadRead text (end + 1) (get_or r.numbers 0 0) (get_or r.numbers 1 0) (get_or r.numbers 2 0)
-good-head text short end q R h =
+good_head text short end q R h =
     record {
       short = short;
-      head = rw (first-line text end q, R.each 0, R.each 1, R.each 2)
+      head = rw (first_line_lem text end q, R.each 0, R.each 1, R.each 2)
           (three (row_of (take (end - 0) (drop 0 text))) (sym R.counted ∙ h));
-      rest = later-lines text end q;
+      rest = later_lines text end q;
     }
 
 -- ---- the spans
 
 -- What a count of spans says.
-counted : (ls : List (List ℕ)) (n : ℕ) → Count n ≡ count_of ls → (allSpans ls ≡ true) × (length ls ≡ n)
+counted : (ls : List (List ℕ)) (n : ℕ) → Count n ≡ count_of ls → (all_spans ls ≡ true) × (length ls ≡ n)
 unfolding count_of
-counted ls n e = go (allSpans ls) e
+counted ls n e = go (all_spans ls) e
   where
     go : (t : Bool) → Count n ≡ cond t (Count (length ls)) Malformed → (t ≡ true) × (length ls ≡ n)
     go true e = (refl, cc)
     go false e = let z : ◌≡◌ {A = ℕ} 0 1 = cc in absurd (omega arith)
 
-uncounted : (ls : List (List ℕ)) → Malformed ≡ count_of ls → allSpans ls ≡ false
+uncounted : (ls : List (List ℕ)) → Malformed ≡ count_of ls → all_spans ls ≡ false
 unfolding count_of
-uncounted ls e = go (allSpans ls) e
+uncounted ls e = go (all_spans ls) e
   where
     go : (t : Bool) → Malformed ≡ cond t (Count (length ls)) Malformed → t ≡ false
     go true e = let z : ◌≡◌ {A = ℕ} 0 1 = cc in absurd (omega arith)
@@ -125,39 +125,39 @@ module _ {text : List ℕ} {first places start minute : ℕ} (H : HeadRead text 
   abbrev ls : List (List ℕ)
   ls = lines (drop first text)
 
-  pub bad-spans : Malformed ≡ count_of ls → readMap text lent lentWindows ≡ refusedReading 21 lent lentWindows
-  unfolding readMap isMap hasNumbers
-  bad-spans e = rw (le-ltb 60000 (length text) H.short, H.head, H.rest, uncounted ls e)
+  pub bad_spans : Malformed ≡ count_of ls → read_map text lent lentWindows ≡ refused_reading 21 lent lentWindows
+  unfolding read_map is_map has_numbers
+  bad_spans e = rw (le-ltb 60000 (length text) H.short, H.head, H.rest, uncounted ls e)
 
   module _ (n : ℕ) (e : Count n ≡ count_of ls) where
     filled : Reading
     filled =
         record {
           answer = record { code = 0; places = places; start = start; minute = minute; spans = n };
-          left = withSpans ls lent;
-          leftWindows = withWindows ls lentWindows;
+          left = with_spans ls lent;
+          left_windows = with_windows ls lentWindows;
         }
 
-    past-21 : readMap text lent lentWindows
-        ≡ cond (runOut lent lentWindows n) (refusedReading 16 lent lentWindows) filled
-    unfolding readMap isMap hasNumbers readAnswer filled
-    past-21 =
+    past_21 : read_map text lent lentWindows
+        ≡ cond (run_out lent lentWindows n) (refused_reading 16 lent lentWindows) filled
+    unfolding read_map is_map has_numbers read_answer filled
+    past_21 =
         let c = counted ls n e in
         rw (le-ltb 60000 (length text) H.short, H.head, H.rest, c.0, c.1)
 
     -- what the test of the lists answers
-    module _ {t : Bool} (out : t ≡ runOut lent lentWindows n) where
-      pub no_room : t ≡ true → readMap text lent lentWindows ≡ refusedReading 16 lent lentWindows
-      no_room y = past-21 ∙ rw (← out, y)
+    module _ {t : Bool} (out : t ≡ run_out lent lentWindows n) where
+      pub no_room : t ≡ true → read_map text lent lentWindows ≡ refused_reading 16 lent lentWindows
+      no_room y = past_21 ∙ rw (← out, y)
 
       module _ (f : t ≡ false) where
         pub has_room : SpansFit ls lent lentWindows
         has_room = spans_fit ls lent lentWindows (rw ((counted ls n e).1, ← out) f)
 
-        pub all-filled : (left : SpanLists) (leftWindows : Windows) → left ≡ withSpans ls lent
-            → leftWindows ≡ withWindows ls lentWindows
-            → Reads (readMap text lent lentWindows)
-            (record { code = 0; places = places; start = start; minute = minute; spans = n }) left leftWindows
+        pub all_filled : (left : SpanLists) (left_windows : Windows) → left ≡ with_spans ls lent
+            → left_windows ≡ with_windows ls lentWindows
+            → Reads (read_map text lent lentWindows)
+            (record { code = 0; places = places; start = start; minute = minute; spans = n }) left left_windows
         unfolding filled
-        all-filled left leftWindows F G =
-            rw (past-21, ← out, f) (record { answer-is = refl; left_is = F; windows-are = G })
+        all_filled left left_windows F G =
+            rw (past_21, ← out, f) (record { answer_is = refl; left_is = F; windows_are = G })

@@ -1,26 +1,26 @@
 -- The lines of a map text: `places,start,minute`, then a line `from,to,loss,open,close` for each span.
 use Rattle.std.specs.Prelude.{ℕ, List, [], ◌∷◌, map, Bool, true, cond, ◌&&◌, length, get_or, eqb}
 use Rattle.text.specs.Numbers.{number_at}
-use Rattle.text.specs.Fields.{rowFrom}
+use Rattle.text.specs.Fields.{row_from}
 use Rattle.mapfile.specs.declared.Spans.{Spans}
 use Rattle.mapfile.specs.declared.Spans.TheVariants.{Count, Malformed}
 
 -- the numbers of a line: one to five, or none if it is no such line
 unfoldable pub row_of : List ℕ → List ℕ
-row_of line = rowFrom 5 line [] (number_at line 0)
+row_of line = row_from 5 line [] (number_at line 0)
 
 -- a line of n numbers
-unfoldable pub hasNumbers : ℕ → List ℕ → Bool
-hasNumbers n line = eqb (length (row_of line)) n
+unfoldable pub has_numbers : ℕ → List ℕ → Bool
+has_numbers n line = eqb (length (row_of line)) n
 
 -- each line is a span
-unfoldable pub allSpans : List (List ℕ) → Bool
-allSpans [] = true
-allSpans (l ∷ ls) = hasNumbers 5 l && allSpans ls
+unfoldable pub all_spans : List (List ℕ) → Bool
+all_spans [] = true
+all_spans (l ∷ ls) = has_numbers 5 l && all_spans ls
 
 -- how many spans there are, if each line is one
 unfoldable pub count_of : List (List ℕ) → Spans
-count_of ls = cond (allSpans ls) (Count (length ls)) Malformed
+count_of ls = cond (all_spans ls) (Count (length ls)) Malformed
 
 -- number i of each span, counted from 0
 unfoldable pub column : ℕ → List (List ℕ) → List ℕ

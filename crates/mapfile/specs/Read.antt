@@ -2,87 +2,87 @@
 use Rattle.std.specs.Prelude.{ℕ, ◌≤◌, ◌≡◌, List, [], ◌∷◌, Bool, cond, not, ◌&&◌, ◌||◌, length, get_or, drop, eqb, ltb}
 use Rattle.std.proofs.lemmas.List.Edits.{sets}
 use Rattle.text.specs.Lines.{lines}
-use Rattle.paths.specs.Map.{SpanLists, spanLists, Windows, windows}
+use Rattle.paths.specs.Map.{SpanLists, span_lists, Windows, windows}
 use Rattle.mapfile.specs.declared.MapRead.{MapRead}
-use Rattle.mapfile.specs.Lines.{row_of, hasNumbers, allSpans, column}
+use Rattle.mapfile.specs.Lines.{row_of, has_numbers, all_spans, column}
 
 -- the first line, and those after it; an empty text has an empty first line
-unfoldable pub firstLine : List (List ℕ) → List ℕ
-firstLine [] = []
-firstLine (l ∷ ls) = l
+unfoldable pub first_line : List (List ℕ) → List ℕ
+first_line [] = []
+first_line (l ∷ ls) = l
 
-unfoldable pub spanLines : List (List ℕ) → List (List ℕ)
-spanLines [] = []
-spanLines (l ∷ ls) = ls
+unfoldable pub span_lines : List (List ℕ) → List (List ℕ)
+span_lines [] = []
+span_lines (l ∷ ls) = ls
 
 -- The first line has places, start and minute, and each other is a span.
-unfoldable pub isMap : List (List ℕ) → Bool
-isMap ls = hasNumbers 3 (firstLine ls) && allSpans (spanLines ls)
+unfoldable pub is_map : List (List ℕ) → Bool
+is_map ls = has_numbers 3 (first_line ls) && all_spans (span_lines ls)
 
 -- The five lists differ in length, or have no word for each of n spans.
-unfoldable pub runOut : SpanLists → Windows → ℕ → Bool
-runOut l w n =
+unfoldable pub run_out : SpanLists → Windows → ℕ → Bool
+run_out l w n =
     let words = length l.from in
     not (eqb (length l.to) words) || not (eqb (length l.loss) words) || not (eqb (length w.opens) words)
     || not (eqb (length w.closes) words) || ltb words n
 
 -- The spans of the lines ls go to the beginning of the lists, and so do their windows.
-unfoldable pub withSpans : List (List ℕ) → SpanLists → SpanLists
-withSpans ls l =
-    spanLists (sets l.from 0 (column 0 ls)) (sets l.to 0 (column 1 ls)) (sets l.loss 0 (column 2 ls))
+unfoldable pub with_spans : List (List ℕ) → SpanLists → SpanLists
+with_spans ls l =
+    span_lists (sets l.from 0 (column 0 ls)) (sets l.to 0 (column 1 ls)) (sets l.loss 0 (column 2 ls))
 
-unfoldable pub withWindows : List (List ℕ) → Windows → Windows
-withWindows ls w = windows (sets w.opens 0 (column 3 ls)) (sets w.closes 0 (column 4 ls))
+unfoldable pub with_windows : List (List ℕ) → Windows → Windows
+with_windows ls w = windows (sets w.opens 0 (column 3 ls)) (sets w.closes 0 (column 4 ls))
 
 -- the answer, and the lent lists as they are left
 pub record Reading : Type 0 where
   pub answer : MapRead
   pub left : SpanLists
-  pub leftWindows : Windows
+  pub left_windows : Windows
 
 -- A refusal gives its code and four zeros, and changes nothing.
-unfoldable pub refusedAnswer : ℕ → MapRead
-refusedAnswer code = record { code = code; places = 0; start = 0; minute = 0; spans = 0 }
+unfoldable pub refused_answer : ℕ → MapRead
+refused_answer code = record { code = code; places = 0; start = 0; minute = 0; spans = 0 }
 
-unfoldable pub refusedReading : ℕ → SpanLists → Windows → Reading
-refusedReading code lent lentWindows =
-    record { answer = refusedAnswer code; left = lent; leftWindows = lentWindows }
+unfoldable pub refused_reading : ℕ → SpanLists → Windows → Reading
+refused_reading code lent lentWindows =
+    record { answer = refused_answer code; left = lent; left_windows = lentWindows }
 
 -- the answer by the numbers of the first line and the number of spans
-unfoldable pub readAnswer : List ℕ → ℕ → MapRead
-readAnswer head n =
+unfoldable pub read_answer : List ℕ → ℕ → MapRead
+read_answer head n =
     record { code = 0; places = get_or head 0 0; start = get_or head 1 0; minute = get_or head 2 0; spans = n }
 
-unfoldable pub readMap : List ℕ → SpanLists → Windows → Reading
-readMap text lent lentWindows =
-    let head = row_of (firstLine (lines text)) in
-    let ls = spanLines (lines text) in
-    cond (ltb 60000 (length text) || not (isMap (lines text))) (refusedReading 21 lent lentWindows)
-    (cond (runOut lent lentWindows (length ls)) (refusedReading 16 lent lentWindows)
+unfoldable pub read_map : List ℕ → SpanLists → Windows → Reading
+read_map text lent lentWindows =
+    let head = row_of (first_line (lines text)) in
+    let ls = span_lines (lines text) in
+    cond (ltb 60000 (length text) || not (is_map (lines text))) (refused_reading 21 lent lentWindows)
+    (cond (run_out lent lentWindows (length ls)) (refused_reading 16 lent lentWindows)
     (record {
-      answer = readAnswer head (length ls);
-      left = withSpans ls lent;
-      leftWindows = withWindows ls lentWindows;
+      answer = read_answer head (length ls);
+      left = with_spans ls lent;
+      left_windows = with_windows ls lentWindows;
     }))
 
 -- an answer and five lists are what a reading says
-pub record Reads (w : Reading) (r : MapRead) (left : SpanLists) (leftWindows : Windows) : Type 0 where
-  pub answer-is : r ≡ w.answer
+pub record Reads (w : Reading) (r : MapRead) (left : SpanLists) (left_windows : Windows) : Type 0 where
+  pub answer_is : r ≡ w.answer
   pub left_is : left ≡ w.left
-  pub windows-are : leftWindows ≡ w.leftWindows
+  pub windows_are : left_windows ≡ w.left_windows
 
 -- ---- for the functions inside
 
 -- The first line of a text was read: it has places, start and minute, and the next begins at position `first`.
 pub record HeadRead (text : List ℕ) (first places start minute : ℕ) : Type 0 where
   pub short : length text ≤ 60000
-  pub head : row_of (firstLine (lines text)) ≡ places ∷ start ∷ minute ∷ []
-  pub rest : spanLines (lines text) ≡ lines (drop first text)
+  pub head : row_of (first_line (lines text)) ≡ places ∷ start ∷ minute ∷ []
+  pub rest : span_lines (lines text) ≡ lines (drop first text)
 
 -- The lists have room for a span of each line.
 pub record SpansFit (ls : List (List ℕ)) (l : SpanLists) (w : Windows) : Type 0 where
-  pub inFrom : length ls ≤ length l.from
-  pub inTo : length ls ≤ length l.to
-  pub inLoss : length ls ≤ length l.loss
-  pub inOpens : length ls ≤ length w.opens
-  pub inCloses : length ls ≤ length w.closes
+  pub in_from : length ls ≤ length l.from
+  pub in_to : length ls ≤ length l.to
+  pub in_loss : length ls ≤ length l.loss
+  pub in_opens : length ls ≤ length w.opens
+  pub in_closes : length ls ≤ length w.closes

@@ -2,9 +2,9 @@
 ghost use Rattle.std.specs.Prelude.{◌≡◌, ◌≤◌, length, drop};
 ghost use Rattle.text.specs.Fields.{RowRead};
 ghost use Rattle.text.specs.Lines.{lines};
-ghost use Rattle.paths.specs.Map.{spanLists, windows};
-ghost use Rattle.mapfile.specs.Lines.{row_of, hasNumbers, count_of};
-ghost use Rattle.mapfile.specs.Read.{runOut, withSpans, withWindows, refusedAnswer, readMap};
+ghost use Rattle.paths.specs.Map.{span_lists, windows};
+ghost use Rattle.mapfile.specs.Lines.{row_of, has_numbers, count_of};
+ghost use Rattle.mapfile.specs.Read.{run_out, with_spans, with_windows, refused_answer, read_map};
 ghost use Rattle.mapfile.specs.Read.{Reads, HeadRead, SpansFit};
 
 use text::{NumberRow, line_end, number_at, row_from};
@@ -34,7 +34,7 @@ fn line_numbers(line: &[u8]) -> NumberRow
 }
 
 fn is_span(line: &[u8]) -> bool
-    ensures { result ≡ hasNumbers 5 line.now }
+    ensures { result ≡ has_numbers 5 line.now }
 {
     let row = line_numbers(line);
     row.count == 5
@@ -61,7 +61,7 @@ fn count_spans(text: &[u8], first: usize) -> Spans
 
 // Whether the five lists differ in length, or have no word for each of n spans.
 fn run_out(from: &[u32], to: &[u32], loss: &[u32], opens: &[u32], closes: &[u32], n: u32) -> bool
-    ensures { result ≡ runOut (spanLists from.now to.now loss.now)
+    ensures { result ≡ run_out (span_lists from.now to.now loss.now)
         (windows opens.now closes.now) n }
 {
     let words = from.len();
@@ -79,13 +79,13 @@ fn fill(
     opens: &mut [u32],
     closes: &mut [u32],
 )
-    requires { SpansFit (lines (drop first text.now)) (spanLists from.old to.old loss.old)
+    requires { SpansFit (lines (drop first text.now)) (span_lists from.old to.old loss.old)
         (windows opens.old closes.old) }
-    ensures loss_after { spanLists from.new to.new loss.new
-        ≡ withSpans (lines (drop first text.now))
-        (spanLists from.old to.old loss.old) }
+    ensures loss_after { span_lists from.new to.new loss.new
+        ≡ with_spans (lines (drop first text.now))
+        (span_lists from.old to.old loss.old) }
     ensures closes_after { windows opens.new closes.new
-        ≡ withWindows (lines (drop first text.now)) (windows opens.old closes.old) }
+        ≡ with_windows (lines (drop first text.now)) (windows opens.old closes.old) }
 {
     let mut at = first;
     let mut n = 0;
@@ -104,7 +104,7 @@ fn fill(
 }
 
 fn refuse(code: u32) -> MapRead
-    ensures { result ≡ refusedAnswer code }
+    ensures { result ≡ refused_answer code }
 {
     MapRead {
         code: code,
@@ -130,9 +130,9 @@ fn read_spans(
 ) -> MapRead
     requires { HeadRead text.now first places start minute }
     ensures { Reads
-        (readMap text.now (spanLists from.old to.old loss.old)
+        (read_map text.now (span_lists from.old to.old loss.old)
         (windows opens.old closes.old))
-        result (spanLists from.new to.new loss.new)
+        result (span_lists from.new to.new loss.new)
         (windows opens.new closes.new) }
 {
     let spans = count_spans(text, first);
@@ -162,9 +162,9 @@ pub fn read(
     closes: &mut [u32],
 ) -> MapRead
     ensures { Reads
-        (readMap text.now (spanLists from.old to.old loss.old)
+        (read_map text.now (span_lists from.old to.old loss.old)
         (windows opens.old closes.old))
-        result (spanLists from.new to.new loss.new)
+        result (span_lists from.new to.new loss.new)
         (windows opens.new closes.new) }
 {
     if text.len() > 60000 {

@@ -3,21 +3,21 @@ use Prim.Native.Nat.{ℕ}
 use mathlib.Core.Path.{◌≡◌, sym, ◌∙◌}
 use mathlib.Core.List.{List}
 use lib.ListN.{length, length-replicate, replicate}
-use Rattle.rules.specs.Words.{storeSize}
+use Rattle.rules.specs.Words.{store_size}
 use Rattle.sheet.specs.declared.Ran.{Ran}
-use Rattle.sheet.specs.Runs.{Leaves, freshRun}
-use Rattle.sheet.proofs.FreshRuns.{fresh-shown}
-use Rattle.modem.specs.QueueRun.{Returns, queueRun, resultNumber}
+use Rattle.sheet.specs.Runs.{Leaves, fresh_run}
+use Rattle.sheet.proofs.FreshRuns.{fresh_shown}
+use Rattle.modem.specs.QueueRun.{Returns, queue_run, result_number}
 
-pub run-returned : (store sheet out : List ℕ) {store' out' : List ℕ} {r : Ran}
-    → Leaves (freshRun store sheet out) r store' out' → length store ≡ storeSize 256 → (n : ℕ)
-    → n ≡ resultNumber r.code r.bytes → Returns sheet out n out'
-unfolding queueRun
-run-returned store sheet out L e n is =
+pub run_returned : (store sheet out : List ℕ) {store' out' : List ℕ} {r : Ran}
+    → Leaves (fresh_run store sheet out) r store' out' → length store ≡ store_size 256 → (n : ℕ)
+    → n ≡ result_number r.code r.bytes → Returns sheet out n out'
+unfolding queue_run
+run_returned store sheet out L e n is =
     let same =
-    fresh-shown store (replicate (storeSize 256) 0) sheet out
-    (e ∙ sym (length-replicate {A = ℕ} (storeSize 256) 0)) in
+    fresh_shown store (replicate (store_size 256) 0) sheet out
+    (e ∙ sym (length-replicate {A = ℕ} (store_size 256) 0)) in
     record {
-      sameNumber = is ∙ rw (L.sameCode ∙ same.code, L.sameBytes ∙ same.bytes);
-      sameOut = L.sameOut ∙ same.out;
+      same_number = is ∙ rw (L.same_code ∙ same.code, L.same_bytes ∙ same.bytes);
+      same_out = L.same_out ∙ same.out;
     }

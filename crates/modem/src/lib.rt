@@ -1,10 +1,10 @@
 // The one run that the firmware's C side calls: a fresh run for 256 items, on words of its own.
 ghost use Rattle.std.specs.Prelude.{◌≡◌};
-ghost use Rattle.modem.specs.QueueRun.{Returns, resultNumber};
+ghost use Rattle.modem.specs.QueueRun.{Returns, result_number};
 
 // The number that C gets of a run: the bytes written, or 100,000 and the code.
 fn result_number(code: u8, bytes: u32) -> u32
-    ensures { result ≡ resultNumber code bytes }
+    ensures { result ≡ result_number code bytes }
 {
     if code == 0 {
         return bytes;

@@ -19,87 +19,87 @@ use borrow.Author.Tests.{
   lt-leb,
   not-false,
 }
-use Rattle.rules.specs.Words.{storeSize}
+use Rattle.rules.specs.Words.{store_size}
 use Rattle.rules.proofs.Occurs.{and_split}
-use Rattle.paths.specs.Map.{Map, spans, fromOf, toOf, lossOf, Accepted}
+use Rattle.paths.specs.Map.{Map, spans, from_of, to_of, loss_of, Accepted}
 use Rattle.paths.specs.Codes.{
   fault,
   previous,
-  supplyFault,
-  spanCode,
-  minuteFits,
-  spanListsFit,
-  windowListsFit,
-  resultListsFit,
-  feedCode,
+  supply_fault,
+  span_code,
+  minute_fits,
+  span_lists_fit,
+  window_lists_fit,
+  result_lists_fit,
+  feed_code,
 }
 use Rattle.paths.specs.Theorems.{Fits, CodeZero}
-use Rattle.paths.proofs.Codes.{no-cond, no_or, both_zero, fault-none, each_none, all_none}
-use Rattle.paths.proofs.Supply.{supply-fits, supply-minute, supply-lists, supply-faultless}
+use Rattle.paths.proofs.Codes.{no_cond, no_or, both_zero, fault-none, each_none, all_none}
+use Rattle.paths.proofs.Supply.{supply_fits, supply_minute, supply_lists, supply_faultless}
 
 module _ (m : Map) where
   -- what a span without a fault is
   record Faultless (e : ℕ) : Type 0 where
-    fromIn : fromOf m e < m.places
-    toIn : toOf m e < m.places
-    low : 1 ≤ lossOf m e
-    high : lossOf m e ≤ 1000000
-    level : previous m.lists.from e ≤ fromOf m e
-    window : supplyFault m.supply e ≡ 0
+    from_in : from_of m e < m.places
+    to_in : to_of m e < m.places
+    low : 1 ≤ loss_of m e
+    high : loss_of m e ≤ 1000000
+    level : previous m.lists.from e ≤ from_of m e
+    window : supply_fault m.supply e ≡ 0
 
-  faultless : (e : ℕ) → spanCode m.places m.lists m.supply e ≡ 0 → Faultless e
-  unfolding spanCode fault
+  faultless : (e : ℕ) → span_code m.places m.lists m.supply e ≡ 0 → Faultless e
+  unfolding span_code fault
   faultless e z₀ =
-      let both = both_zero _ (supplyFault m.supply e) z₀ in
+      let both = both_zero _ (supply_fault m.supply e) z₀ in
       let z = both.0 in
-      let a = no-cond (leb m.places (fromOf m e) || leb m.places (toOf m e)) 18 _ (λ q. omega arith) z in
-      let b = no-cond (eqb (lossOf m e) 0 || ltb 1000000 (lossOf m e)) 19 _ (λ q. omega arith) a.1 in
-      let c = no-cond (ltb (fromOf m e) (previous m.lists.from e)) 20 0 (λ q. omega arith) b.1 in
-      let f = no_or (leb m.places (fromOf m e)) (leb m.places (toOf m e)) a.0 in
-      let g = no_or (eqb (lossOf m e) 0) (ltb 1000000 (lossOf m e)) b.0 in
-      let n : lossOf m e ≢ 0 = eqb-false (lossOf m e) 0 g.0 in
+      let a = no_cond (leb m.places (from_of m e) || leb m.places (to_of m e)) 18 _ (λ q. omega arith) z in
+      let b = no_cond (eqb (loss_of m e) 0 || ltb 1000000 (loss_of m e)) 19 _ (λ q. omega arith) a.1 in
+      let c = no_cond (ltb (from_of m e) (previous m.lists.from e)) 20 0 (λ q. omega arith) b.1 in
+      let f = no_or (leb m.places (from_of m e)) (leb m.places (to_of m e)) a.0 in
+      let g = no_or (eqb (loss_of m e) 0) (ltb 1000000 (loss_of m e)) b.0 in
+      let n : loss_of m e ≢ 0 = eqb-false (loss_of m e) 0 g.0 in
       record {
-        fromIn = leb-false m.places (fromOf m e) f.0;
-        toIn = leb-false m.places (toOf m e) f.1;
+        from_in = leb-false m.places (from_of m e) f.0;
+        to_in = leb-false m.places (to_of m e) f.1;
         low = omega (arith, n);
-        high = ltb-false 1000000 (lossOf m e) g.1;
-        level = ltb-false (fromOf m e) (previous m.lists.from e) c.0;
+        high = ltb-false 1000000 (loss_of m e) g.1;
+        level = ltb-false (from_of m e) (previous m.lists.from e) c.0;
         window = both.1;
       }
 
-  no-fault : Accepted m → (e : ℕ) → e < spans m → spanCode m.places m.lists m.supply e ≡ 0
-  unfolding spanCode previous
-  no-fault A e h =
+  no_fault : Accepted m → (e : ℕ) → e < spans m → span_code m.places m.lists m.supply e ≡ 0
+  unfolding span_code previous
+  no_fault A e h =
       rw (sym
-      (fault-none m.places (fromOf m e) (toOf m e) (lossOf m e) (previous m.lists.from e) (A.fromIn e h)
-      (A.toIn e h) (λ q. omega (arith, A.low e h)) (A.high e h) (level e h)))
-      (supply-faultless (spans m) m.supply A.supplied e h)
+      (fault-none m.places (from_of m e) (to_of m e) (loss_of m e) (previous m.lists.from e) (A.from_in e h)
+      (A.to_in e h) (λ q. omega (arith, A.low e h)) (A.high e h) (level e h)))
+      (supply_faultless (spans m) m.supply A.supplied e h)
     where
-      level : (e : ℕ) → e < spans m → previous m.lists.from e ≤ fromOf m e
+      level : (e : ℕ) → e < spans m → previous m.lists.from e ≤ from_of m e
       level zero h = omega arith
       level (suc e) h = A.rising e h
 
-  module _ (bestN lastN jointsN listedN storeN : ℕ) where
-    fits : feedCode m bestN lastN jointsN listedN storeN ≡ 0 → Fits m bestN lastN jointsN listedN storeN
-    unfolding feedCode previous
+  module _ (best_n last_n joints_n listedN storeN : ℕ) where
+    fits : feed_code m best_n last_n joints_n listedN storeN ≡ 0 → Fits m best_n last_n joints_n listedN storeN
+    unfolding feed_code previous
     fits z =
-        let c₁ = no-cond (eqb m.places 0 || ltb 4096 m.places) 14 _ (λ q. omega arith) z in
-        let c₂ = no-cond (leb m.places m.start) 15 _ (λ q. omega arith) c₁.1 in
-        let c₀ = no-cond (not (minuteFits m.supply)) 24 _ (λ q. omega arith) c₂.1 in
+        let c₁ = no_cond (eqb m.places 0 || ltb 4096 m.places) 14 _ (λ q. omega arith) z in
+        let c₂ = no_cond (leb m.places m.start) 15 _ (λ q. omega arith) c₁.1 in
+        let c₀ = no_cond (not (minute_fits m.supply)) 24 _ (λ q. omega arith) c₂.1 in
         let c₃ =
-        no-cond (not (spanListsFit m.lists && windowListsFit (spans m) m.supply)) 16 _ (λ q. omega arith)
+        no_cond (not (span_lists_fit m.lists && window_lists_fit (spans m) m.supply)) 16 _ (λ q. omega arith)
         c₀.1 in
         let c₄ =
-        no-cond (not (resultListsFit m.places bestN lastN jointsN storeN)) 17 _ (λ q. omega arith) c₃.1 in
-        let c₅ = no-cond (ltb listedN m.places) 22 _ (λ q. omega arith) c₄.1 in
+        no_cond (not (result_lists_fit m.places best_n last_n joints_n storeN)) 17 _ (λ q. omega arith) c₃.1 in
+        let c₅ = no_cond (ltb listedN m.places) 22 _ (λ q. omega arith) c₄.1 in
         let f = no_or (eqb m.places 0) (ltb 4096 m.places) c₁.0 in
         let k =
-        and_split (spanListsFit m.lists) (windowListsFit (spans m) m.supply) (not-false _ c₃.0) in
+        and_split (span_lists_fit m.lists) (window_lists_fit (spans m) m.supply) (not-false _ c₃.0) in
         let g = and_split _ (leb (spans m) 16384) k.0 in
         let g' = and_split (eqb (length m.lists.to) (spans m)) (eqb (length m.lists.loss) (spans m)) g.0 in
-        let h = and_split _ (eqb storeN (storeSize m.places)) (not-false _ c₄.0) in
-        let h' = and_split _ (eqb jointsN m.places) h.0 in
-        let h'' = and_split (eqb bestN m.places) (eqb lastN m.places) h'.0 in
+        let h = and_split _ (eqb storeN (store_size m.places)) (not-false _ c₄.0) in
+        let h' = and_split _ (eqb joints_n m.places) h.0 in
+        let h'' = and_split (eqb best_n m.places) (eqb last_n m.places) h'.0 in
         let n : m.places ≢ 0 = eqb-false m.places 0 f.0 in
         let s : (e : ℕ) → e < spans m → Faultless e =
         λ e k. faultless e (each_none m.places m.lists m.supply (spans m) c₅.1 e k) in
@@ -109,44 +109,44 @@ module _ (m : Map) where
                 some = omega (arith, n);
                 few = ltb-false 4096 m.places f.1;
                 start_in = leb-false m.places m.start c₂.0;
-                toN = eqb-true (length m.lists.to) (spans m) g'.0;
-                lossN = eqb-true (length m.lists.loss) (spans m) g'.1;
+                to_n = eqb-true (length m.lists.to) (spans m) g'.0;
+                loss_n = eqb-true (length m.lists.loss) (spans m) g'.1;
                 short = leb-true (spans m) 16384 g.1;
-                fromIn = λ e k. (s e k).fromIn;
-                toIn = λ e k. (s e k).toIn;
+                from_in = λ e k. (s e k).from_in;
+                to_in = λ e k. (s e k).to_in;
                 low = λ e k. (s e k).low;
                 high = λ e k. (s e k).high;
                 rising = λ e k. (s (suc e) k).level;
                 supplied =
-                    supply-fits (spans m) m.supply (not-false _ c₀.0) k.1 (λ e h. (s e h).window);
+                    supply_fits (spans m) m.supply (not-false _ c₀.0) k.1 (λ e h. (s e h).window);
               };
-          best = eqb-true bestN m.places h''.0;
-          last = eqb-true lastN m.places h''.1;
-          joints = eqb-true jointsN m.places h'.1;
+          best = eqb-true best_n m.places h''.0;
+          last = eqb-true last_n m.places h''.1;
+          joints = eqb-true joints_n m.places h'.1;
           listed = ltb-false listedN m.places c₅.0;
-          store = eqb-true storeN (storeSize m.places) h.1;
+          store = eqb-true storeN (store_size m.places) h.1;
         }
 
-    accepts : Fits m bestN lastN jointsN listedN storeN → feedCode m bestN lastN jointsN listedN storeN ≡ 0
-    unfolding feedCode
+    accepts : Fits m best_n last_n joints_n listedN storeN → feed_code m best_n last_n joints_n listedN storeN ≡ 0
+    unfolding feed_code
     accepts F =
         let A = F.accepted in
         rw (
           ne_eqb m.places 0 (λ q. omega (arith, A.some)),
           le-ltb 4096 m.places A.few,
           lt-leb m.places m.start A.start_in,
-          eq-eqb (length m.lists.to) (spans m) A.toN,
-          eq-eqb (length m.lists.loss) (spans m) A.lossN,
+          eq-eqb (length m.lists.to) (spans m) A.to_n,
+          eq-eqb (length m.lists.loss) (spans m) A.loss_n,
           le-leb (spans m) 16384 A.short,
-          supply-minute (spans m) m.supply A.supplied,
-          supply-lists (spans m) m.supply A.supplied,
-          eq-eqb bestN m.places F.best,
-          eq-eqb lastN m.places F.last,
-          eq-eqb jointsN m.places F.joints,
-          eq-eqb storeN (storeSize m.places) F.store,
+          supply_minute (spans m) m.supply A.supplied,
+          supply_lists (spans m) m.supply A.supplied,
+          eq-eqb best_n m.places F.best,
+          eq-eqb last_n m.places F.last,
+          eq-eqb joints_n m.places F.joints,
+          eq-eqb storeN (store_size m.places) F.store,
           le-ltb listedN m.places F.listed,
         )
-        (all_none m.places m.lists m.supply (spans m) (no-fault A))
+        (all_none m.places m.lists m.supply (spans m) (no_fault A))
 
-pub codeZero : CodeZero
-codeZero = record { accepts = accepts; only = fits }
+pub code_zero : CodeZero
+code_zero = record { accepts = accepts; only = fits }

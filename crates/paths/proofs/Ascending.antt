@@ -10,47 +10,47 @@ use lib.ListN.{get_or}
 use lib.Dec.{eqb}
 use borrow.Author.Tests.{eqb-true, eqb-false}
 use Rattle.rules.specs.Lists.{sumBy, occurs}
-use Rattle.rules.specs.Order.{keyIn, precedes}
-use Rattle.rules.proofs.Occurs.{byItem, delta-self, delta-other}
-use Rattle.rules.proofs.Order.{is-precedes, precedes-is, before-keys}
+use Rattle.rules.specs.Order.{key_in, precedes}
+use Rattle.rules.proofs.Occurs.{by_item, delta_self, delta_other}
+use Rattle.rules.proofs.Order.{is_precedes, precedes_is, before_keys}
 use Rattle.paths.specs.Table.{Ascending}
 use Rattle.paths.specs.Theorems.{ListingUnique}
 
 -- the order looks at the losses of the members alone
-pub ascending-same : (best best' l : List ℕ) → ((q : ℕ) → 1 ≤ occurs q l → get_or best' q 0 ≡ get_or best q 0)
+pub ascending_same : (best best' l : List ℕ) → ((q : ℕ) → 1 ≤ occurs q l → get_or best' q 0 ≡ get_or best q 0)
     → Ascending best l → Ascending best' l
 unfolding occurs sumBy
-ascending-same best best' [] f a = tt
-ascending-same best best' (x ∷ []) f a = tt
-ascending-same best best' (x ∷ y ∷ l) f a = (
-  before-keys (keyIn best') (keyIn best) x y (f x (omega (arith, delta-self x)))
-      (f y (omega (arith, delta-self y))) ∙ a.0,
-  ascending-same best best' (y ∷ l) (λ q h. f q (omega arith)) a.1,
+ascending_same best best' [] f a = tt
+ascending_same best best' (x ∷ []) f a = tt
+ascending_same best best' (x ∷ y ∷ l) f a = (
+  before_keys (key_in best') (key_in best) x y (f x (omega (arith, delta_self x)))
+      (f y (omega (arith, delta_self y))) ∙ a.0,
+  ascending_same best best' (y ∷ l) (λ q h. f q (omega arith)) a.1,
 )
 
 module _ (best : List ℕ) where
-  pub ascending-more : (l : List ℕ) (u : ℕ) → Ascending best l → ((q : ℕ) → 1 ≤ occurs q l → precedes best q u ≡ true)
+  pub ascending_more : (l : List ℕ) (u : ℕ) → Ascending best l → ((q : ℕ) → 1 ≤ occurs q l → precedes best q u ≡ true)
       → Ascending best (l ++ (u ∷ []))
   unfolding occurs sumBy
-  ascending-more [] u a f = tt
-  ascending-more (x ∷ []) u a f = (f x (omega (arith, delta-self x)), tt)
-  ascending-more (x ∷ y ∷ l) u a f = (a.0, ascending-more (y ∷ l) u a.1 (λ q h. f q (omega arith)))
+  ascending_more [] u a f = tt
+  ascending_more (x ∷ []) u a f = (f x (omega (arith, delta_self x)), tt)
+  ascending_more (x ∷ y ∷ l) u a f = (a.0, ascending_more (y ∷ l) u a.1 (λ q h. f q (omega arith)))
 
-  ascending-rest : (x : ℕ) (l : List ℕ) → Ascending best (x ∷ l) → Ascending best l
-  ascending-rest x [] a = tt
-  ascending-rest x (y ∷ l) a = a.1
+  ascending_rest : (x : ℕ) (l : List ℕ) → Ascending best (x ∷ l) → Ascending best l
+  ascending_rest x [] a = tt
+  ascending_rest x (y ∷ l) a = a.1
 
-  precedes-both : (x y z : ℕ) → precedes best x y ≡ true → precedes best y z ≡ true → precedes best x z ≡ true
-  precedes-both x y z e f =
-      let g = is-precedes best x y e in
-      let h = is-precedes best y z f in
-      precedes-is best x z (omega (arith, g.0, h.0))
+  precedes_both : (x y z : ℕ) → precedes best x y ≡ true → precedes best y z ≡ true → precedes best x z ≡ true
+  precedes_both x y z e f =
+      let g = is_precedes best x y e in
+      let h = is_precedes best y z f in
+      precedes_is best x z (omega (arith, g.0, h.0))
       (λ q. omega (arith, g.1 (omega (arith, g.0, h.0, q)), h.1 (omega (arith, g.0, h.0, q))))
 
-  precedes-one-way : (x y : ℕ) → precedes best x y ≡ true → precedes best y x ≡ true → ⊥
-  precedes-one-way x y e f =
-      let g = is-precedes best x y e in
-      let h = is-precedes best y x f in
+  precedes_one_way : (x y : ℕ) → precedes best x y ≡ true → precedes best y x ≡ true → ⊥
+  precedes_one_way x y e f =
+      let g = is_precedes best x y e in
+      let h = is_precedes best y x f in
       omega (arith, g.1 (omega (arith, g.0, h.0)), h.1 (omega (arith, g.0, h.0)))
 
   -- the head comes before all others
@@ -58,10 +58,10 @@ module _ (best : List ℕ) where
   unfolding occurs sumBy
   head_first x [] a = λ z h. absurd (omega arith)
   head_first x (y ∷ l) a =
-      byItem y (λ _. a.0)
+      by_item y (λ _. a.0)
       (λ z n h.
-      precedes-both x y z a.0
-      (head_first y l a.1 z (omega (arith, h, delta-other z y (λ e. n (sym e))))))
+      precedes_both x y z a.0
+      (head_first y l a.1 z (omega (arith, h, delta_other z y (λ e. n (sym e))))))
 
   same_head : (x y : ℕ) (l k : List ℕ) → Ascending best (x ∷ l) → Ascending best (y ∷ k)
       → ((p : ℕ) → occurs p (x ∷ l) ≡ occurs p (y ∷ k)) → x ≡ y
@@ -73,22 +73,22 @@ module _ (best : List ℕ) where
       go false e =
           let n : x ≢ y = eqb-false x y e in
           absurd
-          (precedes-one-way x y
-          (head_first x l a y (omega (arith, f y, delta-self y, delta-other y x n)))
-          (head_first y k b x (omega (arith, f x, delta-self x, delta-other x y (λ z. n (sym z))))))
+          (precedes_one_way x y
+          (head_first x l a y (omega (arith, f y, delta_self y, delta_other y x n)))
+          (head_first y k b x (omega (arith, f x, delta_self x, delta_other x y (λ z. n (sym z))))))
 
   one_list : (l k : List ℕ) → Ascending best l → Ascending best k → ((p : ℕ) → occurs p l ≡ occurs p k) → l ≡ k
   unfolding occurs sumBy
   one_list [] [] a b f = refl
-  one_list [] (y ∷ k) a b f = absurd (omega (arith, f y, delta-self y))
-  one_list (x ∷ l) [] a b f = absurd (omega (arith, f x, delta-self x))
+  one_list [] (y ∷ k) a b f = absurd (omega (arith, f y, delta_self y))
+  one_list (x ∷ l) [] a b f = absurd (omega (arith, f x, delta_self x))
   one_list (x ∷ l) (y ∷ k) a b f =
       let e : x ≡ y = same_head x y l k a b f in
       let r : l ≡ k =
-      one_list l k (ascending-rest x l a) (ascending-rest y k b)
+      one_list l k (ascending_rest x l a) (ascending_rest y k b)
       (λ p. omega (arith, rw e at (f p))) in
       rw (e, r)
 
-pub listingUnique : ListingUnique
-listingUnique best listed listed' L M =
+pub listing_unique : ListingUnique
+listing_unique best listed listed' L M =
     one_list best listed listed' L.ascending M.ascending (λ p. L.once p ∙ sym (M.once p))

@@ -9,20 +9,20 @@ use lib.ListN.{length, get_or, set, replicate, length-set, length-replicate}
 use lib.Seq.{get_or-set_same, get_or-set_other}
 use Rattle.rules.specs.Lists.{sumBy}
 use Rattle.rules.specs.Forests.{none}
-use Rattle.rules.proofs.EmptyForests.{getD-all}
-use Rattle.rules.proofs.Occurs.{byItem}
-use Rattle.rules.proofs.Sums.{sumBy-set}
-use Rattle.paths.specs.Map.{Map, spans, fromOf, Accepted}
+use Rattle.rules.proofs.EmptyForests.{get_d_all}
+use Rattle.rules.proofs.Occurs.{by_item}
+use Rattle.rules.proofs.Sums.{sum_by_set}
+use Rattle.paths.specs.Map.{Map, spans, from_of, Accepted}
 use Rattle.paths.proofs.Waiting.{sum-none}
-use Rattle.paths.proofs.Invariant.{is_none, isNone-no, isNone-yes, unsettled, Settled, Invariant}
+use Rattle.paths.proofs.Invariant.{is_none, is_none_no, is_none_yes, unsettled, Settled, Invariant}
 
-sum-isNone : (n : ℕ) → sumBy is_none (replicate n none) ≡ n
+sum_is_none : (n : ℕ) → sumBy is_none (replicate n none) ≡ n
 unfolding sumBy
-sum-isNone zero = refl
-sum-isNone (suc n) = omega (arith, isNone-yes, sum-isNone n)
+sum_is_none zero = refl
+sum_is_none (suc n) = omega (arith, is_none_yes, sum_is_none n)
 
 pub sum_zeros : (n : ℕ) → sumBy (λ h. h) (replicate n 0) ≡ 0
-sum_zeros n = sum-none (replicate n 0) (λ i. getD-all n i 0)
+sum_zeros n = sum-none (replicate n 0) (λ i. get_d_all n i 0)
 
 module _ (m : Map) (A : Accepted m) where
   abbrev n : ℕ
@@ -40,58 +40,58 @@ module _ (m : Map) (A : Accepted m) where
   in_all : (v : ℕ) → a < length (replicate n v)
   in_all v = rw (length-replicate n v) A.start_in
 
-  waits-a : get_or waits₀ a 0 ≡ 1
-  waits-a = get_or-set_same (replicate n 0) a 1 0 (in_all 0)
+  waits_a : get_or waits₀ a 0 ≡ 1
+  waits_a = get_or-set_same (replicate n 0) a 1 0 (in_all 0)
 
-  best-a : get_or best₀ a none ≡ 0
-  best-a = get_or-set_same (replicate n none) a 0 none (in_all none)
+  best_a : get_or best₀ a none ≡ 0
+  best_a = get_or-set_same (replicate n none) a 0 none (in_all none)
 
-  waits-o : (q : ℕ) → q ≢ a → get_or waits₀ q 0 ≡ 0
-  waits-o q z = get_or-set_other (replicate n 0) a q 1 0 z ∙ getD-all n q 0
+  waits_o : (q : ℕ) → q ≢ a → get_or waits₀ q 0 ≡ 0
+  waits_o q z = get_or-set_other (replicate n 0) a q 1 0 z ∙ get_d_all n q 0
 
-  best-o : (q : ℕ) → q ≢ a → get_or best₀ q none ≡ none
-  best-o q z = get_or-set_other (replicate n none) a q 0 none z ∙ getD-all n q none
+  best_o : (q : ℕ) → q ≢ a → get_or best₀ q none ≡ none
+  best_o q z = get_or-set_other (replicate n none) a q 0 none z ∙ get_d_all n q none
 
   -- no place is settled yet
-  pub none-settled : (q : ℕ) → Settled waits₀ best₀ q → ⊥
-  none-settled = byItem a (λ t. omega (arith, waits-a, t.0)) (λ q z t. t.1 (best-o q z))
+  pub none_settled : (q : ℕ) → Settled waits₀ best₀ q → ⊥
+  none_settled = by_item a (λ t. omega (arith, waits_a, t.0)) (λ q z t. t.1 (best_o q z))
 
-  pub all-unsettled : unsettled waits₀ best₀ ≡ n
+  pub all_unsettled : unsettled waits₀ best₀ ≡ n
   unfolding unsettled
-  all-unsettled =
+  all_unsettled =
       omega (
         arith,
-        sumBy-set is_none (replicate n none) a 0 none (in_all none),
-        sumBy-set (λ h. h) (replicate n 0) a 1 0 (in_all 0),
-        sum-isNone n,
+        sum_by_set is_none (replicate n none) a 0 none (in_all none),
+        sum_by_set (λ h. h) (replicate n 0) a 1 0 (in_all 0),
+        sum_is_none n,
         sum_zeros n,
-        ap is_none (getD-all n a none),
-        isNone-yes,
-        isNone-no 0 (λ e. omega arith),
-        getD-all {A = ℕ} n a 0,
+        ap is_none (get_d_all n a none),
+        is_none_yes,
+        is_none_no 0 (λ e. omega arith),
+        get_d_all {A = ℕ} n a 0,
       )
 
   -- the losses and the numbers of spans are the same lists
-  pub begin-invariant : Invariant m a 0 (spans m) waits₀ (set (replicate n 0) a 0) best₀ (replicate n none) best₀
-  begin-invariant =
+  pub begin_invariant : Invariant m a 0 (spans m) waits₀ (set (replicate n 0) a 0) best₀ (replicate n none) best₀
+  begin_invariant =
       record {
-        waitsN = simp (length-set, length-replicate);
-        keyN = simp (length-set, length-replicate);
-        bestN = simp (length-set, length-replicate);
-        lastN = simp length-replicate;
-        jointsN = simp (length-set, length-replicate);
-        bit = byItem a (rw waits-a (le_refl _)) (λ q z. rw (waits-o q z) zero-le);
-        met = byItem a (λ _. rw best-a (λ e. omega arith)) (λ q z w. absurd (w (waits-o q z)));
+        waits_n = simp (length-set, length-replicate);
+        key_n = simp (length-set, length-replicate);
+        best_n = simp (length-set, length-replicate);
+        last_n = simp length-replicate;
+        joints_n = simp (length-set, length-replicate);
+        bit = by_item a (rw waits_a (le_refl _)) (λ q z. rw (waits_o q z) zero-le);
+        met = by_item a (λ _. rw best_a (λ e. omega arith)) (λ q z w. absurd (w (waits_o q z)));
         keyed =
-            byItem a (λ _. rw best-a (get_or-set_same (replicate n 0) a 0 0 (in_all 0)))
-            (λ q z w. absurd (w (waits-o q z)));
-        begun = (best-a, getD-all n a none, best-a);
-        unmet = λ q z. (getD-all n q none, z);
-        given = byItem a (λ _ z. absurd (z refl)) (λ q z w. absurd (w (best-o q z)));
-        relaxed = λ e _ t _. absurd (none-settled (fromOf m e) t);
-        past = λ q t. absurd (none-settled q t);
+            by_item a (λ _. rw best_a (get_or-set_same (replicate n 0) a 0 0 (in_all 0)))
+            (λ q z w. absurd (w (waits_o q z)));
+        begun = (best_a, get_d_all n a none, best_a);
+        unmet = λ q z. (get_d_all n q none, z);
+        given = by_item a (λ _ z. absurd (z refl)) (λ q z w. absurd (w (best_o q z)));
+        relaxed = λ e _ t _. absurd (none_settled (from_of m e) t);
+        past = λ q t. absurd (none_settled q t);
         future = λ q _. zero-le;
         small =
-            byItem a (λ _. rw (best-a, all-unsettled) (omega arith)) (λ q z w. absurd (w (best-o q z)));
+            by_item a (λ _. rw (best_a, all_unsettled) (omega arith)) (λ q z w. absurd (w (best_o q z)));
         short = λ q _. le_refl _;
       }

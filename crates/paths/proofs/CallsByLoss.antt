@@ -1,21 +1,21 @@
--- The search makes the calls of the search with losses alone: each of its definitions commutes with `lossesOf`.
+-- The search makes the calls of the search with losses alone: each of its definitions commutes with `losses_of`.
 use Prim.Native.Nat.{ℕ, zero, suc}
 use mathlib.Core.Path.{◌≡◌, refl, sym, ap, ◌∙◌}
 use mathlib.Core.Bool.{Bool, true, false, cond, ◌&&◌}
 use lib.Dec.{eqb, ltb}
 use Rattle.rules.specs.Forests.{none}
-use Rattle.paths.specs.Map.{Map, spans, fromOf, toOf, usable}
+use Rattle.paths.specs.Map.{Map, spans, from_of, to_of, usable}
 use Rattle.paths.specs.Queue.{Stop, NextPlace, halts, takes, next}
 use Rattle.paths.specs.Search.{
   Search,
-  bestAt,
+  best_at,
   last_at,
-  jointsAt,
+  joints_at,
   unmet,
   smaller,
   tie,
   worse,
-  winsTie,
+  wins_tie,
   judge,
   update,
   offer,
@@ -32,81 +32,81 @@ use Rattle.paths.specs.Search.{
   find,
 }
 use Rattle.paths.specs.Table.{Limit}
-use Rattle.paths.specs.Feed.{linksOf, cuts_of, feedAs}
+use Rattle.paths.specs.Feed.{links_of, cuts_of, feed_as}
 use Rattle.paths.specs.LossSearch.{
   LossSearch,
-  lossesOf,
+  losses_of,
   entered,
   lowered,
-  offerLoss,
-  tryLoss,
-  triedLoss,
-  stepLoss,
-  beginLoss,
-  stepsLoss,
-  findLoss,
+  offer_loss,
+  try_loss,
+  tried_loss,
+  step_loss,
+  begin_loss,
+  steps_loss,
+  find_loss,
   CallsByLoss,
 }
-use Rattle.paths.proofs.Examined.{examined-shown}
+use Rattle.paths.proofs.Examined.{examined_shown}
 
 -- a tie and a worse offer change none of the losses, the queue and the calls
-offer-loss : (place loss hops span : ℕ) (s : Search)
-    → lossesOf (offer place loss hops span s) ≡ offerLoss place loss (lossesOf s)
-unfolding offer judge update offerLoss
-offer-loss place loss hops span s =
-    go (eqb (bestAt s place) none) (ltb loss (bestAt s place))
-    (eqb loss (bestAt s place) && winsTie (jointsAt s place) (last_at s place) hops span)
+offer_loss_lem : (place loss hops span : ℕ) (s : Search)
+    → losses_of (offer place loss hops span s) ≡ offer_loss place loss (losses_of s)
+unfolding offer judge update offer_loss
+offer_loss_lem place loss hops span s =
+    go (eqb (best_at s place) none) (ltb loss (best_at s place))
+    (eqb loss (best_at s place) && wins_tie (joints_at s place) (last_at s place) hops span)
   where
     go : (new less better : Bool)
-        → lossesOf (update (cond new unmet (cond less smaller (cond better tie worse))) place loss hops span s)
-        ≡ cond new (entered place loss (lossesOf s)) (cond less (lowered place loss (lossesOf s)) (lossesOf s))
+        → losses_of (update (cond new unmet (cond less smaller (cond better tie worse))) place loss hops span s)
+        ≡ cond new (entered place loss (losses_of s)) (cond less (lowered place loss (losses_of s)) (losses_of s))
     go true less better = refl
     go false true better = refl
     go false false true = refl
     go false false false = refl
 
 module _ (m : Map) where
-  try-loss : (own can : Bool) (d h e : ℕ) (s : Search)
-      → lossesOf (try own can m d h e s) ≡ tryLoss own can m d e (lossesOf s)
-  unfolding try tryLoss
-  try-loss false can d h e s = refl
-  try-loss true false d h e s = refl
-  try-loss true true d h e s = offer-loss (toOf m e) _ _ e (examine s)
+  try_loss_lem : (own can : Bool) (d h e : ℕ) (s : Search)
+      → losses_of (try own can m d h e s) ≡ try_loss own can m d e (losses_of s)
+  unfolding try try_loss
+  try_loss_lem false can d h e s = refl
+  try_loss_lem true false d h e s = refl
+  try_loss_lem true true d h e s = offer_loss_lem (to_of m e) _ _ e (examine s)
 
-  tried-loss : (u d h e : ℕ) (s : Search) → lossesOf (tried m u d h e s) ≡ triedLoss m u d e (lossesOf s)
-  unfolding tried triedLoss
-  tried-loss u d h zero s = refl
-  tried-loss u d h (suc e) s =
-      try-loss (eqb (fromOf m e) u) (usable m e) d h e (tried m u d h e s)
-      ∙ ap (tryLoss (eqb (fromOf m e) u) (usable m e) m d e) (tried-loss u d h e s)
+  tried_loss_lem : (u d h e : ℕ) (s : Search) → losses_of (tried m u d h e s) ≡ tried_loss m u d e (losses_of s)
+  unfolding tried tried_loss
+  tried_loss_lem u d h zero s = refl
+  tried_loss_lem u d h (suc e) s =
+      try_loss_lem (eqb (from_of m e) u) (usable m e) d h e (tried m u d h e s)
+      ∙ ap (try_loss (eqb (from_of m e) u) (usable m e) m d e) (tried_loss_lem u d h e s)
 
-  step-loss : (n : NextPlace) (s : Search) → lossesOf (step m n s) ≡ stepLoss m n (lossesOf s)
-  unfolding step visit stepLoss
-  step-loss halts s = refl
-  step-loss (takes u) s = tried-loss u _ _ (spans m) (extracted u s)
+  step_loss_lem : (n : NextPlace) (s : Search) → losses_of (step m n s) ≡ step_loss m n (losses_of s)
+  unfolding step visit step_loss
+  step_loss_lem halts s = refl
+  step_loss_lem (takes u) s = tried_loss_lem u _ _ (spans m) (extracted u s)
 
-each : (stop : Stop) (m : Map) (k : ℕ) → lossesOf (steps stop m k) ≡ stepsLoss stop m k
-unfolding steps begin stepsLoss beginLoss
+each : (stop : Stop) (m : Map) (k : ℕ) → losses_of (steps stop m k) ≡ steps_loss stop m k
+unfolding steps begin steps_loss begin_loss
 each stop m zero = refl
 each stop m (suc k) =
-    step-loss m (next stop (steps stop m k).queue) (steps stop m k)
-    ∙ ap (λ (t : LossSearch). stepLoss m (next stop t.queue) t) (each stop m k)
+    step_loss_lem m (next stop (steps stop m k).queue) (steps stop m k)
+    ∙ ap (λ (t : LossSearch). step_loss m (next stop t.queue) t) (each stop m k)
 
-found : (limit : Limit) (m : Map) → lossesOf (find limit m) ≡ findLoss limit m
+found : (limit : Limit) (m : Map) → losses_of (find limit m) ≡ find_loss limit m
 unfolding search
 found limit m = each (beyond limit) m m.places
 
-pub callsByLoss : CallsByLoss
-unfolding feedAs
-callsByLoss =
+pub calls_by_loss : CallsByLoss
+unfolding feed_as
+calls_by_loss =
     record {
       each = each;
       found = found;
       figures =
           λ limit m A lent.
           let e = found limit m in (
-            ap (λ (s : LossSearch). linksOf m.places s.calls) e,
+            ap (λ (s : LossSearch). links_of m.places s.calls) e,
             ap (λ (s : LossSearch). cuts_of m.places s.calls) e,
-            sym (examined-shown limit m A) ∙ ap (λ (s : LossSearch). s.examined) e,
+            sym (examined_shown limit m A) ∙ ap (λ (s : LossSearch). s.examined) e,
           );
     }

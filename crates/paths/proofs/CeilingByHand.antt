@@ -1,19 +1,19 @@
 -- The ceilings worked by hand, by computation.
 use mathlib.Core.Path.{refl}
 use native.Mathlib.Omega.{arith}
-use Rattle.rules.specs.Lists.{sumBy, sum_to, without, setAll}
-use Rattle.rules.specs.Order.{comesBefore, leastOf, leastIn, minimum}
-use Rattle.rules.specs.Fibonacci.{lastFrom, R}
-use Rattle.rules.specs.Cut.{cut, nodeKind, cascadingCut, cutWithin, cutOut, cut_if}
-use Rattle.rules.specs.Consolidate.{link, isFree, climb, linkTrees, occupied, consolidateWithin, consolidate}
-use Rattle.rules.specs.Calls.{insert, release, setFree, removeRoot, extract, hasParent, decreaseKey, perform}
-use Rattle.rules.specs.Words.{storeSize}
-use Rattle.rules.specs.Answers.{is_empty, refusal, refused, unlessRefused, answer, answers}
-use Rattle.paths.specs.Map.{usableAt, usableBy}
-use Rattle.paths.specs.Table.{is_reached, leavingReached}
+use Rattle.rules.specs.Lists.{sumBy, sum_to, without, set_all}
+use Rattle.rules.specs.Order.{comes_before, least_of, least_in, minimum}
+use Rattle.rules.specs.Fibonacci.{last_from, R}
+use Rattle.rules.specs.Cut.{cut, node_kind, cascading_cut, cut_within, cut_out, cut_if}
+use Rattle.rules.specs.Consolidate.{link, is_free, climb, link_trees, occupied, consolidate_within, consolidate}
+use Rattle.rules.specs.Calls.{insert, release, set_free, remove_root, extract, has_parent, decrease_key, perform}
+use Rattle.rules.specs.Words.{store_size}
+use Rattle.rules.specs.Answers.{is_empty, refusal, refused, unless_refused, answer, answers}
+use Rattle.paths.specs.Map.{usable_at, usable_by}
+use Rattle.paths.specs.Table.{is_reached, leaving_reached}
 use Rattle.paths.specs.Queue.{waiting, next_of, next}
 use Rattle.paths.specs.Search.{
-  winsTie,
+  wins_tie,
   judge,
   update,
   offer,
@@ -24,50 +24,50 @@ use Rattle.paths.specs.Search.{
   begin,
   steps,
   search,
-  hideWaiting,
+  hide_waiting,
   takings,
 }
 use Rattle.paths.specs.Codes.{
   fault,
-  windowFault,
-  supplyFault,
+  window_fault,
+  supply_fault,
   previous,
-  spanCode,
-  codeBelow,
-  minuteFits,
-  windowListsFit,
-  feedCode,
+  span_code,
+  code_below,
+  minute_fits,
+  window_lists_fit,
+  feed_code,
 }
-use Rattle.paths.specs.Feed.{linksOf, cuts_of, feedAs, feedResult, budgetAs, budgetResult}
-use Rattle.paths.specs.Ceiling.{reachedPlaces, ceiling, mapCeiling}
+use Rattle.paths.specs.Feed.{links_of, cuts_of, feed_as, feed_result, budget_as, budget_result}
+use Rattle.paths.specs.Ceiling.{reached_places, ceiling, map_ceiling}
 use Rattle.paths.specs.ByHand.{nines}
 use Rattle.paths.specs.CeilingByHand.{
-  aloneMap,
-  eightSpans,
-  eightMap,
-  closedMap,
-  placeByPlace,
+  alone_map,
+  eight_spans,
+  eight_map,
+  closed_map,
+  place_by_place,
   down,
-  denseMap,
-  ceilingMaps,
+  dense_map,
+  ceiling_maps,
   fed,
-  fedWithin,
+  fed_within,
   counted,
-  countedWithin,
+  counted_within,
   ceilings,
   WorkedCeilings,
 }
 
-pub workedCeilings : WorkedCeilings
-unfolding aloneMap eightSpans eightMap closedMap placeByPlace down denseMap ceilingMaps fed fedWithin counted
-    countedWithin ceilings nines budgetResult budgetAs feedResult feedAs hideWaiting takings linksOf cuts_of feedCode
-    minuteFits windowListsFit storeSize codeBelow spanCode previous supplyFault windowFault fault usableAt usableBy
-    search steps begin step visit tried try offer update judge winsTie next next_of waiting answers answer unlessRefused
-    refused refusal is_empty perform decreaseKey hasParent extract removeRoot setFree release insert consolidate
-    consolidateWithin occupied linkTrees climb isFree link cut_if cutOut cutWithin cascadingCut nodeKind cut minimum
-    leastIn leastOf comesBefore setAll without sumBy leavingReached is_reached sum_to reachedPlaces ceiling mapCeiling R
-    lastFrom
-workedCeilings =
+pub worked_ceilings : WorkedCeilings
+unfolding alone_map eight_spans eight_map closed_map place_by_place down dense_map ceiling_maps fed fed_within counted
+    counted_within ceilings nines budget_result budget_as feed_result feed_as hide_waiting takings links_of cuts_of feed_code
+    minute_fits window_lists_fit store_size code_below span_code previous supply_fault window_fault fault usable_at usable_by
+    search steps begin step visit tried try offer update judge wins_tie next next_of waiting answers answer unless_refused
+    refused refusal is_empty perform decrease_key has_parent extract remove_root set_free release insert consolidate
+    consolidate_within occupied link_trees climb is_free link cut_if cut_out cut_within cascading_cut node_kind cut minimum
+    least_in least_of comes_before set_all without sumBy leaving_reached is_reached sum_to reached_places ceiling map_ceiling R
+    last_from
+worked_ceilings =
     record {
       figures = refl;
       within = refl;
@@ -76,32 +76,32 @@ workedCeilings =
             some = omega arith;
             few = omega arith;
             by_counts = omega arith;
-            byMap = omega arith;
-            byWholeMap = λ _ _. omega arith;
+            by_map = omega arith;
+            by_whole_map = λ _ _. omega arith;
           };
       eight =
           record {
             some = omega arith;
             few = omega arith;
             by_counts = omega arith;
-            byMap = omega arith;
-            byWholeMap = λ _ _. omega arith;
+            by_map = omega arith;
+            by_whole_map = λ _ _. omega arith;
           };
       closed =
           record {
             some = omega arith;
             few = omega arith;
             by_counts = omega arith;
-            byMap = omega arith;
-            byWholeMap = λ _ _. omega arith;
+            by_map = omega arith;
+            by_whole_map = λ _ _. omega arith;
           };
       dense =
           record {
             some = omega arith;
             few = omega arith;
             by_counts = omega arith;
-            byMap = omega arith;
-            byWholeMap = λ _ _. omega arith;
+            by_map = omega arith;
+            by_whole_map = λ _ _. omega arith;
           };
       are = refl;
     }

@@ -15,63 +15,63 @@ use Rattle.rules.specs.Forests.{empty, trees, marks, potential}
 use Rattle.rules.specs.Fibonacci.{R}
 use Rattle.rules.specs.Answers.{answers}
 use Rattle.rules.specs.Ledger.{moves, allowed}
-use Rattle.rules.proofs.Excused.{to-formed}
-use Rattle.rules.proofs.Fibonacci.{R-is, R-zero, F-above}
-use Rattle.rules.proofs.EmptyForests.{emptyWellFormed}
+use Rattle.rules.proofs.Excused.{to_formed}
+use Rattle.rules.proofs.Fibonacci.{R_is, R_zero, F_above}
+use Rattle.rules.proofs.EmptyForests.{empty_well_formed}
 use Rattle.rules.proofs.Ledger.{all_paid}
 use Rattle.paths.specs.Map.{Map, Accepted}
 use Rattle.paths.specs.Queue.{Stop}
 use Rattle.paths.specs.Search.{Search}
-use Rattle.paths.specs.Feed.{linksOf, cuts_of}
+use Rattle.paths.specs.Feed.{links_of, cuts_of}
 use Rattle.paths.specs.Theorems.{Moment, CountsFit}
 use Rattle.paths.proofs.Invariant.{unsettled}
 use Rattle.paths.proofs.Begin.{sum_zeros}
-use Rattle.paths.proofs.Steps.{moments-keep}
-use Rattle.paths.proofs.Examined.{examinedAtMost}
-use Rattle.paths.proofs.RankSums.{ranks-le}
+use Rattle.paths.proofs.Steps.{moments_keep}
+use Rattle.paths.proofs.Examined.{examined_at_most}
+use Rattle.paths.proofs.RankSums.{ranks_le}
 use Rattle.paths.proofs.Costs.{Costs, costs}
 
 -- ---- sums
 
-links-and-cuts : (rs : List Answer)
+links_and_cuts : (rs : List Answer)
     → sumBy (λ a. a.links) rs + sumBy (λ a. a.cuts) rs ≡ sumBy (λ a. a.links + a.cuts) rs
 unfolding sumBy
-links-and-cuts [] = refl
-links-and-cuts (a ∷ rs) = omega (arith, links-and-cuts rs)
+links_and_cuts [] = refl
+links_and_cuts (a ∷ rs) = omega (arith, links_and_cuts rs)
 
-R-le : (n : ℕ) → R n ≤ n
-R-le n = go (eqb n 0) refl
+R_le : (n : ℕ) → R n ≤ n
+R_le n = go (eqb n 0) refl
   where
     go : (t : Bool) → eqb n 0 ≡ t → R n ≤ n
-    go true e = rw (eqb-true n 0 e, R-zero) zero-le
-    go false e = let z : n ≢ 0 = eqb-false n 0 e in omega (arith, F-above (R n), R-is n (omega arith))
+    go true e = rw (eqb-true n 0 e, R_zero) zero-le
+    go false e = let z : n ≢ 0 = eqb-false n 0 e in omega (arith, F_above (R n), R_is n (omega arith))
 
 -- ---- what they cost
 
-pub moves-le : (n : ℕ) → n ≤ 4096 → (ls : List Line) → linksOf n ls + cuts_of n ls ≤ allowed (empty n) ls
-unfolding linksOf cuts_of moves potential trees marks sumBy
-moves-le n few ls =
+pub moves_le : (n : ℕ) → n ≤ 4096 → (ls : List Line) → links_of n ls + cuts_of n ls ≤ allowed (empty n) ls
+unfolding links_of cuts_of moves potential trees marks sumBy
+moves_le n few ls =
     omega (
       arith,
-      links-and-cuts (answers (empty n) ls),
-      all_paid (empty n) (to-formed (empty n) (emptyWellFormed n few)) ls,
+      links_and_cuts (answers (empty n) ls),
+      all_paid (empty n) (to_formed (empty n) (empty_well_formed n few)) ls,
       sum_zeros n,
     )
 
 -- a bound for every moment, far below a word
-pub counts-low : (stop : Stop) (m : Map) → Accepted m → (s : Search) → Moment stop m s
-    → linksOf m.places s.calls + cuts_of m.places s.calls ≤ 20000000
+pub counts_low : (stop : Stop) (m : Map) → Accepted m → (s : Search) → Moment stop m s
+    → links_of m.places s.calls + cuts_of m.places s.calls ≤ 20000000
 unfolding unsettled
-counts-low stop m A s M =
-    let C = moments-keep stop m A (Costs m) (costs stop m A) s M in
-    let top = le_trans (ranks-le C.entered C.taken) (mul-le-mul_left C.taken (R-le C.entered)) in
-    let few : C.entered ≤ 4096 = omega (arith, C.entered-is, A.few) in
+counts_low stop m A s M =
+    let C = moments_keep stop m A (Costs m) (costs stop m A) s M in
+    let top = le_trans (ranks_le C.entered C.taken) (mul-le-mul_left C.taken (R_le C.entered)) in
+    let few : C.entered ≤ 4096 = omega (arith, C.entered_is, A.few) in
     let wide = mul-le-mul_left C.taken few in
     omega (
       arith,
-      moves-le m.places A.few s.calls,
+      moves_le m.places A.few s.calls,
       C.pays,
-      examinedAtMost stop m A s M,
+      examined_at_most stop m A s M,
       A.short,
       top,
       wide,
@@ -79,5 +79,5 @@ counts-low stop m A s M =
       A.few,
     )
 
-pub countsFit : CountsFit
-countsFit stop m A s M = omega (arith, counts-low stop m A s M)
+pub counts_fit : CountsFit
+counts_fit stop m A s M = omega (arith, counts_low stop m A s M)

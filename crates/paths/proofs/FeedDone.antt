@@ -5,43 +5,43 @@ use native.Mathlib.Omega.{arith}
 use lib.ListN.{length}
 use Rattle.paths.specs.Map.{Map, Accepted}
 use Rattle.paths.specs.Table.{Limit, unlimited}
-use Rattle.paths.specs.Search.{search, find, shownBest}
-use Rattle.paths.specs.Feed.{ResultLists, codeFor, feedAs, feedResult}
+use Rattle.paths.specs.Search.{search, find, shown_best}
+use Rattle.paths.specs.Feed.{ResultLists, code_for, feed_as, feed_result}
 use Rattle.paths.specs.Theorems.{Right, FeedDone}
-use Rattle.paths.proofs.Table.{finderTable}
-use Rattle.paths.proofs.LossesAlone.{lossesAlone}
-use Rattle.paths.proofs.Tree.{tableTree}
+use Rattle.paths.proofs.Table.{finder_table}
+use Rattle.paths.proofs.LossesAlone.{losses_alone}
+use Rattle.paths.proofs.Tree.{table_tree}
 use Rattle.paths.proofs.SpanCount.{count_most}
-use Rattle.paths.proofs.Accepts.{codeZero}
+use Rattle.paths.proofs.Accepts.{code_zero}
 
 -- a map that gets code 0 is accepted
-pub done-accepted : (m : Map) (lent : ResultLists) (listedN : ℕ) → codeFor m lent listedN ≡ 0 → Accepted m
-done-accepted m lent listedN e =
-    (codeZero.only m (length lent.best) (length lent.last) (length lent.joints) listedN (length lent.store)
+pub done_accepted : (m : Map) (lent : ResultLists) (listedN : ℕ) → code_for m lent listedN ≡ 0 → Accepted m
+done_accepted m lent listedN e =
+    (code_zero.only m (length lent.best) (length lent.last) (length lent.joints) listedN (length lent.store)
     e).accepted
 
-pub done-right : (limit : Limit) (m : Map) (lent : ResultLists) → Accepted m → Right limit m (feedAs 0 limit m lent)
-unfolding feedAs search
-done-right limit m lent A =
+pub done_right : (limit : Limit) (m : Map) (lent : ResultLists) → Accepted m → Right limit m (feed_as 0 limit m lent)
+unfolding feed_as search
+done_right limit m lent A =
     record {
-      table = finderTable limit m A;
-      losses = lossesAlone.least limit m _ _ _ (finderTable limit m A);
-      tree = tableTree limit m A _ _ _ (finderTable limit m A);
+      table = finder_table limit m A;
+      losses = losses_alone.least limit m _ _ _ (finder_table limit m A);
+      tree = table_tree limit m A _ _ _ (finder_table limit m A);
       store = refl;
       examined = refl;
-      at_most = count_most m (shownBest (find limit m));
+      at_most = count_most m (shown_best (find limit m));
     }
 
 -- a result with code 0 is that of a call which is done
-pub feed-code : (m : Map) (lent : ResultLists) → (feedResult m lent).code ≡ 0
-    → Accepted m × (feedResult m lent ≡ feedAs 0 unlimited m lent)
-unfolding feedResult feedAs
-feed-code m lent = go (codeFor m lent m.places) refl
+pub feed_code : (m : Map) (lent : ResultLists) → (feed_result m lent).code ≡ 0
+    → Accepted m × (feed_result m lent ≡ feed_as 0 unlimited m lent)
+unfolding feed_result feed_as
+feed_code m lent = go (code_for m lent m.places) refl
   where
-    go : (c : ℕ) → codeFor m lent m.places ≡ c → (feedAs c unlimited m lent).code ≡ 0
-        → Accepted m × (feedAs c unlimited m lent ≡ feedAs 0 unlimited m lent)
-    go zero e _ = (done-accepted m lent m.places e, refl)
+    go : (c : ℕ) → code_for m lent m.places ≡ c → (feed_as c unlimited m lent).code ≡ 0
+        → Accepted m × (feed_as c unlimited m lent ≡ feed_as 0 unlimited m lent)
+    go zero e _ = (done_accepted m lent m.places e, refl)
     go (suc c) e z = absurd (omega (arith, z))
 
-pub feedDone : FeedDone
-feedDone m lent z = let D = feed-code m lent z in rw D.1 (done-right unlimited m lent D.0)
+pub feed_done : FeedDone
+feed_done m lent z = let D = feed_code m lent z in rw D.1 (done_right unlimited m lent D.0)

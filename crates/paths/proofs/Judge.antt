@@ -7,8 +7,8 @@ use native.Mathlib.Omega.{arith}
 use lib.Dec.{eqb, ltb}
 use borrow.Author.Tests.{eqb-true, eqb-false, eq-eqb, ne_eqb, ltb-true, ltb-false, lt-ltb, le-ltb}
 use Rattle.rules.specs.Forests.{none}
-use Rattle.rules.proofs.Occurs.{and-false}
-use Rattle.paths.specs.Search.{unmet, smaller, tie, worse, winsTie, judge}
+use Rattle.rules.proofs.Occurs.{and_false}
+use Rattle.paths.specs.Search.{unmet, smaller, tie, worse, wins_tie, judge}
 
 -- ---- equal losses
 
@@ -19,56 +19,56 @@ Wins h e h' e' = (h ≤ h') × (h ≡ h' → e < e')
 abbrev pub NoWorse : ℕ → ℕ → ℕ → ℕ → Type 0
 NoWorse h e h' e' = (h ≤ h') × (h ≡ h' → e ≤ e')
 
-module _ (hasHops hasSpan hops span : ℕ) where
-  pub wins-tie : winsTie hasHops hasSpan hops span ≡ true → Wins hops span hasHops hasSpan
-  unfolding winsTie
-  wins-tie = go (ltb hops hasHops) (eqb hops hasHops) (ltb span hasSpan) refl refl refl
+module _ (has_hops has_span hops span : ℕ) where
+  pub wins_tie_lem : wins_tie has_hops has_span hops span ≡ true → Wins hops span has_hops has_span
+  unfolding wins_tie
+  wins_tie_lem = go (ltb hops has_hops) (eqb hops has_hops) (ltb span has_span) refl refl refl
     where
-      go : (a b c : Bool) → ltb hops hasHops ≡ a → eqb hops hasHops ≡ b → ltb span hasSpan ≡ c → a || (b && c) ≡ true
-          → Wins hops span hasHops hasSpan
-      go true b c p q r z = let o = ltb-true hops hasHops p in (omega (arith, o), λ e. absurd (omega (arith, o, e)))
+      go : (a b c : Bool) → ltb hops has_hops ≡ a → eqb hops has_hops ≡ b → ltb span has_span ≡ c → a || (b && c) ≡ true
+          → Wins hops span has_hops has_span
+      go true b c p q r z = let o = ltb-true hops has_hops p in (omega (arith, o), λ e. absurd (omega (arith, o, e)))
       go false true true p q r z =
-          let o = eqb-true hops hasHops q in
-          (omega (arith, o), λ _. ltb-true span hasSpan r)
+          let o = eqb-true hops has_hops q in
+          (omega (arith, o), λ _. ltb-true span has_span r)
       go false true false p q r z = absurd (false≢true z)
       go false false c p q r z = absurd (false≢true z)
 
-  pub keeps-tie : winsTie hasHops hasSpan hops span ≡ false → NoWorse hasHops hasSpan hops span
-  unfolding winsTie
-  keeps-tie = go (ltb hops hasHops) (eqb hops hasHops) (ltb span hasSpan) refl refl refl
+  pub keeps_tie : wins_tie has_hops has_span hops span ≡ false → NoWorse has_hops has_span hops span
+  unfolding wins_tie
+  keeps_tie = go (ltb hops has_hops) (eqb hops has_hops) (ltb span has_span) refl refl refl
     where
-      go : (a b c : Bool) → ltb hops hasHops ≡ a → eqb hops hasHops ≡ b → ltb span hasSpan ≡ c → a || (b && c) ≡ false
-          → NoWorse hasHops hasSpan hops span
+      go : (a b c : Bool) → ltb hops has_hops ≡ a → eqb hops has_hops ≡ b → ltb span has_span ≡ c → a || (b && c) ≡ false
+          → NoWorse has_hops has_span hops span
       go true b c p q r z = absurd (true≢false z)
       go false true true p q r z = absurd (true≢false z)
-      go false true false p q r z = (ltb-false hops hasHops p, λ _. ltb-false span hasSpan r)
+      go false true false p q r z = (ltb-false hops has_hops p, λ _. ltb-false span has_span r)
       go false false c p q r z =
-          let n : hops ≢ hasHops = eqb-false hops hasHops q in
-          (ltb-false hops hasHops p, λ e. absurd (omega (arith, n, e)))
+          let n : hops ≢ has_hops = eqb-false hops has_hops q in
+          (ltb-false hops has_hops p, λ e. absurd (omega (arith, n, e)))
 
 -- ---- the verdict
 
-module _ (hasLoss hasHops hasSpan loss hops span : ℕ) where
-  pub judge-unmet : hasLoss ≡ none → judge hasLoss hasHops hasSpan loss hops span ≡ unmet
+module _ (has_loss has_hops has_span loss hops span : ℕ) where
+  pub judge_unmet : has_loss ≡ none → judge has_loss has_hops has_span loss hops span ≡ unmet
   unfolding judge
-  judge-unmet z = rw (eq-eqb hasLoss none z)
+  judge_unmet z = rw (eq-eqb has_loss none z)
 
-  module _ (met : hasLoss ≢ none) where
-    pub judge-smaller : loss < hasLoss → judge hasLoss hasHops hasSpan loss hops span ≡ smaller
+  module _ (met : has_loss ≢ none) where
+    pub judge_smaller : loss < has_loss → judge has_loss has_hops has_span loss hops span ≡ smaller
     unfolding judge
-    judge-smaller h = rw (ne_eqb hasLoss none met, lt-ltb loss hasLoss h)
+    judge_smaller h = rw (ne_eqb has_loss none met, lt-ltb loss has_loss h)
 
-    module _ (h : hasLoss ≤ loss) where
-      pub judge-larger : loss ≢ hasLoss → judge hasLoss hasHops hasSpan loss hops span ≡ worse
+    module _ (h : has_loss ≤ loss) where
+      pub judge_larger : loss ≢ has_loss → judge has_loss has_hops has_span loss hops span ≡ worse
       unfolding judge
-      judge-larger n = rw (ne_eqb hasLoss none met, le-ltb loss hasLoss h, ne_eqb loss hasLoss n)
+      judge_larger n = rw (ne_eqb has_loss none met, le-ltb loss has_loss h, ne_eqb loss has_loss n)
 
-      pub judge-tie : loss ≡ hasLoss → winsTie hasHops hasSpan hops span ≡ true
-          → judge hasLoss hasHops hasSpan loss hops span ≡ tie
+      pub judge_tie : loss ≡ has_loss → wins_tie has_hops has_span hops span ≡ true
+          → judge has_loss has_hops has_span loss hops span ≡ tie
       unfolding judge
-      judge-tie q w = rw (ne_eqb hasLoss none met, le-ltb loss hasLoss h, eq-eqb loss hasLoss q, w)
+      judge_tie q w = rw (ne_eqb has_loss none met, le-ltb loss has_loss h, eq-eqb loss has_loss q, w)
 
-      pub judge-kept : winsTie hasHops hasSpan hops span ≡ false
-          → judge hasLoss hasHops hasSpan loss hops span ≡ worse
+      pub judge_kept : wins_tie has_hops has_span hops span ≡ false
+          → judge has_loss has_hops has_span loss hops span ≡ worse
       unfolding judge
-      judge-kept w = rw (ne_eqb hasLoss none met, le-ltb loss hasLoss h, w, and-false)
+      judge_kept w = rw (ne_eqb has_loss none met, le-ltb loss has_loss h, w, and_false)

@@ -7,51 +7,51 @@ use mathlib.Core.List.{List, [], ◌∷◌}
 use native.Mathlib.Omega.{arith}
 use Rattle.rules.specs.Lists.{sumBy}
 use Rattle.rules.specs.Forests.{none}
-use Rattle.paths.specs.Map.{Map, fromOf}
-use Rattle.paths.specs.Chains.{Chain, chainLoss, hops, AsGood, Least}
+use Rattle.paths.specs.Map.{Map, from_of}
+use Rattle.paths.specs.Chains.{Chain, chain_loss, hops, AsGood, Least}
 use Rattle.paths.specs.Table.{Limit, unlimited, up_to, WithinLimit, Entry, at_start, reached, unreached}
 
 -- ---- limits
 
 -- the start has the chain of no span, which is within any limit
-pub start-within : (limit : Limit) (m : Map) → WithinLimit limit (chainLoss m [])
-unfolding chainLoss sumBy
-start-within unlimited m = tt
-start-within (up_to b) m = omega arith
+pub start_within : (limit : Limit) (m : Map) → WithinLimit limit (chain_loss m [])
+unfolding chain_loss sumBy
+start_within unlimited m = tt
+start_within (up_to b) m = omega arith
 
-pub less-within : (limit : Limit) (k l : ℕ) → k ≤ l → WithinLimit limit l → WithinLimit limit k
-less-within unlimited k l h i = tt
-less-within (up_to b) k l h i = omega arith
+pub less_within : (limit : Limit) (k l : ℕ) → k ≤ l → WithinLimit limit l → WithinLimit limit k
+less_within unlimited k l h i = tt
+less_within (up_to b) k l h i = omega arith
 
 -- ---- least chains
 
 module _ (m : Map) (p : ℕ) (c d : List ℕ) (L : Least m p c) where
   -- two least chains to a place have the same loss and as many spans
-  pub least-same : Least m p d → (chainLoss m c ≡ chainLoss m d) × (hops c ≡ hops d)
+  pub least_same : Least m p d → (chain_loss m c ≡ chain_loss m d) × (hops c ≡ hops d)
   unfolding AsGood
-  least-same K =
+  least_same K =
       let a = L.least d K.leads in
       let b = K.least c L.leads in
-      let e : chainLoss m c ≡ chainLoss m d = omega arith in
+      let e : chain_loss m c ≡ chain_loss m d = omega arith in
       (e, omega (arith, a.1 e, b.1 (sym e)))
 
   -- and a chain with the loss and the number of spans of a least one is least
-  pub least-like : Chain m d p → chainLoss m d ≡ chainLoss m c → hops d ≡ hops c → Least m p d
+  pub least_like : Chain m d p → chain_loss m d ≡ chain_loss m c → hops d ≡ hops c → Least m p d
   unfolding AsGood
-  least-like leads x y =
+  least_like leads x y =
       record {
         leads = leads;
         least = λ b h. let a = L.least b h in (omega arith, λ e. omega (arith, a.1 (sym x ∙ e)));
       }
 
 pub least_start : (m : Map) → Least m m.start []
-unfolding AsGood chainLoss sumBy
+unfolding AsGood chain_loss sumBy
 least_start m = record { leads = refl; least = λ d h. (omega arith, λ _. omega arith) }
 
 -- what leads to the last span of a least chain is least
-pub least-before : (m : Map) (p e : ℕ) (c : List ℕ) → Least m p (e ∷ c) → Least m (fromOf m e) c
-unfolding AsGood chainLoss sumBy
-least-before m p e c L =
+pub least_before : (m : Map) (p e : ℕ) (c : List ℕ) → Least m p (e ∷ c) → Least m (from_of m e) c
+unfolding AsGood chain_loss sumBy
+least_before m p e c L =
     let h = L.leads in
     record {
       leads = h.2;
@@ -65,20 +65,20 @@ least-before m p e c L =
 
 module _ (limit : Limit) (m : Map) (p l e h : ℕ) where
   -- an entry that shows a loss has a chain within the limit
-  pub entry-chain : l ≢ none → Entry limit m p l e h → (c : List ℕ) × Chain m c p × WithinLimit limit (chainLoss m c)
-  entry-chain n (at_start a x y z) = ([], a, start-within limit m)
-  entry-chain n (reached o R i) = (e ∷ R.before, R.least.leads, rw R.loss i)
-  entry-chain n (unreached f x y z) = absurd (n x)
+  pub entry_chain : l ≢ none → Entry limit m p l e h → (c : List ℕ) × Chain m c p × WithinLimit limit (chain_loss m c)
+  entry_chain n (at_start a x y z) = ([], a, start_within limit m)
+  entry_chain n (reached o R i) = (e ∷ R.before, R.least.leads, rw R.loss i)
+  entry_chain n (unreached f x y z) = absurd (n x)
 
   -- where a least chain is within the limit, its loss and its number of spans are shown
-  pub entry-least : (c : List ℕ) → Least m p c → WithinLimit limit (chainLoss m c) → Entry limit m p l e h
-      → (l ≡ chainLoss m c) × (h ≡ hops c)
-  unfolding AsGood chainLoss sumBy
-  entry-least c L i (at_start a x y z) =
+  pub entry_least : (c : List ℕ) → Least m p c → WithinLimit limit (chain_loss m c) → Entry limit m p l e h
+      → (l ≡ chain_loss m c) × (h ≡ hops c)
+  unfolding AsGood chain_loss sumBy
+  entry_least c L i (at_start a x y z) =
       let b = L.least [] a in
-      let n : chainLoss m c ≡ 0 = omega arith in
+      let n : chain_loss m c ≡ 0 = omega arith in
       (omega arith, omega (arith, b.1 n))
-  entry-least c L i (reached o R j) =
-      let s = least-same m p (e ∷ R.before) c R.least L in
+  entry_least c L i (reached o R j) =
+      let s = least_same m p (e ∷ R.before) c R.least L in
       (omega (arith, R.loss), omega (arith, R.count))
-  entry-least c L i (unreached f x y z) = absurd (f c L.leads i)
+  entry_least c L i (unreached f x y z) = absurd (f c L.leads i)

@@ -9,37 +9,37 @@ use Rattle.rules.specs.Forests.{none}
 use Rattle.paths.specs.Table.{is_reached}
 use Rattle.paths.specs.Theorems.{ReachedExactly, ListedExactly}
 use Rattle.paths.proofs.Waiting.{word_in}
-use Rattle.paths.proofs.Least.{entry-chain}
-use Rattle.paths.proofs.Table.{noneUnreached}
+use Rattle.paths.proofs.Least.{entry_chain}
+use Rattle.paths.proofs.Table.{none_unreached}
 
-pub is-reached : (l : ℕ) → l ≢ none → is_reached l ≡ 1
+pub is_reached_lem : (l : ℕ) → l ≢ none → is_reached l ≡ 1
 unfolding is_reached
-is-reached l n = rw (ne_eqb l none n)
+is_reached_lem l n = rw (ne_eqb l none n)
 
-reached-is : (l : ℕ) → 1 ≤ is_reached l → l ≢ none
+reached_is : (l : ℕ) → 1 ≤ is_reached l → l ≢ none
 unfolding is_reached
-reached-is l h e = omega (arith, rw e at h)
+reached_is l h e = omega (arith, rw e at h)
 
-pub reachedExactly : ReachedExactly
-reachedExactly =
+pub reached_exactly : ReachedExactly
+reached_exactly =
     record {
       reached =
           λ limit m A best last joints T p c h i.
-          is-reached (get_or best p none) (λ e. omega (arith, noneUnreached limit m A best last joints T p c h i));
+          is_reached_lem (get_or best p none) (λ e. omega (arith, none_unreached limit m A best last joints T p c h i));
       only =
           λ limit m best last joints T p h.
-          let n = reached-is (get_or best p none) h in
-          entry-chain limit m p _ _ _ n (T.entries p (omega (arith, word_in none best p n, T.bestN)));
+          let n = reached_is (get_or best p none) h in
+          entry_chain limit m p _ _ _ n (T.entries p (omega (arith, word_in none best p n, T.best_n)));
     }
 
 -- a place is listed as often as it counts as reached
-pub listedExactly : ListedExactly
-listedExactly =
+pub listed_exactly : ListedExactly
+listed_exactly =
     record {
       listed =
           λ limit m A best last joints places T L p c h i.
-          L.once p ∙ reachedExactly.reached limit m A best last joints T p c h i;
+          L.once p ∙ reached_exactly.reached limit m A best last joints T p c h i;
       only =
           λ limit m best last joints places T L p h.
-          reachedExactly.only limit m best last joints T p (rw (L.once p) at h);
+          reached_exactly.only limit m best last joints T p (rw (L.once p) at h);
     }

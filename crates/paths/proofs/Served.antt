@@ -13,11 +13,11 @@ use Rattle.rules.specs.Forests.{Forests, empty}
 use Rattle.rules.specs.Answers.{answer, answers, after}
 use Rattle.rules.specs.WellFormed.{WellFormed}
 use Rattle.rules.specs.Theorems.{InRange}
-use Rattle.rules.proofs.EmptyForests.{getD-all, emptyWellFormed}
-use Rattle.rules.proofs.KeepsWellFormed.{keepsWellFormed}
-use Rattle.paths.specs.Map.{Map, fromOf, toOf, lossOf, IsSpan, Accepted}
+use Rattle.rules.proofs.EmptyForests.{get_d_all, empty_well_formed}
+use Rattle.rules.proofs.KeepsWellFormed.{keeps_well_formed}
+use Rattle.paths.specs.Map.{Map, from_of, to_of, loss_of, IsSpan, Accepted}
 use Rattle.paths.specs.Table.{unlimited}
-use Rattle.paths.specs.Queue.{Queue, Stop, takes, next, noneWait}
+use Rattle.paths.specs.Queue.{Queue, Stop, takes, next, none_wait}
 use Rattle.paths.specs.Search.{
   Search,
   Verdict,
@@ -33,21 +33,21 @@ use Rattle.paths.specs.Search.{
   search,
   find,
 }
-use Rattle.paths.specs.Theorems.{forestsAfter, ViewAgrees, TakesMinimum, AllDone, CallsDone, EndsEmpty}
-use Rattle.paths.proofs.Waiting.{next-takes}
-use Rattle.paths.proofs.Offers.{TryingOf, Case, at-unmet, at-smaller, sum_fits}
+use Rattle.paths.specs.Theorems.{forests_after, ViewAgrees, TakesMinimum, AllDone, CallsDone, EndsEmpty}
+use Rattle.paths.proofs.Waiting.{next_takes}
+use Rattle.paths.proofs.Offers.{TryingOf, Case, at_unmet, at_smaller, sum_fits}
 use Rattle.paths.proofs.Steps.{
   Between,
   Kept,
-  steps-between,
-  steps-keep,
-  moments-keep,
-  search-between,
+  steps_between,
+  steps_keep,
+  moments_keep,
+  search_between,
 }
-use Rattle.paths.proofs.Table.{none-waits}
-use Rattle.paths.proofs.Log.{after-snoc, done-snoc}
-use Rattle.paths.proofs.Calls.{Does, insert-does, decrease-does, extract-does}
-use Rattle.paths.proofs.AllFree.{all-free}
+use Rattle.paths.proofs.Table.{none_waits}
+use Rattle.paths.proofs.Log.{after_snoc, done_snoc}
+use Rattle.paths.proofs.Calls.{Does, insert_does, decrease_does, extract_does}
+use Rattle.paths.proofs.AllFree.{all_free}
 
 -- The calls on the empty forests of n items are all done, and leave the queue q.
 pub record Served (n : ℕ) (q : Queue) (calls : List Line) : Type 0 where
@@ -60,30 +60,30 @@ module _ (n : ℕ) (q : Queue) (calls : List Line) (S : Served n q calls) where
   abbrev forests : Forests
   forests = after (empty n) calls
 
-  served-more : (l : Line) (i k : ℕ) (hs ks : List ℕ) → InRange l → Does (answer forests l) i k hs ks
+  served_more : (l : Line) (i k : ℕ) (hs ks : List ℕ) → InRange l → Does (answer forests l) i k hs ks
       → Served n (record { waits = hs; key = ks }) (calls ++ (l ∷ []))
-  served-more l i k hs ks r D =
+  served_more l i k hs ks r D =
       record {
-        formed = rw (after-snoc l (empty n) calls) (keepsWellFormed forests S.formed l r);
-        waits = ap (λ (s : Forests). s.heap) (after-snoc l (empty n) calls) ∙ D.heap_is;
-        keys = ap (λ (s : Forests). s.key) (after-snoc l (empty n) calls) ∙ D.key-is;
-        done = done-snoc l (empty n) calls S.done D.code;
+        formed = rw (after_snoc l (empty n) calls) (keeps_well_formed forests S.formed l r);
+        waits = ap (λ (s : Forests). s.heap) (after_snoc l (empty n) calls) ∙ D.heap_is;
+        keys = ap (λ (s : Forests). s.key) (after_snoc l (empty n) calls) ∙ D.key_is;
+        done = done_snoc l (empty n) calls S.done D.code;
       }
 
-  enter-served : (p k : ℕ) → p < length q.waits → get_or q.waits p 0 ≡ 0
+  enter_served : (p k : ℕ) → p < length q.waits → get_or q.waits p 0 ≡ 0
       → Does (answer forests (Yields (Insert 0 p k))) p k (set q.waits p 1) (set q.key p k)
-  enter-served p k l z = insert-does forests q.waits q.key S.waits S.keys p k l z
+  enter_served p k l z = insert_does forests q.waits q.key S.waits S.keys p k l z
 
-  lower-served : (p k : ℕ) → get_or q.waits p 0 ≢ 0 → k ≤ get_or q.key p 0
+  lower_served : (p k : ℕ) → get_or q.waits p 0 ≢ 0 → k ≤ get_or q.key p 0
       → Does (answer forests (Yields (DecreaseKey p k))) p k q.waits (set q.key p k)
-  lower-served p k w l = decrease-does forests q.waits q.key S.waits S.keys p k w l
+  lower_served p k w l = decrease_does forests q.waits q.key S.waits S.keys p k w l
 
-  leave-served : (stop : Stop) (u : ℕ) → ((p : ℕ) → get_or q.waits p 0 ≤ 1) → next stop q ≡ takes u
+  leave_served : (stop : Stop) (u : ℕ) → ((p : ℕ) → get_or q.waits p 0 ≤ 1) → next stop q ≡ takes u
       → Does (answer forests (Yields (ExtractMin 0))) u (get_or q.key u 0) (set q.waits u 0) (set q.key u 0)
-  leave-served stop u bit e =
-      let X = next-takes stop q u e in
+  leave_served stop u bit e =
+      let X = next_takes stop q u e in
       let w : get_or q.waits u 0 ≢ 0 = X.inside in
-      extract-does forests q.waits q.key S.waits S.keys S.formed u (omega (arith, bit u))
+      extract_does forests q.waits q.key S.waits S.keys S.formed u (omega (arith, bit u))
       (λ y h. X.first y (λ z. omega (arith, h)))
 
 -- ---- every moment
@@ -95,68 +95,68 @@ module _ (stop : Stop) (m : Map) (A : Accepted m) where
   abbrev n : ℕ
   n = m.places
 
-  none_yet : Served n (noneWait n) []
+  none_yet : Served n (none_wait n) []
   unfolding after answers
-  none_yet = record { formed = emptyWellFormed n A.few; waits = refl; keys = refl; done = tt }
+  none_yet = record { formed = empty_well_formed n A.few; waits = refl; keys = refl; done = tt }
 
-  begin-served : ServedOf m (begin m)
+  begin_served : ServedOf m (begin m)
   unfolding begin InRange
-  begin-served =
-      served-more n (noneWait n) [] none_yet (Yields (Insert 0 m.start 0)) m.start 0 _ _ (omega arith)
-      (enter-served n (noneWait n) [] none_yet m.start 0 (rw (length-replicate {A = ℕ} n 0) A.start_in)
-      (getD-all {A = ℕ} n m.start 0))
+  begin_served =
+      served_more n (none_wait n) [] none_yet (Yields (Insert 0 m.start 0)) m.start 0 _ _ (omega arith)
+      (enter_served n (none_wait n) [] none_yet m.start 0 (rw (length-replicate {A = ℕ} n 0) A.start_in)
+      (get_d_all {A = ℕ} n m.start 0))
 
-  pub update-served : (u d hu k r : ℕ) (s : Search) → TryingOf m u d hu k r s → IsSpan m k → fromOf m k ≡ u
-      → (v : Verdict) → Case s (toOf m k) (d + lossOf m k) (suc hu) k v → ServedOf m s
-      → ServedOf m (update v (toOf m k) (d + lossOf m k) (suc hu) k (examine s))
+  pub update_served : (u d hu k r : ℕ) (s : Search) → TryingOf m u d hu k r s → IsSpan m k → from_of m k ≡ u
+      → (v : Verdict) → Case s (to_of m k) (d + loss_of m k) (suc hu) k v → ServedOf m s
+      → ServedOf m (update v (to_of m k) (d + loss_of m k) (suc hu) k (examine s))
   unfolding update InRange
-  update-served u d hu k r s T is fu unmet (at-unmet z o) S =
-      served-more n s.queue s.calls S _ _ _ _ _ (omega (arith, sum_fits m A u d hu k r s T is fu))
-      (enter-served n s.queue s.calls S (toOf m k) (d + lossOf m k)
-      (omega (arith, T.invariant.waitsN, A.toIn k is.0)) o)
-  update-served u d hu k r s T is fu smaller (at-smaller _ o w q) S =
-      served-more n s.queue s.calls S _ _ _ _ _ tt
-      (lower-served n s.queue s.calls S (toOf m k) (d + lossOf m k) (λ z. omega (arith, w)) (omega (arith, q)))
-  update-served u d hu k r s T is fu tie c S = S
-  update-served u d hu k r s T is fu worse c S = S
+  update_served u d hu k r s T is fu unmet (at_unmet z o) S =
+      served_more n s.queue s.calls S _ _ _ _ _ (omega (arith, sum_fits m A u d hu k r s T is fu))
+      (enter_served n s.queue s.calls S (to_of m k) (d + loss_of m k)
+      (omega (arith, T.invariant.waits_n, A.to_in k is.0)) o)
+  update_served u d hu k r s T is fu smaller (at_smaller _ o w q) S =
+      served_more n s.queue s.calls S _ _ _ _ _ tt
+      (lower_served n s.queue s.calls S (to_of m k) (d + loss_of m k) (λ z. omega (arith, w)) (omega (arith, q)))
+  update_served u d hu k r s T is fu tie c S = S
+  update_served u d hu k r s T is fu worse c S = S
 
-  take-does : (k : ℕ) (s : Search) → Between stop m k s → (u : ℕ) → next stop s.queue ≡ takes u → ServedOf m s
-      → Does (answer (forestsAfter m s) (Yields (ExtractMin 0))) u (get_or s.queue.key u 0)
+  take_does : (k : ℕ) (s : Search) → Between stop m k s → (u : ℕ) → next stop s.queue ≡ takes u → ServedOf m s
+      → Does (answer (forests_after m s) (Yields (ExtractMin 0))) u (get_or s.queue.key u 0)
       (set s.queue.waits u 0) (set s.queue.key u 0)
-  take-does k s B u e S = leave-served n s.queue s.calls S stop u B.invariant.bit e
+  take_does k s B u e S = leave_served n s.queue s.calls S stop u B.invariant.bit e
 
   -- kept from the start by each taking and each offer
   pub served : Kept stop m A (ServedOf m)
   unfolding InRange
   served =
       record {
-        begins = begin-served;
+        begins = begin_served;
         taken =
             λ k s B u e S.
-            served-more n s.queue s.calls S (Yields (ExtractMin 0)) _ _ _ _ tt (take-does k s B u e S);
-        offers = record { examined = λ _ _ _ _ _ s _ S. S; offered = update-served };
+            served_more n s.queue s.calls S (Yields (ExtractMin 0)) _ _ _ _ tt (take_does k s B u e S);
+        offers = record { examined = λ _ _ _ _ _ s _ S. S; offered = update_served };
       }
 
-pub viewAgrees : ViewAgrees
-viewAgrees stop m A s M =
-    let S = moments-keep stop m A (ServedOf m) (served stop m A) s M in
+pub view_agrees : ViewAgrees
+view_agrees stop m A s M =
+    let S = moments_keep stop m A (ServedOf m) (served stop m A) s M in
     record { waits = S.waits; keys = S.keys }
 
-pub callsDone : CallsDone
-callsDone stop m A s M = (moments-keep stop m A (ServedOf m) (served stop m A) s M).done
+pub calls_done : CallsDone
+calls_done stop m A s M = (moments_keep stop m A (ServedOf m) (served stop m A) s M).done
 
-pub takesMinimum : TakesMinimum
-takesMinimum stop m A k u e =
+pub takes_minimum : TakesMinimum
+takes_minimum stop m A k u e =
     let s : Search = steps stop m k in
-    let B : Between stop m k s = steps-between stop m A k in
-    let D = take-does stop m A k s B u e (steps-keep stop m A (ServedOf m) (served stop m A) k) in
-    (D.which, D.told ∙ B.invariant.keyed u (next-takes stop s.queue u e).inside)
+    let B : Between stop m k s = steps_between stop m A k in
+    let D = take_does stop m A k s B u e (steps_keep stop m A (ServedOf m) (served stop m A) k) in
+    (D.which, D.told ∙ B.invariant.keyed u (next_takes stop s.queue u e).inside)
 
-pub endsEmpty : EndsEmpty
+pub ends_empty : EndsEmpty
 unfolding search
-endsEmpty m A =
+ends_empty m A =
     let s : Search = find unlimited m in
-    let S = steps-keep never m A (ServedOf m) (served never m A) m.places in
-    let B = search-between never m A in
-    all-free (forestsAfter m s) m.places S.formed.disjoint (ap length S.waits ∙ B.invariant.waitsN)
-    (λ x. ap (λ l. get_or l x 0) S.waits ∙ none-waits m A x)
+    let S = steps_keep never m A (ServedOf m) (served never m A) m.places in
+    let B = search_between never m A in
+    all_free (forests_after m s) m.places S.formed.disjoint (ap length S.waits ∙ B.invariant.waits_n)
+    (λ x. ap (λ l. get_or l x 0) S.waits ∙ none_waits m A x)

@@ -7,21 +7,21 @@ use native.Mathlib.Omega.{arith}
 use lib.ListN.{get_or, set}
 use Rattle.paths.specs.Map.{Map, spans, Accepted}
 use Rattle.paths.specs.Queue.{Stop, NextPlace, halts, takes, next}
-use Rattle.paths.specs.Search.{Search, tried, extracted, visit, step, begin, steps, search, bestAt, jointsAt}
+use Rattle.paths.specs.Search.{Search, tried, extracted, visit, step, begin, steps, search, best_at, joints_at}
 use Rattle.paths.specs.Theorems.{SearchHalts, Moment, between, trying}
-use Rattle.paths.proofs.Waiting.{TakesNext, next-takes}
+use Rattle.paths.proofs.Waiting.{TakesNext, next_takes}
 use Rattle.paths.proofs.Invariant.{unsettled, Invariant}
-use Rattle.paths.proofs.Take.{take, take_last, take-unsettled}
-use Rattle.paths.proofs.Begin.{begin-invariant, all-unsettled}
+use Rattle.paths.proofs.Take.{take, take_last, take_unsettled}
+use Rattle.paths.proofs.Begin.{begin_invariant, all_unsettled}
 use Rattle.paths.proofs.Offers.{TryingOf}
-use Rattle.paths.proofs.Tried.{KeptByOffers, tried-trying, tried-keeps}
+use Rattle.paths.proofs.Tried.{KeptByOffers, tried_trying, tried_keeps}
 
 -- After k steps. While the search goes on, each step has settled a place.
 pub record Between (stop : Stop) (m : Map) (k : ℕ) (s : Search) : Type 0 where
-  pub lastTaken : ℕ
+  pub last_taken : ℕ
   pub reach : ℕ
   pub invariant :
-      Invariant m lastTaken reach (spans m) s.queue.waits s.queue.key s.best s.last s.joints
+      Invariant m last_taken reach (spans m) s.queue.waits s.queue.key s.best s.last s.joints
   pub goes : (u : ℕ) → next stop s.queue ≡ takes u → unsettled s.queue.waits s.best + k ≡ m.places
 
 module _ (stop : Stop) (m : Map) (A : Accepted m) where
@@ -31,52 +31,52 @@ module _ (stop : Stop) (m : Map) (A : Accepted m) where
     rest = unsettled (set s.queue.waits u 0) s.best
 
     taken_next : TakesNext stop s.queue.waits s.queue.key u
-    taken_next = next-takes stop s.queue u e
+    taken_next = next_takes stop s.queue u e
 
     least : (q : ℕ) → get_or s.queue.waits q 0 ≢ 0 → get_or s.queue.key u 0 ≤ get_or s.queue.key q 0
     least q w = (taken_next.first q w).0
 
     -- none of its spans is tried yet
-    pub extracted-trying : TryingOf m u (bestAt s u) (jointsAt s u) 0 rest (extracted u s)
-    extracted-trying =
+    pub extracted_trying : TryingOf m u (best_at s u) (joints_at s u) 0 rest (extracted u s)
+    extracted_trying =
         let I = B.invariant in
         record {
           invariant =
-              take m B.lastTaken B.reach s.queue.waits s.queue.key s.best s.last s.joints I u
+              take m B.last_taken B.reach s.queue.waits s.queue.key s.best s.last s.joints I u
               taken_next.inside least;
-          takenLast =
-              take_last m B.lastTaken B.reach s.queue.waits s.queue.key s.best s.last s.joints I
+          taken_last =
+              take_last m B.last_taken B.reach s.queue.waits s.queue.key s.best s.last s.joints I
               u taken_next.inside least;
           left = refl;
         }
 
-    pub extracted-rest : rest + 1 ≡ unsettled s.queue.waits s.best
-    extracted-rest =
-        take-unsettled m B.lastTaken B.reach s.queue.waits s.queue.key s.best s.last s.joints
+    pub extracted_rest : rest + 1 ≡ unsettled s.queue.waits s.best
+    extracted_rest =
+        take_unsettled m B.last_taken B.reach s.queue.waits s.queue.key s.best s.last s.joints
         B.invariant u taken_next.inside least
 
     visited : Between stop m (suc k) (visit m u s)
     unfolding visit
     visited =
         let t =
-        tried-trying m A u (bestAt s u) (jointsAt s u) rest (extracted u s) extracted-trying (spans m) (le_refl _) in
+        tried_trying m A u (best_at s u) (joints_at s u) rest (extracted u s) extracted_trying (spans m) (le_refl _) in
         record {
-          lastTaken = u;
-          reach = bestAt s u;
+          last_taken = u;
+          reach = best_at s u;
           invariant = t.invariant;
-          goes = λ _ _. omega (arith, t.left, B.goes u e, extracted-rest);
+          goes = λ _ _. omega (arith, t.left, B.goes u e, extracted_rest);
         }
 
-  pub steps-between : (k : ℕ) → Between stop m k (steps stop m k)
+  pub steps_between : (k : ℕ) → Between stop m k (steps stop m k)
   unfolding steps step begin
-  steps-between zero =
+  steps_between zero =
       record {
-        lastTaken = m.start;
+        last_taken = m.start;
         reach = 0;
-        invariant = begin-invariant m A;
-        goes = λ _ _. omega (arith, all-unsettled m A);
+        invariant = begin_invariant m A;
+        goes = λ _ _. omega (arith, all_unsettled m A);
       }
-  steps-between (suc k) = go (next stop (steps stop m k).queue) refl (steps-between k)
+  steps_between (suc k) = go (next stop (steps stop m k).queue) refl (steps_between k)
     where
       s : Search
       s = steps stop m k
@@ -84,7 +84,7 @@ module _ (stop : Stop) (m : Map) (A : Accepted m) where
       go : (x : NextPlace) → next stop s.queue ≡ x → Between stop m k s → Between stop m (suc k) (step m x s)
       go halts e B =
           record {
-            lastTaken = B.lastTaken;
+            last_taken = B.last_taken;
             reach = B.reach;
             invariant = B.invariant;
             goes = λ u z. let y : ◌≡◌ {A = ℕ} 0 1 = cc in absurd (omega arith);
@@ -100,33 +100,33 @@ module _ (stop : Stop) (m : Map) (A : Accepted m) where
 
   module _ (P : Search → Type 0) (K : Kept P) where
     -- while the spans of u are tried
-    pub trying-keeps : (k : ℕ) (u : ℕ) → next stop (steps stop m k).queue ≡ takes u → P (steps stop m k) → (e : ℕ)
+    pub trying_keeps : (k : ℕ) (u : ℕ) → next stop (steps stop m k).queue ≡ takes u → P (steps stop m k) → (e : ℕ)
         → e ≤ spans m
-        → P (tried m u (bestAt (steps stop m k) u) (jointsAt (steps stop m k) u) e (extracted u (steps stop m k)))
-    trying-keeps k u e h =
+        → P (tried m u (best_at (steps stop m k) u) (joints_at (steps stop m k) u) e (extracted u (steps stop m k)))
+    trying_keeps k u e h =
         let s : Search = steps stop m k in
-        let B : Between stop m k s = steps-between k in
-        tried-keeps m A P K.offers u (bestAt s u) (jointsAt s u) (rest k s B u e) (extracted u s)
-        (extracted-trying k s B u e) (K.taken k s B u e h)
+        let B : Between stop m k s = steps_between k in
+        tried_keeps m A P K.offers u (best_at s u) (joints_at s u) (rest k s B u e) (extracted u s)
+        (extracted_trying k s B u e) (K.taken k s B u e h)
 
-    pub steps-keep : (k : ℕ) → P (steps stop m k)
+    pub steps_keep : (k : ℕ) → P (steps stop m k)
     unfolding steps step visit
-    steps-keep zero = K.begins
-    steps-keep (suc k) = go (next stop (steps stop m k).queue) refl (steps-keep k)
+    steps_keep zero = K.begins
+    steps_keep (suc k) = go (next stop (steps stop m k).queue) refl (steps_keep k)
       where
         go : (x : NextPlace) → next stop (steps stop m k).queue ≡ x → P (steps stop m k)
             → P (step m x (steps stop m k))
         go halts e h = h
-        go (takes u) e h = trying-keeps k u e h (spans m) (le_refl _)
+        go (takes u) e h = trying_keeps k u e h (spans m) (le_refl _)
 
     -- so P holds at every moment
-    pub moments-keep : (s : Search) → Moment stop m s → P s
-    moments-keep s (between k) = steps-keep k
-    moments-keep s (trying k u e n l) = trying-keeps k u n (steps-keep k) e l
+    pub moments_keep : (s : Search) → Moment stop m s → P s
+    moments_keep s (between k) = steps_keep k
+    moments_keep s (trying k u e n l) = trying_keeps k u n (steps_keep k) e l
 
-  pub search-halts : next stop (search stop m).queue ≡ halts
+  pub search_halts_lem : next stop (search stop m).queue ≡ halts
   unfolding search unsettled
-  search-halts = go (next stop (steps stop m m.places).queue) refl (steps-between m.places)
+  search_halts_lem = go (next stop (steps stop m m.places).queue) refl (steps_between m.places)
     where
       s : Search
       s = steps stop m m.places
@@ -134,28 +134,28 @@ module _ (stop : Stop) (m : Map) (A : Accepted m) where
       go : (x : NextPlace) → next stop s.queue ≡ x → Between stop m m.places s → next stop s.queue ≡ halts
       go halts e B = e
       go (takes u) e B =
-          let X = next-takes stop s.queue u e in
-          absurd (omega (arith, B.goes u e, extracted-rest m.places s B u e))
+          let X = next_takes stop s.queue u e in
+          absurd (omega (arith, B.goes u e, extracted_rest m.places s B u e))
 
-  pub search-between : Between stop m m.places (search stop m)
+  pub search_between : Between stop m m.places (search stop m)
   unfolding search
-  search-between = steps-between m.places
+  search_between = steps_between m.places
 
-pub searchHalts : SearchHalts
-searchHalts stop m A = search-halts stop m A
+pub search_halts : SearchHalts
+search_halts stop m A = search_halts_lem stop m A
 
 -- nothing is left to take: more steps change nothing
-steps-stop : (stop : Stop) (m : Map) (k n j : ℕ) → j ≡ k + n → next stop (steps stop m k).queue ≡ halts
+steps_stop : (stop : Stop) (m : Map) (k n j : ℕ) → j ≡ k + n → next stop (steps stop m k).queue ≡ halts
     → steps stop m j ≡ steps stop m k
 unfolding steps step
-steps-stop stop m k zero j q e = let z : j ≡ k = omega arith in ap (steps stop m) z
-steps-stop stop m k (suc n) zero q e = absurd (omega arith)
-steps-stop stop m k (suc n) (suc j) q e =
-    ap (λ s. step m (next stop s.queue) s) (steps-stop stop m k n j (omega arith) e)
+steps_stop stop m k zero j q e = let z : j ≡ k = omega arith in ap (steps stop m) z
+steps_stop stop m k (suc n) zero q e = absurd (omega arith)
+steps_stop stop m k (suc n) (suc j) q e =
+    ap (λ s. step m (next stop s.queue) s) (steps_stop stop m k n j (omega arith) e)
     ∙ ap (λ x. step m x (steps stop m k)) e
 
 -- nothing is left to take after k steps: they are the whole search
 pub search_is : (stop : Stop) (m : Map) (k : ℕ) → k ≤ m.places → next stop (steps stop m k).queue ≡ halts
     → search stop m ≡ steps stop m k
 unfolding search
-search_is stop m k h e = steps-stop stop m k (m.places - k) m.places (omega arith) e
+search_is stop m k h e = steps_stop stop m k (m.places - k) m.places (omega arith) e

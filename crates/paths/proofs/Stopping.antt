@@ -12,9 +12,9 @@ abbrev pub stopped : Stop → List ℕ → NextPlace → NextPlace
 stopped stop key halts = halts
 stopped stop key (takes u) = cond (stop (get_or key u 0)) halts (takes u)
 
-pub next-stopped : (stop : Stop) (q : Queue) → next stop q ≡ stopped stop q.key (next never q)
+pub next_stopped : (stop : Stop) (q : Queue) → next stop q ≡ stopped stop q.key (next never q)
 unfolding next next_of
-next-stopped stop q = go (waiting 0 q.waits)
+next_stopped stop q = go (waiting 0 q.waits)
   where
     go : (ws : List ℕ) → next_of stop q.key ws ≡ stopped stop q.key (next_of never q.key ws)
     go [] = refl

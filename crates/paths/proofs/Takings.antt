@@ -7,35 +7,35 @@ use native.Mathlib.Omega.{arith}
 use lib.ListN.{length, length-append}
 use Rattle.paths.specs.Map.{Map}
 use Rattle.paths.specs.Queue.{Stop, NextPlace, halts, takes, next}
-use Rattle.paths.specs.Search.{step, steps, takenBy, takings}
+use Rattle.paths.specs.Search.{step, steps, taken_by, takings}
 
 module _ (stop : Stop) (m : Map) where
   -- each step takes one place at most
-  pub takings-few : (k : ℕ) → length (takings stop m k) ≤ k
+  pub takings_few : (k : ℕ) → length (takings stop m k) ≤ k
   unfolding takings
-  takings-few zero = le_refl _
-  takings-few (suc k) = go (next stop (steps stop m k).queue) (takings-few k)
+  takings_few zero = le_refl _
+  takings_few (suc k) = go (next stop (steps stop m k).queue) (takings_few k)
     where
-      go : (x : NextPlace) → length (takings stop m k) ≤ k → length (takings stop m k ++ takenBy x) ≤ suc k
+      go : (x : NextPlace) → length (takings stop m k) ≤ k → length (takings stop m k ++ taken_by x) ≤ suc k
       go halts h = rw (length-append (takings stop m k) []) (omega (arith, h))
       go (takes u) h = rw (length-append (takings stop m k) (u ∷ [])) (omega (arith, h))
 
   -- a step that takes a place lists it last
-  pub takings-more : (k u : ℕ) → next stop (steps stop m k).queue ≡ takes u
+  pub takings_more : (k u : ℕ) → next stop (steps stop m k).queue ≡ takes u
       → takings stop m (suc k) ≡ takings stop m k ++ (u ∷ [])
   unfolding takings
-  takings-more k u e = ap (λ x. takings stop m k ++ takenBy x) e
+  takings_more k u e = ap (λ x. takings stop m k ++ taken_by x) e
 
   -- nothing is left to take after k steps: n more take none
-  takings-stop : (n k : ℕ) → m.places ≡ k + n → next stop (steps stop m k).queue ≡ halts
+  takings_stop : (n k : ℕ) → m.places ≡ k + n → next stop (steps stop m k).queue ≡ halts
       → takings stop m m.places ≡ takings stop m k
   unfolding takings steps step
-  takings-stop zero k q e = let z : m.places ≡ k = omega arith in ap (takings stop m) z
-  takings-stop (suc n) k q e =
-      takings-stop n (suc k) (omega arith) (rw e e) ∙ ap (λ x. takings stop m k ++ takenBy x) e
+  takings_stop zero k q e = let z : m.places ≡ k = omega arith in ap (takings stop m) z
+  takings_stop (suc n) k q e =
+      takings_stop n (suc k) (omega arith) (rw e e) ∙ ap (λ x. takings stop m k ++ taken_by x) e
       ∙ append-nil (takings stop m k)
 
   -- so these places are all that the search takes
-  pub takings-all : (k : ℕ) → k ≤ m.places → next stop (steps stop m k).queue ≡ halts
+  pub takings_all : (k : ℕ) → k ≤ m.places → next stop (steps stop m k).queue ≡ halts
       → takings stop m m.places ≡ takings stop m k
-  takings-all k h e = takings-stop (m.places - k) k (omega arith) e
+  takings_all k h e = takings_stop (m.places - k) k (omega arith) e

@@ -7,45 +7,45 @@ use native.Mathlib.Omega.{arith}
 use lib.ListN.{get_or}
 use Rattle.rules.specs.Lists.{sumBy}
 use Rattle.rules.specs.Forests.{none}
-use Rattle.paths.specs.Map.{Map, fromOf, Accepted}
-use Rattle.paths.specs.Chains.{Chain, chainLoss, hops}
+use Rattle.paths.specs.Map.{Map, from_of, Accepted}
+use Rattle.paths.specs.Chains.{Chain, chain_loss, hops}
 use Rattle.paths.specs.Table.{Limit, WithinLimit, Reached, Entry, at_start, reached, unreached, Table}
-use Rattle.paths.specs.Theorems.{spansBack, placeBack, LeadsBack, TableTree}
-use Rattle.paths.proofs.Least.{less-within, least-like, least_start, least-before, entry-chain, entry-least}
+use Rattle.paths.specs.Theorems.{spans_back, place_back, LeadsBack, TableTree}
+use Rattle.paths.proofs.Least.{less_within, least_like, least_start, least_before, entry_chain, entry_least}
 
 module _ (m : Map) (last : List ℕ) where
-  length_back : (k p : ℕ) → hops (spansBack m last k p) ≡ k
-  unfolding spansBack
+  length_back : (k p : ℕ) → hops (spans_back m last k p) ≡ k
+  unfolding spans_back
   length_back zero p = refl
   length_back (suc k) p = ap suc (length_back k _)
 
   -- the start is reached from itself in no step
-  at-start : (p : ℕ) → p ≡ m.start → LeadsBack m last p 0 0
-  unfolding spansBack placeBack chainLoss sumBy
-  at-start p a =
-      record { ends = a; notBefore = λ k h. absurd (omega arith); least = rw a (least_start m); loss = refl }
+  at_start_lem : (p : ℕ) → p ≡ m.start → LeadsBack m last p 0 0
+  unfolding spans_back place_back chain_loss sumBy
+  at_start_lem p a =
+      record { ends = a; not_before = λ k h. absurd (omega arith); least = rw a (least_start m); loss = refl }
 
   -- A place that is reached by span e leads back in one step more than the place that e comes from: what is followed
   -- from there is as good as the least chain before e.
   module _ (p l h : ℕ) (away : p ≢ m.start) (R : Reached m p l (get_or last p none) (suc h)) where
-    not-before : ((k : ℕ) → k < h → placeBack m last k (fromOf m (get_or last p none)) ≢ m.start)
-        → (k : ℕ) → k < suc h → placeBack m last k p ≢ m.start
-    unfolding placeBack
-    not-before n zero i = away
-    not-before n (suc k) i = n k (omega arith)
+    not_before_lem : ((k : ℕ) → k < h → place_back m last k (from_of m (get_or last p none)) ≢ m.start)
+        → (k : ℕ) → k < suc h → place_back m last k p ≢ m.start
+    unfolding place_back
+    not_before_lem n zero i = away
+    not_before_lem n (suc k) i = n k (omega arith)
 
-    one_more : LeadsBack m last (fromOf m (get_or last p none)) (chainLoss m R.before) h → LeadsBack m last p l (suc h)
-    unfolding spansBack placeBack chainLoss sumBy
+    one_more : LeadsBack m last (from_of m (get_or last p none)) (chain_loss m R.before) h → LeadsBack m last p l (suc h)
+    unfolding spans_back place_back chain_loss sumBy
     one_more B =
         let e : ℕ = get_or last p none in
-        let c : List ℕ = spansBack m last h (fromOf m e) in
+        let c : List ℕ = spans_back m last h (from_of m e) in
         let L = R.least.leads in
         record {
           ends = B.ends;
-          notBefore = not-before B.notBefore;
+          not_before = not_before_lem B.not_before;
           least =
-              least-like m p (e ∷ R.before) (e ∷ c) R.least (L.0, L.1, B.least.leads) (omega (arith, B.loss))
-              (omega (arith, length_back h (fromOf m e), R.count));
+              least_like m p (e ∷ R.before) (e ∷ c) R.least (L.0, L.1, B.least.leads) (omega (arith, B.loss))
+              (omega (arith, length_back h (from_of m e), R.count));
           loss = omega (arith, B.loss, R.loss);
         }
 
@@ -57,20 +57,20 @@ module _
   -- what is proved by induction on h: of the places that show h spans, those that have a chain within the limit
   abbrev Back : ℕ → Type 0
   Back h =
-      (p : ℕ) → p < m.places → get_or joints p none ≡ h → (c : List ℕ) → Chain m c p → WithinLimit limit (chainLoss m c)
+      (p : ℕ) → p < m.places → get_or joints p none ≡ h → (c : List ℕ) → Chain m c p → WithinLimit limit (chain_loss m c)
       → LeadsBack m last p (get_or best p none) h
 
   -- the place that the span shown comes from shows the loss and the number of spans of the least chain before it
   via : (h p : ℕ) → p ≢ m.start → Reached m p (get_or best p none) (get_or last p none) (suc h)
       → WithinLimit limit (get_or best p none) → Back h → LeadsBack m last p (get_or best p none) (suc h)
-  unfolding chainLoss sumBy
+  unfolding chain_loss sumBy
   via h p away R j ih =
       let e : ℕ = get_or last p none in
-      let q : ℕ = fromOf m e in
-      let k : q < m.places = A.fromIn e R.least.leads.0.0 in
-      let L = least-before m p e R.before R.least in
-      let i = less-within limit (chainLoss m R.before) (get_or best p none) (omega (arith, R.loss)) j in
-      let s = entry-least limit m q _ _ _ R.before L i (T.entries q k) in
+      let q : ℕ = from_of m e in
+      let k : q < m.places = A.from_in e R.least.leads.0.0 in
+      let L = least_before m p e R.before R.least in
+      let i = less_within limit (chain_loss m R.before) (get_or best p none) (omega (arith, R.loss)) j in
+      let s = entry_least limit m q _ _ _ R.before L i (T.entries q k) in
       one_more m last p _ h away R
       (rw s.0 at (ih q k (omega (arith, s.1, R.count)) R.before L.leads i))
 
@@ -78,7 +78,7 @@ module _
   back zero p k z c leads i = go (T.entries p k)
     where
       go : EntryAt p → LeadsBack m last p (get_or best p none) 0
-      go (at_start a x y w) = rw x (at-start m last p a)
+      go (at_start a x y w) = rw x (at_start_lem m last p a)
       go (reached o R j) = absurd (omega (arith, R.count))
       go (unreached f x y w) = absurd (f c leads i)
   back (suc h) p k z c leads i = go (back h) (T.entries p k)
@@ -88,7 +88,7 @@ module _
       go ih (reached o R j) = via h p o (rw z at R) j ih
       go ih (unreached f x y w) = absurd (f c leads i)
 
-pub tableTree : TableTree
-tableTree limit m A best last joints T p k n =
-    let c = entry-chain limit m p _ _ _ n (T.entries p k) in
+pub table_tree : TableTree
+table_tree limit m A best last joints T p k n =
+    let c = entry_chain limit m p _ _ _ n (T.entries p k) in
     back limit m A best last joints T (get_or joints p none) p k refl c.0 c.1 c.2

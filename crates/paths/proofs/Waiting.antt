@@ -10,47 +10,47 @@ use lib.ListN.{length, get_or, get_or-eq_default}
 use lib.Dec.{eqb, ltb}
 use borrow.Author.Tests.{eqb-true, eqb-false, ne_eqb, ltb-true, ltb-false}
 use Rattle.rules.specs.Lists.{sumBy, delta, occurs}
-use Rattle.rules.specs.Order.{precedes, leastOf}
-use Rattle.rules.proofs.Minimum.{leastOf-in}
-use Rattle.rules.proofs.Occurs.{byItem, delta-self, delta-other}
-use Rattle.rules.proofs.Order.{is-precedes, not-precedes}
+use Rattle.rules.specs.Order.{precedes, least_of}
+use Rattle.rules.proofs.Minimum.{least_of_in}
+use Rattle.rules.proofs.Occurs.{by_item, delta_self, delta_other}
+use Rattle.rules.proofs.Order.{is_precedes, not_precedes}
 use Rattle.paths.specs.Queue.{Queue, Stop, NextPlace, halts, takes, waiting, next_of, next}
 use Rattle.paths.specs.Search.{never}
 
 -- ---- the list of those that wait
 
-waiting-low : (ws : List ℕ) (i x : ℕ) → x < i → occurs x (waiting i ws) ≡ 0
+waiting_low : (ws : List ℕ) (i x : ℕ) → x < i → occurs x (waiting i ws) ≡ 0
 unfolding waiting occurs sumBy
-waiting-low [] i x k = refl
-waiting-low (w ∷ ws) i x k = go (eqb w 0) (waiting-low ws (suc i) x (omega arith))
+waiting_low [] i x k = refl
+waiting_low (w ∷ ws) i x k = go (eqb w 0) (waiting_low ws (suc i) x (omega arith))
   where
     go : (t : Bool) → occurs x (waiting (suc i) ws) ≡ 0
         → occurs x (cond t (waiting (suc i) ws) (i ∷ waiting (suc i) ws)) ≡ 0
     go true z = z
-    go false z = omega (arith, z, delta-other x i (λ w. omega arith))
+    go false z = omega (arith, z, delta_other x i (λ w. omega arith))
 
 -- each that waits stands there once
 waiting-at : (ws : List ℕ) (i j x : ℕ) → x ≡ i + j → occurs x (waiting i ws) ≡ cond (eqb (get_or ws j 0) 0) 0 1
 unfolding waiting occurs sumBy
 waiting-at [] i j x e = refl
-waiting-at (w ∷ ws) i zero x e = go (eqb w 0) (waiting-low ws (suc i) x (omega arith))
+waiting-at (w ∷ ws) i zero x e = go (eqb w 0) (waiting_low ws (suc i) x (omega arith))
   where
     go : (t : Bool) → occurs x (waiting (suc i) ws) ≡ 0
         → occurs x (cond t (waiting (suc i) ws) (i ∷ waiting (suc i) ws)) ≡ cond t 0 1
     go true z = z
-    go false z = let q : i ≡ x = omega arith in omega (arith, z, ap (delta x) q, delta-self x)
+    go false z = let q : i ≡ x = omega arith in omega (arith, z, ap (delta x) q, delta_self x)
 waiting-at (w ∷ ws) i (suc j) x e = go (eqb w 0) (waiting-at ws (suc i) j x (omega arith))
   where
     go : (t : Bool) → occurs x (waiting (suc i) ws) ≡ cond (eqb (get_or ws j 0) 0) 0 1
         → occurs x (cond t (waiting (suc i) ws) (i ∷ waiting (suc i) ws)) ≡ cond (eqb (get_or ws j 0) 0) 0 1
     go true z = z
-    go false z = omega (arith, z, delta-other x i (λ w. omega arith))
+    go false z = omega (arith, z, delta_other x i (λ w. omega arith))
 
 waits_in : (waits : List ℕ) (x : ℕ) → get_or waits x 0 ≢ 0 → 1 ≤ occurs x (waiting 0 waits)
 waits_in waits x n = rw (waiting-at waits 0 x x (omega arith), ne_eqb (get_or waits x 0) 0 n) (le_refl _)
 
-in-waits : (waits : List ℕ) (x : ℕ) → 1 ≤ occurs x (waiting 0 waits) → get_or waits x 0 ≢ 0
-in-waits waits x k e = omega (arith, k, rw e at (waiting-at waits 0 x x (omega arith)))
+in_waits : (waits : List ℕ) (x : ℕ) → 1 ≤ occurs x (waiting 0 waits) → get_or waits x 0 ≢ 0
+in_waits waits x k e = omega (arith, k, rw e at (waiting-at waits 0 x x (omega arith)))
 
 -- a word that is not the one read beyond the end is in the list
 pub word_in : (d : ℕ) (l : List ℕ) (x : ℕ) → get_or l x d ≢ d → x < length l
@@ -60,8 +60,8 @@ word_in d l x n = go (ltb x (length l)) refl
     go true e = ltb-true x (length l) e
     go false e = absurd (n (get_or-eq_default l d (ltb-false x (length l) e)))
 
-pub waits-below : (waits : List ℕ) (x : ℕ) → get_or waits x 0 ≢ 0 → x < length waits
-waits-below = word_in 0
+pub waits_below : (waits : List ℕ) (x : ℕ) → get_or waits x 0 ≢ 0 → x < length waits
+waits_below = word_in 0
 
 -- ---- the least of a list
 
@@ -72,25 +72,25 @@ NotAfter key a b = (get_or key a 0 ≤ get_or key b 0) × (get_or key a 0 ≡ ge
 not_after : (key : List ℕ) (a b c : ℕ) → NotAfter key a b → NotAfter key b c → NotAfter key a c
 not_after key a b c f g = (omega arith, λ q. omega (arith, f.1 (omega arith), g.1 (omega arith)))
 
-leastOf-least : (key : List ℕ) (x : ℕ) (ys : List ℕ) (z : ℕ) → 1 ≤ occurs z (x ∷ ys) → NotAfter key (leastOf key x ys) z
-unfolding leastOf occurs sumBy
-leastOf-least key x [] =
-    byItem x (λ _. (le_refl _, λ _. le_refl _)) (λ z n k. absurd (omega (arith, delta-other z x (λ e. n (sym e)))))
-leastOf-least key x (y ∷ ys) = go (precedes key y x) refl (leastOf-least key (cond (precedes key y x) y x) ys)
+least_of_least : (key : List ℕ) (x : ℕ) (ys : List ℕ) (z : ℕ) → 1 ≤ occurs z (x ∷ ys) → NotAfter key (least_of key x ys) z
+unfolding least_of occurs sumBy
+least_of_least key x [] =
+    by_item x (λ _. (le_refl _, λ _. le_refl _)) (λ z n k. absurd (omega (arith, delta_other z x (λ e. n (sym e)))))
+least_of_least key x (y ∷ ys) = go (precedes key y x) refl (least_of_least key (cond (precedes key y x) y x) ys)
   where
     go : (t : Bool) → precedes key y x ≡ t
-        → ((z : ℕ) → 1 ≤ delta z (cond t y x) + occurs z ys → NotAfter key (leastOf key (cond t y x) ys) z)
-        → (z : ℕ) → 1 ≤ delta z x + (delta z y + occurs z ys) → NotAfter key (leastOf key (cond t y x) ys) z
+        → ((z : ℕ) → 1 ≤ delta z (cond t y x) + occurs z ys → NotAfter key (least_of key (cond t y x) ys) z)
+        → (z : ℕ) → 1 ≤ delta z x + (delta z y + occurs z ys) → NotAfter key (least_of key (cond t y x) ys) z
     go true e f =
-        let g = is-precedes key y x e in
+        let g = is_precedes key y x e in
         let h : NotAfter key y x = (g.0, λ q. omega (arith, g.1 q)) in
-        byItem x (λ _. not_after key _ y x (f y (omega (arith, delta-self y))) h)
-        (λ z n k. f z (omega (arith, delta-other z x (λ e. n (sym e)))))
+        by_item x (λ _. not_after key _ y x (f y (omega (arith, delta_self y))) h)
+        (λ z n k. f z (omega (arith, delta_other z x (λ e. n (sym e)))))
     go false e f =
-        let g = not-precedes key y x e in
+        let g = not_precedes key y x e in
         let h : NotAfter key x y = (g.0, λ q. g.1 (sym q)) in
-        byItem y (λ _. not_after key _ x y (f x (omega (arith, delta-self x))) h)
-        (λ z n k. f z (omega (arith, delta-other z y (λ e. n (sym e)))))
+        by_item y (λ _. not_after key _ x y (f x (omega (arith, delta_self x))) h)
+        (λ z n k. f z (omega (arith, delta_other z y (λ e. n (sym e)))))
 
 -- ---- what comes next
 
@@ -101,17 +101,17 @@ pub record TakesNext (stop : Stop) (waits key : List ℕ) (u : ℕ) : Type 0 whe
   pub goes : stop (get_or key u 0) ≡ false
 
 -- the place that comes next waits, and none that waits comes before it
-pub next-takes : (stop : Stop) (q : Queue) (u : ℕ) → next stop q ≡ takes u → TakesNext stop q.waits q.key u
+pub next_takes : (stop : Stop) (q : Queue) (u : ℕ) → next stop q ≡ takes u → TakesNext stop q.waits q.key u
 unfolding next next_of
-next-takes stop q u = go (waiting 0 q.waits) refl
+next_takes stop q u = go (waiting 0 q.waits) refl
   where
     go : (ws : List ℕ) → waiting 0 q.waits ≡ ws → next_of stop q.key ws ≡ takes u
         → TakesNext stop q.waits q.key u
     go [] e n = let y : ◌≡◌ {A = ℕ} 0 1 = cc in absurd (omega arith)
-    go (x ∷ xs) e n = step (stop (get_or q.key (leastOf q.key x xs) 0)) refl n
+    go (x ∷ xs) e n = step (stop (get_or q.key (least_of q.key x xs) 0)) refl n
       where
         v : ℕ
-        v = leastOf q.key x xs
+        v = least_of q.key x xs
 
         step : (t : Bool) → stop (get_or q.key v 0) ≡ t → cond t halts (takes v) ≡ takes u
             → TakesNext stop q.waits q.key u
@@ -120,38 +120,38 @@ next-takes stop q u = go (waiting 0 q.waits) refl
             let i : v ≡ u = cc in
             rw (sym i)
             (record {
-              inside = in-waits q.waits v (rw e (leastOf-in q.key x xs));
-              first = λ z w. leastOf-least q.key x xs z (rw e at (waits_in q.waits z w));
+              inside = in_waits q.waits v (rw e (least_of_in q.key x xs));
+              first = λ z w. least_of_least q.key x xs z (rw e at (waits_in q.waits z w));
               goes = s;
             })
 
 -- The finder halts: if any place waits, then so does one, with no larger key, at which the rule stops.
-pub next-halts : (stop : Stop) (q : Queue) → next stop q ≡ halts → (z : ℕ) → get_or q.waits z 0 ≢ 0
+pub next_halts : (stop : Stop) (q : Queue) → next stop q ≡ halts → (z : ℕ) → get_or q.waits z 0 ≢ 0
     → (u : ℕ) × (stop (get_or q.key u 0) ≡ true) × (get_or q.key u 0 ≤ get_or q.key z 0)
 unfolding next next_of occurs sumBy
-next-halts stop q n z w = go (waiting 0 q.waits) refl n
+next_halts stop q n z w = go (waiting 0 q.waits) refl n
   where
     go : (ws : List ℕ) → waiting 0 q.waits ≡ ws → next_of stop q.key ws ≡ halts
         → (u : ℕ) × (stop (get_or q.key u 0) ≡ true) × (get_or q.key u 0 ≤ get_or q.key z 0)
     go [] e n = absurd (omega (arith, rw e at (waits_in q.waits z w)))
-    go (x ∷ xs) e n = step (stop (get_or q.key (leastOf q.key x xs) 0)) refl n
+    go (x ∷ xs) e n = step (stop (get_or q.key (least_of q.key x xs) 0)) refl n
       where
         v : ℕ
-        v = leastOf q.key x xs
+        v = least_of q.key x xs
 
         step : (t : Bool) → stop (get_or q.key v 0) ≡ t → cond t halts (takes v) ≡ halts
             → (u : ℕ) × (stop (get_or q.key u 0) ≡ true) × (get_or q.key u 0 ≤ get_or q.key z 0)
-        step true s n = (v, s, (leastOf-least q.key x xs z (rw e at (waits_in q.waits z w))).0)
+        step true s n = (v, s, (least_of_least q.key x xs z (rw e at (waits_in q.waits z w))).0)
         step false s n = let y : ◌≡◌ {A = ℕ} 0 1 = cc in absurd (omega arith)
 
 -- a full search halts only where no place waits
-pub halts-empty : (q : Queue) → next never q ≡ halts → (z : ℕ) → get_or q.waits z 0 ≡ 0
-halts-empty q n z = go (eqb (get_or q.waits z 0) 0) refl
+pub halts_empty : (q : Queue) → next never q ≡ halts → (z : ℕ) → get_or q.waits z 0 ≡ 0
+halts_empty q n z = go (eqb (get_or q.waits z 0) 0) refl
   where
     go : (t : Bool) → eqb (get_or q.waits z 0) 0 ≡ t → get_or q.waits z 0 ≡ 0
     go true e = eqb-true (get_or q.waits z 0) 0 e
     go false e =
-        let h = next-halts never q n z (eqb-false (get_or q.waits z 0) 0 e) in
+        let h = next_halts never q n z (eqb-false (get_or q.waits z 0) 0 e) in
         absurd (true≢false (sym h.1))
 
 -- ---- how many wait
@@ -161,11 +161,11 @@ unfolding sumBy
 sum-none [] f = refl
 sum-none (x ∷ l) f = omega (arith, f 0, sum-none l (λ i. f (suc i)))
 
-le-sum : (l : List ℕ) (i : ℕ) → get_or l i 0 ≤ sumBy (λ h. h) l
+le_sum : (l : List ℕ) (i : ℕ) → get_or l i 0 ≤ sumBy (λ h. h) l
 unfolding sumBy
-le-sum [] i = omega arith
-le-sum (x ∷ l) zero = omega arith
-le-sum (x ∷ l) (suc i) = omega (arith, le-sum l i)
+le_sum [] i = omega arith
+le_sum (x ∷ l) zero = omega arith
+le_sum (x ∷ l) (suc i) = omega (arith, le_sum l i)
 
 module _ (q : Queue) where
   -- a place waits, so one comes next; none waits, so a full search halts
@@ -174,7 +174,7 @@ module _ (q : Queue) where
     where
       go : (x : NextPlace) → next never q ≡ x → (u : ℕ) × (next never q ≡ takes u)
       go (takes u) e = (u, e)
-      go halts e = absurd (n (sum-none q.waits (halts-empty q e)))
+      go halts e = absurd (n (sum-none q.waits (halts_empty q e)))
 
   pub none-next : sumBy (λ h. h) q.waits ≡ 0 → next never q ≡ halts
   none-next n = go (next never q) refl
@@ -182,5 +182,5 @@ module _ (q : Queue) where
       go : (x : NextPlace) → next never q ≡ x → next never q ≡ halts
       go halts e = e
       go (takes u) e =
-          let w : get_or q.waits u 0 ≢ 0 = (next-takes never q u e).inside in
-          absurd (omega (arith, le-sum q.waits u))
+          let w : get_or q.waits u 0 ≢ 0 = (next_takes never q u e).inside in
+          absurd (omega (arith, le_sum q.waits u))

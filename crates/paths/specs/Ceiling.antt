@@ -6,8 +6,8 @@ use Rattle.rules.specs.Fibonacci.{R}
 use Rattle.paths.specs.Table.{is_reached}
 
 -- the number of places for which a table with the losses `best` shows a loss; the start is one of them
-unfoldable pub reachedPlaces : List ℕ → ℕ
-reachedPlaces best = sumBy is_reached best
+unfoldable pub reached_places : List ℕ → ℕ
+reached_places best = sumBy is_reached best
 
 -- By p places reached and e spans examined. Each of the places is inserted, for 1, and taken, for R(p). All but the
 -- start are met by a span of their own, which leaves e + 1 - p spans that may lower, for 4 (e - p + 1 in the paper).
@@ -16,8 +16,8 @@ unfoldable pub ceiling : ℕ → ℕ → ℕ
 ceiling p e = p + 4 * (e + 1 - p) + p * R p
 
 -- By what is printed on the map, its places and its spans.
-unfoldable pub mapCeiling : ℕ → ℕ → ℕ
-mapCeiling places spans = 4 * spans + 1 + places * R places
+unfoldable pub map_ceiling : ℕ → ℕ → ℕ
+map_ceiling places spans = 4 * spans + 1 + places * R places
 
 -- So many moves, links and cuts together, are within the ceilings of a map of which p places were reached and e spans
 -- examined. There are never more places than the spans and the start, so that nothing is lost in e + 1 - p.
@@ -25,7 +25,7 @@ pub record WithinCeilings (places spans p e moves : ℕ) : Type 0 where
   pub some : 1 ≤ p
   pub few : p ≤ e + 1
   pub by_counts : moves ≤ ceiling p e
-  pub byMap : moves ≤ mapCeiling places spans
+  pub by_map : moves ≤ map_ceiling places spans
   -- The first ceiling, with all places and all spans, is one for the map too, and lower, if there are five places and
   -- spans enough to reach them all.
-  pub byWholeMap : 5 ≤ places → places ≤ spans + 1 → moves ≤ ceiling places spans
+  pub by_whole_map : 5 ≤ places → places ≤ spans + 1 → moves ≤ ceiling places spans

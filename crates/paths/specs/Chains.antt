@@ -1,16 +1,16 @@
 -- Chains of spans from the start, and which of them are least (paths, and shortest paths).
 use Rattle.std.specs.Prelude.{ℕ, ◌≤◌, ◌≡◌, List, [], ◌∷◌, length}
 use Rattle.rules.specs.Lists.{sumBy}
-use Rattle.paths.specs.Map.{Map, IsSpan, fromOf, toOf, lossOf}
+use Rattle.paths.specs.Map.{Map, IsSpan, from_of, to_of, loss_of}
 
 -- The spans c, the last one first, lead from the start to p.
 abbrev pub Chain : Map → List ℕ → ℕ → Type 0
 Chain m [] p = p ≡ m.start
-Chain m (e ∷ c) p = IsSpan m e × (toOf m e ≡ p) × Chain m c (fromOf m e)
+Chain m (e ∷ c) p = IsSpan m e × (to_of m e ≡ p) × Chain m c (from_of m e)
 
 -- a chain's loss: the path's weight
-unfoldable pub chainLoss : Map → List ℕ → ℕ
-chainLoss m c = sumBy (lossOf m) c
+unfoldable pub chain_loss : Map → List ℕ → ℕ
+chain_loss m c = sumBy (loss_of m) c
 
 -- a chain's number of spans: the path's edges, or hops; the paper's joints
 abbrev pub hops : List ℕ → ℕ
@@ -19,7 +19,7 @@ hops c = length c
 -- The order of chains: c is as good as d, by loss, then by number of spans. Nothing else says what makes one chain
 -- better than another.
 unfoldable pub AsGood : Map → List ℕ → List ℕ → Type 0
-AsGood m c d = (chainLoss m c ≤ chainLoss m d) × (chainLoss m c ≡ chainLoss m d → hops c ≤ hops d)
+AsGood m c d = (chain_loss m c ≤ chain_loss m d) × (chain_loss m c ≡ chain_loss m d → hops c ≤ hops d)
 
 -- c is a least chain to p: as good as any.
 pub record Least (m : Map) (p : ℕ) (c : List ℕ) : Type 0 where

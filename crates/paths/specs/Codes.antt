@@ -1,12 +1,12 @@
 -- The codes of a feed call (scope paper, Codes, 14 to 20; request 1, 22; request 4, 23 and 24), in the order in which
 -- they are tested.
 use Rattle.std.specs.Prelude.{ℕ, zero, suc, List, Bool, true, cond, not, ◌&&◌, ◌||◌, length, get_or, eqb, ltb, leb}
-use Rattle.rules.specs.Words.{storeSize}
-use Rattle.paths.specs.Map.{SpanLists, Supply, always, atMinute, Map, spans, lastMinute, dayEnd}
+use Rattle.rules.specs.Words.{store_size}
+use Rattle.paths.specs.Map.{SpanLists, Supply, always, at_minute, Map, spans, last_minute, day_end}
 
 -- the first of two codes that is not 0
-abbrev pub firstCode : ℕ → ℕ → ℕ
-firstCode code next = cond (eqb code 0) next code
+abbrev pub first_code : ℕ → ℕ → ℕ
+first_code code next = cond (eqb code 0) next code
 
 -- ---- one span
 
@@ -18,61 +18,61 @@ fault places from to loss before =
     (cond (ltb from before) 20 0))
 
 -- the fault of its window, by its opening and its closing minute
-unfoldable pub windowFault : ℕ → ℕ → ℕ
-windowFault opens closes = cond (leb closes opens || ltb dayEnd closes) 23 0
+unfoldable pub window_fault : ℕ → ℕ → ℕ
+window_fault opens closes = cond (leb closes opens || ltb day_end closes) 23 0
 
-unfoldable pub supplyFault : Supply → ℕ → ℕ
-supplyFault always e = 0
-supplyFault (atMinute minute w) e = windowFault (get_or w.opens e 0) (get_or w.closes e 0)
+unfoldable pub supply_fault : Supply → ℕ → ℕ
+supply_fault always e = 0
+supply_fault (at_minute minute w) e = window_fault (get_or w.opens e 0) (get_or w.closes e 0)
 
 -- where the span before e comes from; 0, below which no place is, before the first
 unfoldable pub previous : List ℕ → ℕ → ℕ
 previous from zero = 0
 previous from (suc e) = get_or from e 0
 
-unfoldable pub spanCode : ℕ → SpanLists → Supply → ℕ → ℕ
-spanCode places l supply e =
-    firstCode (fault places (get_or l.from e 0) (get_or l.to e 0) (get_or l.loss e 0) (previous l.from e))
-    (supplyFault supply e)
+unfoldable pub span_code : ℕ → SpanLists → Supply → ℕ → ℕ
+span_code places l supply e =
+    first_code (fault places (get_or l.from e 0) (get_or l.to e 0) (get_or l.loss e 0) (previous l.from e))
+    (supply_fault supply e)
 
 -- ---- all spans
 
 -- the code of the lowest-numbered faulty span below number k; 0 if none is faulty
-unfoldable pub codeBelow : ℕ → SpanLists → Supply → ℕ → ℕ
-codeBelow places l supply zero = 0
-codeBelow places l supply (suc e) = firstCode (codeBelow places l supply e) (spanCode places l supply e)
+unfoldable pub code_below : ℕ → SpanLists → Supply → ℕ → ℕ
+code_below places l supply zero = 0
+code_below places l supply (suc e) = first_code (code_below places l supply e) (span_code places l supply e)
 
-abbrev pub spansCode : ℕ → SpanLists → Supply → ℕ
-spansCode places l supply = codeBelow places l supply (length l.from)
+abbrev pub spans_code : ℕ → SpanLists → Supply → ℕ
+spans_code places l supply = code_below places l supply (length l.from)
 
 -- ---- the call
 
-unfoldable pub minuteFits : Supply → Bool
-minuteFits always = true
-minuteFits (atMinute minute w) = leb minute lastMinute
+unfoldable pub minute_fits : Supply → Bool
+minute_fits always = true
+minute_fits (at_minute minute w) = leb minute last_minute
 
-abbrev pub spanListsFit : SpanLists → Bool
-spanListsFit l =
+abbrev pub span_lists_fit : SpanLists → Bool
+span_lists_fit l =
     eqb (length l.to) (length l.from) && eqb (length l.loss) (length l.from) && leb (length l.from) 16384
 
 -- the window lists of n spans
-unfoldable pub windowListsFit : ℕ → Supply → Bool
-windowListsFit n always = true
-windowListsFit n (atMinute minute w) = eqb (length w.opens) n && eqb (length w.closes) n
+unfoldable pub window_lists_fit : ℕ → Supply → Bool
+window_lists_fit n always = true
+window_lists_fit n (at_minute minute w) = eqb (length w.opens) n && eqb (length w.closes) n
 
--- bestN, lastN and jointsN words in the result lists, storeN in the store
-abbrev pub resultListsFit : ℕ → ℕ → ℕ → ℕ → ℕ → Bool
-resultListsFit places bestN lastN jointsN storeN =
-    eqb bestN places && eqb lastN places && eqb jointsN places && eqb storeN (storeSize places)
+-- best_n, last_n and joints_n words in the result lists, storeN in the store
+abbrev pub result_lists_fit : ℕ → ℕ → ℕ → ℕ → ℕ → Bool
+result_lists_fit places best_n last_n joints_n storeN =
+    eqb best_n places && eqb last_n places && eqb joints_n places && eqb storeN (store_size places)
 
 -- The first condition that a feed call meets, by its code; 0: it meets none. The place list, which only a call with a
 -- budget is lent, has listedN words.
-unfoldable pub feedCode : Map → ℕ → ℕ → ℕ → ℕ → ℕ → ℕ
-feedCode m bestN lastN jointsN listedN storeN =
+unfoldable pub feed_code : Map → ℕ → ℕ → ℕ → ℕ → ℕ → ℕ
+feed_code m best_n last_n joints_n listedN storeN =
     cond (eqb m.places 0 || ltb 4096 m.places) 14
     (cond (leb m.places m.start) 15
-    (cond (not (minuteFits m.supply)) 24
-    (cond (not (spanListsFit m.lists && windowListsFit (spans m) m.supply)) 16
-    (cond (not (resultListsFit m.places bestN lastN jointsN storeN)) 17
+    (cond (not (minute_fits m.supply)) 24
+    (cond (not (span_lists_fit m.lists && window_lists_fit (spans m) m.supply)) 16
+    (cond (not (result_lists_fit m.places best_n last_n joints_n storeN)) 17
     (cond (ltb listedN m.places) 22
-    (spansCode m.places m.lists m.supply))))))
+    (spans_code m.places m.lists m.supply))))))

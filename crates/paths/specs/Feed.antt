@@ -4,16 +4,16 @@ use Rattle.rules.specs.declared.Line.{Line}
 use Rattle.rules.specs.Lists.{sumBy}
 use Rattle.rules.specs.Forests.{empty}
 use Rattle.rules.specs.Answers.{answers}
-use Rattle.rules.specs.Queues.{emptyQueues}
+use Rattle.rules.specs.Queues.{empty_queues}
 use Rattle.rules.specs.Words.{encode}
 use Rattle.paths.specs.Map.{Map}
-use Rattle.paths.specs.Table.{Limit, unlimited, up_to, leavingReached}
-use Rattle.paths.specs.Search.{find, shownBest, shownLast, shownJoints, placesTaken}
-use Rattle.paths.specs.Codes.{feedCode}
+use Rattle.paths.specs.Table.{Limit, unlimited, up_to, leaving_reached}
+use Rattle.paths.specs.Search.{find, shown_best, shown_last, shown_joints, places_taken}
+use Rattle.paths.specs.Codes.{feed_code}
 
 -- the links and cuts that a list of calls answers on empty queues for n items
-unfoldable pub linksOf : ℕ → List Line → ℕ
-linksOf n calls = sumBy (λ a. a.links) (answers (empty n) calls)
+unfoldable pub links_of : ℕ → List Line → ℕ
+links_of n calls = sumBy (λ a. a.links) (answers (empty n) calls)
 
 unfoldable pub cuts_of : ℕ → List Line → ℕ
 cuts_of n calls = sumBy (λ a. a.cuts) (answers (empty n) calls)
@@ -25,8 +25,8 @@ pub record ResultLists : Type 0 where
   pub joints : List ℕ
   pub store : List ℕ
 
-abbrev pub resultLists : List ℕ → List ℕ → List ℕ → List ℕ → ResultLists
-resultLists best last joints store = record { best = best; last = last; joints = joints; store = store }
+abbrev pub result_lists : List ℕ → List ℕ → List ℕ → List ℕ → ResultLists
+result_lists best last joints store = record { best = best; last = last; joints = joints; store = store }
 
 -- the four numbers of the answer, and the lists as they are left
 pub record Feed : Type 0 where
@@ -38,25 +38,25 @@ pub record Feed : Type 0 where
 
 -- A refusal gives its code and three zeros, and changes nothing. A call that is done leaves the store empty; the spans
 -- examined are those that leave a place of its table.
-unfoldable pub feedAs : ℕ → Limit → Map → ResultLists → Feed
-feedAs zero limit m lent =
+unfoldable pub feed_as : ℕ → Limit → Map → ResultLists → Feed
+feed_as zero limit m lent =
     let s = find limit m in
     record {
       code = 0;
-      links = linksOf m.places s.calls;
+      links = links_of m.places s.calls;
       cuts = cuts_of m.places s.calls;
-      examined = leavingReached m (shownBest s);
-      left = resultLists (shownBest s) (shownLast s) (shownJoints s) (encode (emptyQueues m.places));
+      examined = leaving_reached m (shown_best s);
+      left = result_lists (shown_best s) (shown_last s) (shown_joints s) (encode (empty_queues m.places));
     }
-feedAs (suc code) limit m lent = record { code = suc code; links = 0; cuts = 0; examined = 0; left = lent }
+feed_as (suc code) limit m lent = record { code = suc code; links = 0; cuts = 0; examined = 0; left = lent }
 
-abbrev pub codeFor : Map → ResultLists → ℕ → ℕ
-codeFor m lent listedN =
-    feedCode m (length lent.best) (length lent.last) (length lent.joints) listedN (length lent.store)
+abbrev pub code_for : Map → ResultLists → ℕ → ℕ
+code_for m lent listedN =
+    feed_code m (length lent.best) (length lent.last) (length lent.joints) listedN (length lent.store)
 
 -- The full feed call is lent no place list, so 22 finds nothing: it is as if one were lent that is long enough.
-unfoldable pub feedResult : Map → ResultLists → Feed
-feedResult m lent = feedAs (codeFor m lent m.places) unlimited m lent
+unfoldable pub feed_result : Map → ResultLists → Feed
+feed_result m lent = feed_as (code_for m lent m.places) unlimited m lent
 
 -- ---- with a budget
 
@@ -70,12 +70,12 @@ pub record BudgetFeed : Type 0 where
 abbrev pub overwrite : List ℕ → List ℕ → List ℕ
 overwrite listed words = words ++ drop (length words) listed
 
-unfoldable pub budgetAs : ℕ → ℕ → Map → ResultLists → List ℕ → BudgetFeed
-budgetAs zero budget m lent listed =
-    let places = placesTaken (up_to budget) m in
-    record { feed = feedAs zero (up_to budget) m lent; number = length places; listed = overwrite listed places }
-budgetAs (suc code) budget m lent listed =
-    record { feed = feedAs (suc code) (up_to budget) m lent; number = 0; listed = listed }
+unfoldable pub budget_as : ℕ → ℕ → Map → ResultLists → List ℕ → BudgetFeed
+budget_as zero budget m lent listed =
+    let places = places_taken (up_to budget) m in
+    record { feed = feed_as zero (up_to budget) m lent; number = length places; listed = overwrite listed places }
+budget_as (suc code) budget m lent listed =
+    record { feed = feed_as (suc code) (up_to budget) m lent; number = 0; listed = listed }
 
-unfoldable pub budgetResult : ℕ → Map → ResultLists → List ℕ → BudgetFeed
-budgetResult budget m lent listed = budgetAs (codeFor m lent (length listed)) budget m lent listed
+unfoldable pub budget_result : ℕ → Map → ResultLists → List ℕ → BudgetFeed
+budget_result budget m lent listed = budget_as (code_for m lent (length listed)) budget m lent listed

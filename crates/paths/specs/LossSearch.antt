@@ -6,11 +6,11 @@ use Rattle.rules.specs.declared.Call.TheVariants.{Insert, ExtractMin, DecreaseKe
 use Rattle.rules.specs.declared.Line.{Line}
 use Rattle.rules.specs.declared.Line.TheVariants.{Yields}
 use Rattle.rules.specs.Forests.{none}
-use Rattle.paths.specs.Map.{Map, spans, fromOf, toOf, lossOf, usable, Accepted}
+use Rattle.paths.specs.Map.{Map, spans, from_of, to_of, loss_of, usable, Accepted}
 use Rattle.paths.specs.Table.{Limit}
-use Rattle.paths.specs.Queue.{Queue, Stop, NextPlace, halts, takes, noneWait, enter, lower, leave, next}
+use Rattle.paths.specs.Queue.{Queue, Stop, NextPlace, halts, takes, none_wait, enter, lower, leave, next}
 use Rattle.paths.specs.Search.{Search, steps, beyond, find}
-use Rattle.paths.specs.Feed.{linksOf, cuts_of, ResultLists, Feed, feedAs}
+use Rattle.paths.specs.Feed.{links_of, cuts_of, ResultLists, Feed, feed_as}
 
 -- the queue, the losses so far, the queue calls made, and the number of spans examined
 pub record LossSearch : Type 0 where
@@ -20,11 +20,11 @@ pub record LossSearch : Type 0 where
   pub examined : ℕ
 
 -- what a search keeps of these
-abbrev pub lossesOf : Search → LossSearch
-lossesOf s = record { queue = s.queue; best = s.best; calls = s.calls; examined = s.examined }
+abbrev pub losses_of : Search → LossSearch
+losses_of s = record { queue = s.queue; best = s.best; calls = s.calls; examined = s.examined }
 
-abbrev pub lossAt : LossSearch → ℕ → ℕ
-lossAt s p = get_or s.best p none
+abbrev pub loss_at : LossSearch → ℕ → ℕ
+loss_at s p = get_or s.best p none
 
 -- a place that is met enters the queue; one that was met before is lowered
 abbrev pub entered : ℕ → ℕ → LossSearch → LossSearch
@@ -46,27 +46,27 @@ lowered place loss s =
     }
 
 -- A place is offered a loss: it was not met before, or the loss is smaller, or nothing changes.
-unfoldable pub offerLoss : ℕ → ℕ → LossSearch → LossSearch
-offerLoss place loss s =
-    cond (eqb (lossAt s place) none) (entered place loss s)
-    (cond (ltb loss (lossAt s place)) (lowered place loss s) s)
+unfoldable pub offer_loss : ℕ → ℕ → LossSearch → LossSearch
+offer_loss place loss s =
+    cond (eqb (loss_at s place) none) (entered place loss s)
+    (cond (ltb loss (loss_at s place)) (lowered place loss s) s)
 
-abbrev pub examineLoss : LossSearch → LossSearch
-examineLoss s = record { queue = s.queue; best = s.best; calls = s.calls; examined = suc s.examined }
+abbrev pub examine_loss : LossSearch → LossSearch
+examine_loss s = record { queue = s.queue; best = s.best; calls = s.calls; examined = suc s.examined }
 
 -- Span e is tried if it leaves the place that was taken, with loss d. It offers only if it is usable.
-unfoldable pub tryLoss : Bool → Bool → Map → ℕ → ℕ → LossSearch → LossSearch
-tryLoss false usable m d e s = s
-tryLoss true false m d e s = examineLoss s
-tryLoss true true m d e s = offerLoss (toOf m e) (d + lossOf m e) (examineLoss s)
+unfoldable pub try_loss : Bool → Bool → Map → ℕ → ℕ → LossSearch → LossSearch
+try_loss false usable m d e s = s
+try_loss true false m d e s = examine_loss s
+try_loss true true m d e s = offer_loss (to_of m e) (d + loss_of m e) (examine_loss s)
 
 -- The spans of place u below number e are tried in list order.
-unfoldable pub triedLoss : Map → ℕ → ℕ → ℕ → LossSearch → LossSearch
-triedLoss m u d zero s = s
-triedLoss m u d (suc e) s = tryLoss (eqb (fromOf m e) u) (usable m e) m d e (triedLoss m u d e s)
+unfoldable pub tried_loss : Map → ℕ → ℕ → ℕ → LossSearch → LossSearch
+tried_loss m u d zero s = s
+tried_loss m u d (suc e) s = try_loss (eqb (from_of m e) u) (usable m e) m d e (tried_loss m u d e s)
 
-abbrev pub extractedLoss : ℕ → LossSearch → LossSearch
-extractedLoss u s =
+abbrev pub extracted_loss : ℕ → LossSearch → LossSearch
+extracted_loss u s =
     record {
       queue = leave u s.queue;
       best = s.best;
@@ -74,32 +74,32 @@ extractedLoss u s =
       examined = s.examined;
     }
 
-unfoldable pub stepLoss : Map → NextPlace → LossSearch → LossSearch
-stepLoss m halts s = s
-stepLoss m (takes u) s = triedLoss m u (lossAt s u) (spans m) (extractedLoss u s)
+unfoldable pub step_loss : Map → NextPlace → LossSearch → LossSearch
+step_loss m halts s = s
+step_loss m (takes u) s = tried_loss m u (loss_at s u) (spans m) (extracted_loss u s)
 
-unfoldable pub beginLoss : Map → LossSearch
-beginLoss m =
+unfoldable pub begin_loss : Map → LossSearch
+begin_loss m =
     record {
-      queue = enter m.start 0 (noneWait m.places);
+      queue = enter m.start 0 (none_wait m.places);
       best = set (replicate m.places none) m.start 0;
       calls = Yields (Insert 0 m.start 0) ∷ [];
       examined = 0;
     }
 
-unfoldable pub stepsLoss : Stop → Map → ℕ → LossSearch
-stepsLoss stop m zero = beginLoss m
-stepsLoss stop m (suc k) = stepLoss m (next stop (stepsLoss stop m k).queue) (stepsLoss stop m k)
+unfoldable pub steps_loss : Stop → Map → ℕ → LossSearch
+steps_loss stop m zero = begin_loss m
+steps_loss stop m (suc k) = step_loss m (next stop (steps_loss stop m k).queue) (steps_loss stop m k)
 
-abbrev pub findLoss : Limit → Map → LossSearch
-findLoss limit m = stepsLoss (beyond limit) m m.places
+abbrev pub find_loss : Limit → Map → LossSearch
+find_loss limit m = steps_loss (beyond limit) m m.places
 
 -- After each step, and so in the end, the search has the queue, the losses, the calls and the count of this one, on
 -- every map, accepted or not. So the figures of a feed call that is done are those of its calls and its count.
 pub record CallsByLoss : Type 0 where
-  pub each : (stop : Stop) (m : Map) (k : ℕ) → lossesOf (steps stop m k) ≡ stepsLoss stop m k
-  pub found : (limit : Limit) (m : Map) → lossesOf (find limit m) ≡ findLoss limit m
+  pub each : (stop : Stop) (m : Map) (k : ℕ) → losses_of (steps stop m k) ≡ steps_loss stop m k
+  pub found : (limit : Limit) (m : Map) → losses_of (find limit m) ≡ find_loss limit m
   pub figures : (limit : Limit) (m : Map) → Accepted m → (lent : ResultLists) →
-      let r : Feed = feedAs 0 limit m lent in
-      (r.links ≡ linksOf m.places (findLoss limit m).calls)
-      × (r.cuts ≡ cuts_of m.places (findLoss limit m).calls) × (r.examined ≡ (findLoss limit m).examined)
+      let r : Feed = feed_as 0 limit m lent in
+      (r.links ≡ links_of m.places (find_loss limit m).calls)
+      × (r.cuts ≡ cuts_of m.places (find_loss limit m).calls) × (r.examined ≡ (find_loss limit m).examined)

@@ -7,11 +7,11 @@ pub record SpanLists : Type 0 where
   pub to : List ℕ
   pub loss : List ℕ
 
-abbrev pub spanLists : List ℕ → List ℕ → List ℕ → SpanLists
-spanLists from to loss = record { from = from; to = to; loss = loss }
+abbrev pub span_lists : List ℕ → List ℕ → List ℕ → SpanLists
+span_lists from to loss = record { from = from; to = to; loss = loss }
 
-abbrev pub noSpans : SpanLists
-noSpans = spanLists [] [] []
+abbrev pub no_spans : SpanLists
+no_spans = span_lists [] [] []
 
 -- ---- supply windows
 
@@ -24,17 +24,17 @@ abbrev pub windows : List ℕ → List ℕ → Windows
 windows opens closes = record { opens = opens; closes = closes }
 
 -- A span is usable at a minute that is not before its opening minute and is before its closing one.
-unfoldable pub usableAt : ℕ → ℕ → ℕ → Bool
-usableAt minute opens closes = leb opens minute && ltb minute closes
+unfoldable pub usable_at : ℕ → ℕ → ℕ → Bool
+usable_at minute opens closes = leb opens minute && ltb minute closes
 
 -- When the spans of a map are usable: all always, or each in its window, at a minute of the day.
 pub data Supply : Type 0 where
   always : Supply
-  atMinute : ℕ → Windows → Supply
+  at_minute : ℕ → Windows → Supply
 
-unfoldable pub usableBy : Supply → ℕ → Bool
-usableBy always e = true
-usableBy (atMinute minute w) e = usableAt minute (get_or w.opens e 0) (get_or w.closes e 0)
+unfoldable pub usable_by : Supply → ℕ → Bool
+usable_by always e = true
+usable_by (at_minute minute w) e = usable_at minute (get_or w.opens e 0) (get_or w.closes e 0)
 
 -- ---- maps
 
@@ -47,28 +47,28 @@ pub record Map : Type 0 where
   pub supply : Supply
 
 -- the map of some span lists, all of whose spans are usable
-abbrev pub mapOf : ℕ → ℕ → SpanLists → Map
-mapOf places start lists = record { places = places; start = start; lists = lists; supply = always }
+abbrev pub map_of : ℕ → ℕ → SpanLists → Map
+map_of places start lists = record { places = places; start = start; lists = lists; supply = always }
 
 -- the map of some span lists at a minute, by their windows
-abbrev pub mapAt : ℕ → ℕ → ℕ → SpanLists → Windows → Map
-mapAt places start minute lists w =
-    record { places = places; start = start; lists = lists; supply = atMinute minute w }
+abbrev pub map_at : ℕ → ℕ → ℕ → SpanLists → Windows → Map
+map_at places start minute lists w =
+    record { places = places; start = start; lists = lists; supply = at_minute minute w }
 
 abbrev pub spans : Map → ℕ
 spans m = length m.lists.from
 
-abbrev pub fromOf : Map → ℕ → ℕ
-fromOf m e = get_or m.lists.from e 0
+abbrev pub from_of : Map → ℕ → ℕ
+from_of m e = get_or m.lists.from e 0
 
-abbrev pub toOf : Map → ℕ → ℕ
-toOf m e = get_or m.lists.to e 0
+abbrev pub to_of : Map → ℕ → ℕ
+to_of m e = get_or m.lists.to e 0
 
-abbrev pub lossOf : Map → ℕ → ℕ
-lossOf m e = get_or m.lists.loss e 0
+abbrev pub loss_of : Map → ℕ → ℕ
+loss_of m e = get_or m.lists.loss e 0
 
 abbrev pub usable : Map → ℕ → Bool
-usable m e = usableBy m.supply e
+usable m e = usable_by m.supply e
 
 -- Only usable spans make chains.
 abbrev pub IsSpan : Map → ℕ → Type 0
@@ -77,35 +77,35 @@ IsSpan m e = (e < spans m) × (usable m e ≡ true)
 -- ---- what a feed call accepts
 
 -- the last minute of the day, and the closing minute of a window that lasts to its end
-abbrev pub lastMinute : ℕ
-lastMinute = 1439
+abbrev pub last_minute : ℕ
+last_minute = 1439
 
-abbrev pub dayEnd : ℕ
-dayEnd = 1440
+abbrev pub day_end : ℕ
+day_end = 1440
 
 -- The minute and the windows of n spans that codes 24, 16 and 23 accept.
 pub record WindowsFit (n minute : ℕ) (w : Windows) : Type 0 where
-  pub inDay : minute ≤ lastMinute
-  pub opensN : length w.opens ≡ n
-  pub closesN : length w.closes ≡ n
+  pub in_day : minute ≤ last_minute
+  pub opens_n : length w.opens ≡ n
+  pub closes_n : length w.closes ≡ n
   pub lasts : (e : ℕ) → e < n → get_or w.opens e 0 < get_or w.closes e 0
-  pub ends : (e : ℕ) → e < n → get_or w.closes e 0 ≤ dayEnd
+  pub ends : (e : ℕ) → e < n → get_or w.closes e 0 ≤ day_end
 
 abbrev pub SupplyFits : ℕ → Supply → Type 0
 SupplyFits n always = Unit {0}
-SupplyFits n (atMinute minute w) = WindowsFit n minute w
+SupplyFits n (at_minute minute w) = WindowsFit n minute w
 
 -- The maps that codes 14 to 16, 18 to 20, 23 and 24 accept: `CodeZero` says so.
 pub record Accepted (m : Map) : Type 0 where
   pub some : 1 ≤ m.places
   pub few : m.places ≤ 4096
   pub start_in : m.start < m.places
-  pub toN : length m.lists.to ≡ spans m
-  pub lossN : length m.lists.loss ≡ spans m
+  pub to_n : length m.lists.to ≡ spans m
+  pub loss_n : length m.lists.loss ≡ spans m
   pub short : spans m ≤ 16384
-  pub fromIn : (e : ℕ) → e < spans m → fromOf m e < m.places
-  pub toIn : (e : ℕ) → e < spans m → toOf m e < m.places
-  pub low : (e : ℕ) → e < spans m → 1 ≤ lossOf m e
-  pub high : (e : ℕ) → e < spans m → lossOf m e ≤ 1000000
-  pub rising : (e : ℕ) → suc e < spans m → fromOf m e ≤ fromOf m (suc e)
+  pub from_in : (e : ℕ) → e < spans m → from_of m e < m.places
+  pub to_in : (e : ℕ) → e < spans m → to_of m e < m.places
+  pub low : (e : ℕ) → e < spans m → 1 ≤ loss_of m e
+  pub high : (e : ℕ) → e < spans m → loss_of m e ≤ 1000000
+  pub rising : (e : ℕ) → suc e < spans m → from_of m e ≤ from_of m (suc e)
   pub supplied : SupplyFits (spans m) m.supply

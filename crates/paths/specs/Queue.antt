@@ -1,14 +1,14 @@
 -- The queue as the finder sees it, whatever engine serves it: which places wait, and with which keys.
 use Rattle.std.specs.Prelude.{ℕ, suc, List, [], ◌∷◌, Bool, cond, get_or, set, replicate, eqb}
-use Rattle.rules.specs.Order.{leastOf}
+use Rattle.rules.specs.Order.{least_of}
 
 -- 1 for a place that waits, else 0; and its key, else 0
 pub record Queue : Type 0 where
   pub waits : List ℕ
   pub key : List ℕ
 
-abbrev pub noneWait : ℕ → Queue
-noneWait n = record { waits = replicate n 0; key = replicate n 0 }
+abbrev pub none_wait : ℕ → Queue
+none_wait n = record { waits = replicate n 0; key = replicate n 0 }
 
 abbrev pub enter : ℕ → ℕ → Queue → Queue
 enter p k q = record { waits = set q.waits p 1; key = set q.key p k }
@@ -36,7 +36,7 @@ Stop = ℕ → Bool
 -- Of those that wait the least is taken, by key, then by number, unless the stopping rule says no.
 unfoldable pub next_of : Stop → List ℕ → List ℕ → NextPlace
 next_of stop key [] = halts
-next_of stop key (x ∷ xs) = let u = leastOf key x xs in cond (stop (get_or key u 0)) halts (takes u)
+next_of stop key (x ∷ xs) = let u = least_of key x xs in cond (stop (get_or key u 0)) halts (takes u)
 
 unfoldable pub next : Stop → Queue → NextPlace
 next stop q = next_of stop q.key (waiting 0 q.waits)

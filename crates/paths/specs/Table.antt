@@ -4,8 +4,8 @@ use Rattle.std.specs.Prelude.{ℕ, ◌≤◌, ◌<◌, ◌≡◌, ◌≢◌, Lis
 use Rattle.rules.specs.Lists.{indicator, sum_to, occurs}
 use Rattle.rules.specs.Forests.{none}
 use Rattle.rules.specs.Order.{precedes}
-use Rattle.paths.specs.Map.{Map, spans, fromOf}
-use Rattle.paths.specs.Chains.{Chain, chainLoss, hops, Least}
+use Rattle.paths.specs.Map.{Map, spans, from_of}
+use Rattle.paths.specs.Chains.{Chain, chain_loss, hops, Least}
 
 -- ---- the table
 
@@ -22,7 +22,7 @@ WithinLimit (up_to budget) l = l ≤ budget
 pub record Reached (m : Map) (p l e h : ℕ) : Type 0 where
   pub before : List ℕ
   pub least : Least m p (e ∷ before)
-  pub loss : chainLoss m (e ∷ before) ≡ l
+  pub loss : chain_loss m (e ∷ before) ≡ l
   pub count : hops (e ∷ before) ≡ h
   pub lowest : (f : ℕ) (c : List ℕ) → Least m p (f ∷ c) → e ≤ f
 
@@ -31,14 +31,14 @@ pub record Reached (m : Map) (p l e h : ℕ) : Type 0 where
 pub data Entry (limit : Limit) (m : Map) (p l e h : ℕ) : Type 0 where
   at_start : p ≡ m.start → l ≡ 0 → e ≡ none → h ≡ 0 → Entry limit m p l e h
   reached : p ≢ m.start → Reached m p l e h → WithinLimit limit l → Entry limit m p l e h
-  unreached : ((c : List ℕ) → Chain m c p → WithinLimit limit (chainLoss m c) → ⊥) → l ≡ none → e ≡ none → h ≡ none
+  unreached : ((c : List ℕ) → Chain m c p → WithinLimit limit (chain_loss m c) → ⊥) → l ≡ none → e ≡ none → h ≡ none
       → Entry limit m p l e h
 
 -- The three lists, of one word per place, are the table of m under the limit; without one they are the full table.
 pub record Table (limit : Limit) (m : Map) (best last joints : List ℕ) : Type 0 where
-  pub bestN : length best ≡ m.places
-  pub lastN : length last ≡ m.places
-  pub jointsN : length joints ≡ m.places
+  pub best_n : length best ≡ m.places
+  pub last_n : length last ≡ m.places
+  pub joints_n : length joints ≡ m.places
   pub entries : (p : ℕ) → p < m.places
       → Entry limit m p (get_or best p none) (get_or last p none) (get_or joints p none)
 
@@ -63,12 +63,12 @@ pub record Listing (best listed : List ℕ) : Type 0 where
 
 -- The number of spans whose from is a reached place, one for which a table with the losses `best` shows a loss. Each span
 -- counts once, usable or not.
-unfoldable pub leavingReached : Map → List ℕ → ℕ
-leavingReached m best = sum_to (spans m) (λ e. is_reached (get_or best (fromOf m e) none))
+unfoldable pub leaving_reached : Map → List ℕ → ℕ
+leaving_reached m best = sum_to (spans m) (λ e. is_reached (get_or best (from_of m e) none))
 
 -- 1 for a place that is listed, and the number of spans whose from is one
-unfoldable pub isListed : List ℕ → ℕ → ℕ
-isListed listed p = indicator (ltb 0 (occurs p listed))
+unfoldable pub is_listed : List ℕ → ℕ → ℕ
+is_listed listed p = indicator (ltb 0 (occurs p listed))
 
-unfoldable pub leavingListed : Map → List ℕ → ℕ
-leavingListed m listed = sum_to (spans m) (λ e. isListed listed (fromOf m e))
+unfoldable pub leaving_listed : Map → List ℕ → ℕ
+leaving_listed m listed = sum_to (spans m) (λ e. is_listed listed (from_of m e))

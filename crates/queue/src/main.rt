@@ -1,6 +1,6 @@
 // Prints what a fresh run answers to the sheet on standard input, or its code alone where it is refused.
 ghost use Rattle.std.specs.Prelude.{◌≤◌, length};
-ghost use Rattle.queue.specs.Shown.{Shows, programRun};
+ghost use Rattle.queue.specs.Shown.{Shows, program_run};
 
 use libc::{STDIN_FILENO, STDOUT_FILENO};
 
@@ -8,7 +8,7 @@ use libc::{STDIN_FILENO, STDOUT_FILENO};
 // its bytes.
 fn answer_sheet(sheet: &[u8], out: &mut [u8]) -> usize
     requires { 2 ≤ length out.old }
-    ensures { Shows (programRun sheet.now out.old) result out.new }
+    ensures { Shows (program_run sheet.now out.old) result out.new }
 {
     let mut store = [0u32; store::HEAP_WORDS + store::ITEM_WORDS * 1024];
     let ran = sheet::run_fresh(&mut store, sheet, out);

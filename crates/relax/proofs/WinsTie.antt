@@ -6,18 +6,18 @@ use mathlib.Core.Bool.{Bool, true, false, ◌||◌}
 use native.Mathlib.Omega.{arith}
 use lib.Dec.{ltb}
 use borrow.Author.Tests.{eq-eqb, ne_eqb, le-ltb}
-use Rattle.paths.specs.Search.{winsTie}
+use Rattle.paths.specs.Search.{wins_tie}
 
-or-false : (a : Bool) → a ≡ a || false
-or-false true = refl
-or-false false = refl
+or_false : (a : Bool) → a ≡ a || false
+or_false true = refl
+or_false false = refl
 
-module _ (hasHops hasSpan hops span : ℕ) where
+module _ (has_hops has_span hops span : ℕ) where
   -- as many spans: the last one decides
-  pub wins-same : hops ≡ hasHops → ltb span hasSpan ≡ winsTie hasHops hasSpan hops span
-  unfolding winsTie
-  wins-same e = rw (le-ltb hops hasHops (omega (arith, e)), eq-eqb hops hasHops e)
+  pub wins_same : hops ≡ has_hops → ltb span has_span ≡ wins_tie has_hops has_span hops span
+  unfolding wins_tie
+  wins_same e = rw (le-ltb hops has_hops (omega (arith, e)), eq-eqb hops has_hops e)
 
-  pub wins-other : hops ≢ hasHops → ltb hops hasHops ≡ winsTie hasHops hasSpan hops span
-  unfolding winsTie
-  wins-other n = rw (ne_eqb hops hasHops n) (or-false (ltb hops hasHops))
+  pub wins_other : hops ≢ has_hops → ltb hops has_hops ≡ wins_tie has_hops has_span hops span
+  unfolding wins_tie
+  wins_other n = rw (ne_eqb hops has_hops n) (or_false (ltb hops has_hops))

@@ -2,9 +2,9 @@
 ghost use Rattle.std.specs.Prelude.{◌≡◌, ◌≢◌, ◌+◌, ◌<◌, length, get_or, set};
 ghost use Rattle.rules.specs.declared.Call.TheVariants.{Insert, DecreaseKey};
 ghost use Rattle.rules.specs.Forests.{none};
-ghost use Rattle.paths.specs.Search.{winsTie, offer};
-ghost use Rattle.paths.specs.Feed.{resultLists};
-ghost use Rattle.relax.specs.Tracks.{examineOne, visitOne};
+ghost use Rattle.paths.specs.Search.{wins_tie, offer};
+ghost use Rattle.paths.specs.Feed.{result_lists};
+ghost use Rattle.relax.specs.Tracks.{examine_one, visit_one};
 ghost use Rattle.relax.specs.Advances.{OfferReady, Improved, Advances};
 
 use heap::decrease::decrease_key;
@@ -26,7 +26,7 @@ impl Progress {
     // One span more is examined.
     pub fn examine(self) -> Progress
         requires { self.examined < 4294967295 }
-        ensures { result ≡ examineOne self }
+        ensures { result ≡ examine_one self }
     {
         let tally = self.tally;
         Progress {
@@ -40,7 +40,7 @@ impl Progress {
     // The spans of one place more were tried.
     pub fn visit(self) -> Progress
         requires { self.visited < 4294967295 }
-        ensures { result ≡ visitOne self }
+        ensures { result ≡ visit_one self }
     {
         let tally = self.tally;
         Progress {
@@ -87,11 +87,11 @@ fn meet(
     span: u32,
     go: Progress,
 ) -> Progress
-    requires offer_ready { OfferReady place loss (resultLists best.old last.old joints.old store.old) go }
+    requires offer_ready { OfferReady place loss (result_lists best.old last.old joints.old store.old) go }
     requires place_value { get_or best.old place 0 ≡ none }
     ensures { Improved (Insert 0 place loss) place loss hops span (go.met + 1)
-        (resultLists best.old last.old joints.old store.old) go
-        (resultLists best.new last.new joints.new store.new) result }
+        (result_lists best.old last.old joints.old store.old) go
+        (result_lists best.new last.new joints.new store.new) result }
 {
     let n = items_of(store);
     insert(store, n, 0, place, loss);
@@ -117,12 +117,12 @@ fn lower(
     span: u32,
     go: Progress,
 ) -> Progress
-    requires offer_ready { OfferReady place loss (resultLists best.old last.old joints.old store.old) go }
+    requires offer_ready { OfferReady place loss (result_lists best.old last.old joints.old store.old) go }
     requires place_nonzero { get_or best.old place 0 ≢ none }
     requires loss_bound { loss < get_or best.old place 0 }
     ensures { Improved (DecreaseKey place loss) place loss hops span go.met
-        (resultLists best.old last.old joints.old store.old) go
-        (resultLists best.new last.new joints.new store.new) result }
+        (result_lists best.old last.old joints.old store.old) go
+        (result_lists best.new last.new joints.new store.new) result }
 {
     let n = items_of(store);
     let before = go.tally;
@@ -138,7 +138,7 @@ fn lower(
 
 // Whether a chain wins a tie against the one that is shown: by fewer spans, or by a lower-numbered last span.
 fn wins_tie(has_hops: u32, has_span: u32, hops: u32, span: u32) -> bool
-    ensures { result ≡ winsTie has_hops has_span hops span }
+    ensures { result ≡ wins_tie has_hops has_span hops span }
 {
     if hops == has_hops {
         return span < has_span;
@@ -159,10 +159,10 @@ pub fn offered(
     span: u32,
     go: Progress,
 ) -> Progress
-    requires { OfferReady place loss (resultLists best.old last.old joints.old store.old) go }
+    requires { OfferReady place loss (result_lists best.old last.old joints.old store.old) go }
     ensures { Advances place (offer place loss hops span)
-        (resultLists best.old last.old joints.old store.old) go
-        (resultLists best.new last.new joints.new store.new) result }
+        (result_lists best.old last.old joints.old store.old) go
+        (result_lists best.new last.new joints.new store.new) result }
 {
     let at = place as usize;
     let has_loss = best[at];

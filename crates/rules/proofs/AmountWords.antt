@@ -24,53 +24,53 @@ use Rattle.rules.specs.declared.Field.TheVariants.{
   Rank,
   State,
 }
-use Rattle.rules.specs.Forests.{Forests, heapNumber, heapOf, key_of, tableSize}
+use Rattle.rules.specs.Forests.{Forests, heap_number, heap_of, key_of, table_size}
 use Rattle.rules.specs.Kinds.{Apart}
-use Rattle.rules.specs.Queues.{keyWord}
+use Rattle.rules.specs.Queues.{key_word}
 use Rattle.rules.specs.WellFormed.{Disjoint}
-use Rattle.rules.specs.Words.{fieldSize, unlessFree, word, wordsWith}
-use Rattle.rules.proofs.ByKind.{by-kinds}
-use Rattle.rules.proofs.Words.{length-wordsIn, look-wordsIn, words-equal}
+use Rattle.rules.specs.Words.{field_size, unless_free, word, words_with}
+use Rattle.rules.proofs.ByKind.{by_kinds}
+use Rattle.rules.proofs.Words.{length-words_in, look-words_in, words_equal}
 
 module _ (a b : ℕ → ℕ) (s : Forests) where
-  pub word-but-amounts : (f : Field) → Apart (Amount ∷ Key ∷ []) f → (i : ℕ) → word a s f i ≡ word b s f i
+  pub word-but_amounts : (f : Field) → Apart (Amount ∷ Key ∷ []) f → (i : ℕ) → word a s f i ≡ word b s f i
   unfolding word
-  word-but-amounts FirstTree o i = refl
-  word-but-amounts LastTree o i = refl
-  word-but-amounts Minimum o i = refl
-  word-but-amounts Count o i = refl
-  word-but-amounts Amount o i = absurd (true≢false o)
-  word-but-amounts Key o i = absurd (true≢false o)
-  word-but-amounts Parent o i = refl
-  word-but-amounts FirstChild o i = refl
-  word-but-amounts LastChild o i = refl
-  word-but-amounts Next o i = refl
-  word-but-amounts Prev o i = refl
-  word-but-amounts Rank o i = refl
-  word-but-amounts State o i = refl
+  word-but_amounts FirstTree o i = refl
+  word-but_amounts LastTree o i = refl
+  word-but_amounts Minimum o i = refl
+  word-but_amounts Count o i = refl
+  word-but_amounts Amount o i = absurd (true≢false o)
+  word-but_amounts Key o i = absurd (true≢false o)
+  word-but_amounts Parent o i = refl
+  word-but_amounts FirstChild o i = refl
+  word-but_amounts LastChild o i = refl
+  word-but_amounts Next o i = refl
+  word-but_amounts Prev o i = refl
+  word-but_amounts Rank o i = refl
+  word-but_amounts State o i = refl
 
   -- a free item has no amount
-  pub key-by-heap : (i : ℕ) → (heapOf s i ≢ 0 → a (heapNumber s i) ≡ b (heapNumber s i))
+  pub key_by_heap : (i : ℕ) → (heap_of s i ≢ 0 → a (heap_number s i) ≡ b (heap_number s i))
       → word a s Key i ≡ word b s Key i
-  unfolding word unlessFree
-  key-by-heap i e = go (eqb (heapOf s i) 0) refl
+  unfolding word unless_free
+  key_by_heap i e = go (eqb (heap_of s i) 0) refl
     where
-      go : (t : Bool) → eqb (heapOf s i) 0 ≡ t
-          → cond t 0 (keyWord (a (heapNumber s i)) (key_of s i)) ≡ cond t 0 (keyWord (b (heapNumber s i)) (key_of s i))
+      go : (t : Bool) → eqb (heap_of s i) 0 ≡ t
+          → cond t 0 (key_word (a (heap_number s i)) (key_of s i)) ≡ cond t 0 (key_word (b (heap_number s i)) (key_of s i))
       go true d = refl
-      go false d = rw (e (eqb-false (heapOf s i) 0 d))
+      go false d = rw (e (eqb-false (heap_of s i) 0 d))
 
   -- the amounts of the eight heaps settle the words
-  pub words-by-amounts : Disjoint s → ((h : ℕ) → h < 8 → a h ≡ b h) → wordsWith a s ≡ wordsWith b s
-  unfolding wordsWith word
-  words-by-amounts D e =
-      words-equal ByItem (tableSize s) (word b s) (wordsWith a s)
-      (length-wordsIn ByItem (tableSize s) (word a s)) (λ f i k.
-      look-wordsIn ByItem (tableSize s) (word a s) f i k ∙ same f i k)
+  pub words_by_amounts : Disjoint s → ((h : ℕ) → h < 8 → a h ≡ b h) → words_with a s ≡ words_with b s
+  unfolding words_with word
+  words_by_amounts D e =
+      words_equal ByItem (table_size s) (word b s) (words_with a s)
+      (length-words_in ByItem (table_size s) (word a s)) (λ f i k.
+      look-words_in ByItem (table_size s) (word a s) f i k ∙ same f i k)
     where
-      same : (f : Field) (i : ℕ) → i < fieldSize (tableSize s) f → word a s f i ≡ word b s f i
+      same : (f : Field) (i : ℕ) → i < field_size (table_size s) f → word a s f i ≡ word b s f i
       same =
-          by-kinds (Amount ∷ Key ∷ [])
-          (λ f. (i : ℕ) → i < fieldSize (tableSize s) f → word a s f i ≡ word b s f i)
-          e (λ i k. key-by-heap i (λ n. e (heapNumber s i) (omega (arith, D.heaps i, n))))
-          (λ f o i k. word-but-amounts f o i)
+          by_kinds (Amount ∷ Key ∷ [])
+          (λ f. (i : ℕ) → i < field_size (table_size s) f → word a s f i ≡ word b s f i)
+          e (λ i k. key_by_heap i (λ n. e (heap_number s i) (omega (arith, D.heaps i, n))))
+          (λ f o i k. word-but_amounts f o i)

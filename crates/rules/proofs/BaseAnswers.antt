@@ -7,55 +7,55 @@ use Rattle.rules.specs.declared.Call.{Call}
 use Rattle.rules.specs.declared.Call.TheVariants.{DecreaseKey, Delete, ExtractMin, FindMin, Insert, Meld, Raise}
 use Rattle.rules.specs.declared.Line.{Line}
 use Rattle.rules.specs.declared.Line.TheVariants.{NoCall, Yields}
-use Rattle.rules.specs.Answers.{after, answer, answers, refusal, unlessRefused}
+use Rattle.rules.specs.Answers.{after, answer, answers, refusal, unless_refused}
 use Rattle.rules.specs.BaseAnswers.{
   SameAsBase,
-  baseAfter,
-  baseAnswer,
-  baseAnswers,
-  basePerform,
-  baseRefusal,
-  baseUnlessRefused,
+  base_after,
+  base_answer,
+  base_answers,
+  base_perform,
+  base_refusal,
+  base_unless_refused,
 }
 use Rattle.rules.specs.Calls.{perform}
 use Rattle.rules.specs.Forests.{Forests}
-use Rattle.rules.specs.Unraised.{isRaise}
+use Rattle.rules.specs.Unraised.{is_raise}
 
 -- each of the six is refused and done by the same clause
-same-refusal : (s : Forests) (c : Call) → isRaise (Yields c) ≡ false → refusal s c ≡ baseRefusal s c
-unfolding refusal baseRefusal isRaise
-same-refusal s (Insert h i k) e = refl
-same-refusal s (FindMin h) e = refl
-same-refusal s (ExtractMin h) e = refl
-same-refusal s (DecreaseKey i k) e = refl
-same-refusal s (Delete i) e = refl
-same-refusal s (Meld a b) e = refl
-same-refusal s (Raise h d) e = absurd (true≢false e)
+same_refusal : (s : Forests) (c : Call) → is_raise (Yields c) ≡ false → refusal s c ≡ base_refusal s c
+unfolding refusal base_refusal is_raise
+same_refusal s (Insert h i k) e = refl
+same_refusal s (FindMin h) e = refl
+same_refusal s (ExtractMin h) e = refl
+same_refusal s (DecreaseKey i k) e = refl
+same_refusal s (Delete i) e = refl
+same_refusal s (Meld a b) e = refl
+same_refusal s (Raise h d) e = absurd (true≢false e)
 
-same-perform : (s : Forests) (c : Call) → isRaise (Yields c) ≡ false → perform s c ≡ basePerform s c
-unfolding perform basePerform isRaise
-same-perform s (Insert h i k) e = refl
-same-perform s (FindMin h) e = refl
-same-perform s (ExtractMin h) e = refl
-same-perform s (DecreaseKey i k) e = refl
-same-perform s (Delete i) e = refl
-same-perform s (Meld a b) e = refl
-same-perform s (Raise h d) e = absurd (true≢false e)
+same_perform : (s : Forests) (c : Call) → is_raise (Yields c) ≡ false → perform s c ≡ base_perform s c
+unfolding perform base_perform is_raise
+same_perform s (Insert h i k) e = refl
+same_perform s (FindMin h) e = refl
+same_perform s (ExtractMin h) e = refl
+same_perform s (DecreaseKey i k) e = refl
+same_perform s (Delete i) e = refl
+same_perform s (Meld a b) e = refl
+same_perform s (Raise h d) e = absurd (true≢false e)
 
-same_answer : (s : Forests) (l : Line) → isRaise l ≡ false → answer s l ≡ baseAnswer s l
-unfolding answer baseAnswer unlessRefused baseUnlessRefused
+same_answer : (s : Forests) (l : Line) → is_raise l ≡ false → answer s l ≡ base_answer s l
+unfolding answer base_answer unless_refused base_unless_refused
 same_answer s NoCall e = refl
 same_answer s (Yields c) e =
-    ap (λ r. unlessRefused r s c) (same-refusal s c e) ∙ go (baseRefusal s c)
+    ap (λ r. unless_refused r s c) (same_refusal s c e) ∙ go (base_refusal s c)
   where
-    go : (r : ℕ) → unlessRefused r s c ≡ baseUnlessRefused r s c
-    go zero = same-perform s c e
+    go : (r : ℕ) → unless_refused r s c ≡ base_unless_refused r s c
+    go zero = same_perform s c e
     go (suc r) = refl
 
-pub sameAsBase : SameAsBase
-unfolding answers after baseAnswers baseAfter
-sameAsBase s [] n = (refl, refl)
-sameAsBase s (l ∷ ls) n =
+pub same_as_base : SameAsBase
+unfolding answers after base_answers base_after
+same_as_base s [] n = (refl, refl)
+same_as_base s (l ∷ ls) n =
     let e = same_answer s l n.0 in
-    let b = sameAsBase (baseAnswer s l).next ls n.1 in
-    (rw e (ap (λ r. (baseAnswer s l).reply ∷ r) b.0), rw e b.1)
+    let b = same_as_base (base_answer s l).next ls n.1 in
+    (rw e (ap (λ r. (base_answer s l).reply ∷ r) b.0), rw e b.1)

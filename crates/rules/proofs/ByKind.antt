@@ -5,10 +5,10 @@ use mathlib.Core.Bool.{Bool, true, false, ◌&&◌, ◌||◌, true≢false}
 use lib.Dec.{eqb}
 use borrow.Author.Tests.{eqb-true}
 use Rattle.rules.specs.declared.Field.{Field}
-use Rattle.rules.specs.SetWord.{fieldNumber}
-use Rattle.rules.specs.Kinds.{isOneOf, Apart}
+use Rattle.rules.specs.SetWord.{field_number}
+use Rattle.rules.specs.Kinds.{is_one_of, Apart}
 use Rattle.rules.proofs.Occurs.{and_split}
-use Rattle.rules.proofs.Places.{number-injective}
+use Rattle.rules.proofs.Places.{number_injective}
 
 -- P of each of a list; and C from a proof of P for each, one argument after the other
 abbrev pub Each : {A : Type 0} → (A → Type 0) → List A → Type 0
@@ -24,30 +24,30 @@ from_each P [] f = f tt
 from_each P (x ∷ xs) f = λ p. from_each P xs (λ ps. f (p, ps))
 
 -- such a kind is not g, for each g of the list
-pub apart_from : (gs : List Field) (f : Field) → Apart gs f → (g : Field) → isOneOf gs g ≡ true
-    → eqb (fieldNumber g) (fieldNumber f) ≡ false
+pub apart_from : (gs : List Field) (f : Field) → Apart gs f → (g : Field) → is_one_of gs g ≡ true
+    → eqb (field_number g) (field_number f) ≡ false
 apart_from [] f a g i = absurd (true≢false (sym i))
 apart_from (k ∷ gs) f a g i =
-    go (eqb (fieldNumber k) (fieldNumber g)) refl (eqb (fieldNumber k) (fieldNumber f)) refl a i
+    go (eqb (field_number k) (field_number g)) refl (eqb (field_number k) (field_number f)) refl a i
     (λ a i. apart_from gs f a g i)
   where
-    go : (t : Bool) → eqb (fieldNumber k) (fieldNumber g) ≡ t → (u : Bool) → eqb (fieldNumber k) (fieldNumber f) ≡ u
-        → (u || isOneOf gs f) ≡ false → (t || isOneOf gs g) ≡ true
-        → (isOneOf gs f ≡ false → isOneOf gs g ≡ true → eqb (fieldNumber g) (fieldNumber f) ≡ false)
-        → eqb (fieldNumber g) (fieldNumber f) ≡ false
+    go : (t : Bool) → eqb (field_number k) (field_number g) ≡ t → (u : Bool) → eqb (field_number k) (field_number f) ≡ u
+        → (u || is_one_of gs f) ≡ false → (t || is_one_of gs g) ≡ true
+        → (is_one_of gs f ≡ false → is_one_of gs g ≡ true → eqb (field_number g) (field_number f) ≡ false)
+        → eqb (field_number g) (field_number f) ≡ false
     go t d true e a i r = absurd (true≢false a)
-    go true d false e a i r = rw (← (eqb-true (fieldNumber k) (fieldNumber g) d)) e
+    go true d false e a i r = rw (← (eqb-true (field_number k) (field_number g) d)) e
     go false d false e a i r = r a i
 
 -- every kind of hs is one of gs
 abbrev pub includes : List Field → List Field → Bool
 includes gs [] = true
-includes gs (h ∷ hs) = isOneOf gs h && includes gs hs
+includes gs (h ∷ hs) = is_one_of gs h && includes gs hs
 
 pub apart_some : (gs hs : List Field) (f : Field) → includes gs hs ≡ true → Apart gs f → Apart hs f
 apart_some gs [] f i a = refl
 apart_some gs (h ∷ hs) f i a =
-    let b = and_split (isOneOf gs h) (includes gs hs) i in
+    let b = and_split (is_one_of gs h) (includes gs hs) i in
     rw (apart_from gs f a h b.0) (apart_some gs hs f b.1 a)
 
 -- the kinds gs, then os
@@ -55,22 +55,22 @@ abbrev pub also : List Field → List Field → List Field
 also [] os = os
 also (g ∷ gs) os = g ∷ also gs os
 
-one-kind : (P : Field → Type 0) (os gs : List Field) (f : Field) → Each P gs → Apart os f
+one_kind : (P : Field → Type 0) (os gs : List Field) (f : Field) → Each P gs → Apart os f
     → (Apart (also gs os) f → P f) → P f
-one-kind P os [] f ps a e = e a
-one-kind P os (g ∷ gs) f ps a e =
-    go (eqb (fieldNumber g) (fieldNumber f)) refl e (λ r. one-kind P os gs f ps.1 a r)
+one_kind P os [] f ps a e = e a
+one_kind P os (g ∷ gs) f ps a e =
+    go (eqb (field_number g) (field_number f)) refl e (λ r. one_kind P os gs f ps.1 a r)
   where
-    go : (t : Bool) → eqb (fieldNumber g) (fieldNumber f) ≡ t → ((t || isOneOf (also gs os) f) ≡ false → P f)
+    go : (t : Bool) → eqb (field_number g) (field_number f) ≡ t → ((t || is_one_of (also gs os) f) ≡ false → P f)
         → ((Apart (also gs os) f → P f) → P f) → P f
-    go true d e r = subst P (number-injective g f (eqb-true (fieldNumber g) (fieldNumber f) d)) ps.0
+    go true d e r = subst P (number_injective g f (eqb-true (field_number g) (field_number f) d)) ps.0
     go false d e r = r e
 
-pub by-kinds : (gs : List Field) (P : Field → Type 0)
+pub by_kinds : (gs : List Field) (P : Field → Type 0)
     → From P gs (((f : Field) → Apart (also gs []) f → P f) → (f : Field) → P f)
-by-kinds gs P = from_each P gs (λ ps e f. one-kind P [] gs f ps refl (e f))
+by_kinds gs P = from_each P gs (λ ps e f. one_kind P [] gs f ps refl (e f))
 
 -- the same among the kinds that are apart from os
-pub by-others : (os gs : List Field) (P : Field → Type 0)
+pub by_others : (os gs : List Field) (P : Field → Type 0)
     → From P gs (((f : Field) → Apart (also gs os) f → P f) → (f : Field) → Apart os f → P f)
-by-others os gs P = from_each P gs (λ ps e f a. one-kind P os gs f ps a (e f))
+by_others os gs P = from_each P gs (λ ps e f a. one_kind P os gs f ps a (e f))

@@ -1,4 +1,4 @@
--- The empty forests are well-formed.
+-- The empty forests are well_formed.
 use Prim.Native.Nat.{ℕ, zero, suc, zero-le}
 use mathlib.Core.Path.{◌≡◌, refl}
 use native.Mathlib.Omega.{arith}
@@ -9,30 +9,30 @@ use Rattle.rules.specs.Theorems.{EmptyWellFormed}
 use Rattle.rules.specs.WellFormed.{HeapOrdered, KeysFit, RankRule}
 
 -- a list of one value, at any place
-pub getD-all : {A : Type 0} (n i : ℕ) (d : A) → get_or (replicate n d) i d ≡ d
-getD-all zero i d = refl
-getD-all (suc n) zero d = refl
-getD-all (suc n) (suc i) d = getD-all n i d
+pub get_d_all : {A : Type 0} (n i : ℕ) (d : A) → get_or (replicate n d) i d ≡ d
+get_d_all zero i d = refl
+get_d_all (suc n) zero d = refl
+get_d_all (suc n) (suc i) d = get_d_all n i d
 
-pub emptyWellFormed : EmptyWellFormed
+pub empty_well_formed : EmptyWellFormed
 unfolding HeapOrdered RankRule KeysFit occurs sumBy
-emptyWellFormed n k = record {
+empty_well_formed n k = record {
   disjoint = record {
     rows8 = refl;
-    childrenN = simp length-replicate;
-    parentN = refl;
-    keyN = refl;
-    markN = refl;
+    children_n = simp length-replicate;
+    parent_n = refl;
+    key_n = refl;
+    mark_n = refl;
     small = simp length-replicate k;
-    heaps = λ x. rw (getD-all n x) zero-le;
-    in_row = λ h x. rw (getD-all 8 h, getD-all n x, eqb-zero-suc h);
-    inChildren = λ p x _. rw (getD-all n p, getD-all n x);
-    up = λ x l. absurd (l (getD-all n x 0));
-    free = λ x _. (getD-all n x 0, getD-all n x 0, getD-all n x 0);
-    bit = λ x. rw (getD-all n x) zero-le;
-    rootsUnmarked = λ x _. getD-all n x 0;
+    heaps = λ x. rw (get_d_all n x) zero-le;
+    in_row = λ h x. rw (get_d_all 8 h, get_d_all n x, eqb-zero-suc h);
+    in_children = λ p x _. rw (get_d_all n p, get_d_all n x);
+    up = λ x l. absurd (l (get_d_all n x 0));
+    free = λ x _. (get_d_all n x 0, get_d_all n x 0, get_d_all n x 0);
+    bit = λ x. rw (get_d_all n x) zero-le;
+    roots_unmarked = λ x _. get_d_all n x 0;
   };
-  ordered = λ x l. absurd (l (getD-all n x 0));
-  ranked = λ p _. rw (getD-all n p) tt;
-  keys = λ x. rw (getD-all n x) (omega arith);
+  ordered = λ x l. absurd (l (get_d_all n x 0));
+  ranked = λ p _. rw (get_d_all n p) tt;
+  keys = λ x. rw (get_d_all n x) (omega arith);
 }

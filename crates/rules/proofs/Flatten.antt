@@ -17,23 +17,23 @@ pub each_map : (k : ℕ) (g : (ℕ → ℕ) → List ℕ) (fs : List (ℕ → �
 each_map k g [] e = tt
 each_map k g (f ∷ fs) e = (e f, each_map k g fs e)
 
-pub each-tabulate : (k from n : ℕ) (f : ℕ → List ℕ) → ((i : ℕ) → length (f i) ≡ k) → EachLong k (tabulateFrom from n f)
+pub each_tabulate : (k from n : ℕ) (f : ℕ → List ℕ) → ((i : ℕ) → length (f i) ≡ k) → EachLong k (tabulateFrom from n f)
 unfolding tabulateFrom
-each-tabulate k from zero f e = tt
-each-tabulate k from (suc n) f e = (e from, each-tabulate k (suc from) n f e)
+each_tabulate k from zero f e = tt
+each_tabulate k from (suc n) f e = (e from, each_tabulate k (suc from) n f e)
 
-pub length-flatten : (k : ℕ) (ls : List (List ℕ)) → EachLong k ls → length (flatten ls) ≡ length ls * k
+pub length_flatten : (k : ℕ) (ls : List (List ℕ)) → EachLong k ls → length (flatten ls) ≡ length ls * k
 unfolding flatten
-length-flatten k [] e = omega arith
-length-flatten k (l ∷ ls) e = omega (arith, length-append l (flatten ls), length-flatten k ls e.1, e.0)
+length_flatten k [] e = omega arith
+length_flatten k (l ∷ ls) e = omega (arith, length-append l (flatten ls), length_flatten k ls e.1, e.0)
 
-pub getD-flatten : (k : ℕ) (ls : List (List ℕ)) → EachLong k ls → (c j : ℕ) → c < length ls → j < k
+pub get_d_flatten : (k : ℕ) (ls : List (List ℕ)) → EachLong k ls → (c j : ℕ) → c < length ls → j < k
     → get_or (flatten ls) (c * k + j) 0 ≡ get_or (get_or ls c []) j 0
 unfolding flatten
-getD-flatten k [] e c j a b = absurd (omega arith)
-getD-flatten k (l ∷ ls) e zero j a b =
+get_d_flatten k [] e c j a b = absurd (omega arith)
+get_d_flatten k (l ∷ ls) e zero j a b =
     ap (λ p. get_or (flatten (l ∷ ls)) p 0) (omega arith) ∙ get_or-append l (flatten ls) 0 j (omega (arith, e.0))
-getD-flatten k (l ∷ ls) e (suc c) j a b =
+get_d_flatten k (l ∷ ls) e (suc c) j a b =
     ap (λ p. get_or (flatten (l ∷ ls)) p 0) (omega (arith, e.0))
     ∙ get_or-append-add l (flatten ls) (c * k + j) 0
-    ∙ getD-flatten k ls e.1 c j (omega arith) b
+    ∙ get_d_flatten k ls e.1 c j (omega arith) b

@@ -8,13 +8,13 @@ use Rattle.rules.specs.Answers.{after, answer, answers}
 use Rattle.rules.specs.Forests.{Forests, potential}
 use Rattle.rules.specs.Ledger.{Ledger, allowed, moves}
 use Rattle.rules.specs.Lists.{sumBy}
-use Rattle.rules.proofs.CallsKeep.{answer-kept}
-use Rattle.rules.proofs.Excused.{Formed, to-formed}
+use Rattle.rules.proofs.CallsKeep.{answer_kept}
+use Rattle.rules.proofs.Excused.{Formed, to_formed}
 
-pub after-formed : (s : Forests) → Formed s → (ls : List Line) → Formed (after s ls)
+pub after_formed : (s : Forests) → Formed s → (ls : List Line) → Formed (after s ls)
 unfolding after
-after-formed s S [] = S
-after-formed s S (l ∷ ls) = after-formed (answer s l).next (answer-kept s S l).formed ls
+after_formed s S [] = S
+after_formed s S (l ∷ ls) = after_formed (answer s l).next (answer_kept s S l).formed ls
 
 -- the whole list, from its start
 pub all_paid : (s : Forests) → Formed s → (ls : List Line)
@@ -22,8 +22,8 @@ pub all_paid : (s : Forests) → Formed s → (ls : List Line)
 unfolding after moves allowed answers sumBy
 all_paid s S [] = omega arith
 all_paid s S (l ∷ ls) =
-    let k = answer-kept s S l in
+    let k = answer_kept s S l in
     omega (arith, k.paid, all_paid (answer s l).next k.formed ls)
 
 pub ledger : Ledger
-ledger s S ls i n = all_paid (after s (take i ls)) (after-formed s (to-formed s S) (take i ls)) (take n (drop i ls))
+ledger s S ls i n = all_paid (after s (take i ls)) (after_formed s (to_formed s S) (take i ls)) (take n (drop i ls))

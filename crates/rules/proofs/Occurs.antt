@@ -8,50 +8,50 @@ use native.Mathlib.Omega.{arith}
 use lib.Dec.{eqb}
 use borrow.Author.Tests.{eqb-true, eqb-false, eq-eqb, ne_eqb}
 use Rattle.rules.specs.Lists.{delta, occurs, sumBy, without}
-use Rattle.rules.proofs.Sums.{sumBy-append, sumBy-without}
+use Rattle.rules.proofs.Sums.{sum_by_append, sum_by_without}
 
 -- one item, and all others
-pub byItem : {P : ℕ → Type 0} (x : ℕ) → P x → ((y : ℕ) → y ≢ x → P y) → (y : ℕ) → P y
-byItem {P} x a o y = go (eqb y x) refl
+pub by_item : {P : ℕ → Type 0} (x : ℕ) → P x → ((y : ℕ) → y ≢ x → P y) → (y : ℕ) → P y
+by_item {P} x a o y = go (eqb y x) refl
   where
     go : (t : Bool) → eqb y x ≡ t → P y
     go true e = subst P (sym (eqb-true y x e)) a
     go false e = o y (eqb-false y x e)
 
-pub eqb-self : (x : ℕ) → eqb x x ≡ true
-eqb-self x = eq-eqb x x refl
+pub eqb_self : (x : ℕ) → eqb x x ≡ true
+eqb_self x = eq-eqb x x refl
 
-pub delta-other : (x y : ℕ) → y ≢ x → delta x y ≡ 0
+pub delta_other : (x y : ℕ) → y ≢ x → delta x y ≡ 0
 unfolding delta
-delta-other x y n = rw (ne_eqb y x n)
+delta_other x y n = rw (ne_eqb y x n)
 
-pub delta-self : (x : ℕ) → delta x x ≡ 1
+pub delta_self : (x : ℕ) → delta x x ≡ 1
 unfolding delta
-delta-self x = rw (eq-eqb x x refl)
+delta_self x = rw (eq-eqb x x refl)
 
 pub occurs-append : (x : ℕ) (l m : List ℕ) → occurs x (l ++ m) ≡ occurs x l + occurs x m
 unfolding occurs
-occurs-append x l m = sumBy-append (delta x) l m
+occurs-append x l m = sum_by_append (delta x) l m
 
-pub occurs-nil : (x : ℕ) → occurs x [] ≡ 0
+pub occurs_nil : (x : ℕ) → occurs x [] ≡ 0
 unfolding occurs sumBy
-occurs-nil x = refl
+occurs_nil x = refl
 
-pub occurs-one : (x y : ℕ) → occurs x (y ∷ []) ≡ delta x y
+pub occurs_one : (x y : ℕ) → occurs x (y ∷ []) ≡ delta x y
 unfolding occurs sumBy
-occurs-one x y = omega arith
+occurs_one x y = omega arith
 
 pub occurs-without : (y x : ℕ) (l : List ℕ) → 1 ≤ occurs x l → delta y x + occurs y (without x l) ≡ occurs y l
 unfolding occurs
-occurs-without y x l h = sumBy-without (delta y) x l h
+occurs-without y x l h = sum_by_without (delta y) x l h
 
-pub and-true : (c : Bool) → (c && true) ≡ c
-and-true true = refl
-and-true false = refl
+pub and_true : (c : Bool) → (c && true) ≡ c
+and_true true = refl
+and_true false = refl
 
-pub and-false : (c : Bool) → (c && false) ≡ false
-and-false true = refl
-and-false false = refl
+pub and_false : (c : Bool) → (c && false) ≡ false
+and_false true = refl
+and_false false = refl
 
 pub and_split : (a b : Bool) → (a && b) ≡ true → (a ≡ true) × (b ≡ true)
 and_split true b e = (refl, e)

@@ -10,15 +10,15 @@ use lib.ListN.{get_or, set}
 use lib.Seq.{get_or-set_other}
 use lib.Dec.{eqb, ltb}
 use borrow.Author.Tests.{eqb-true, eqb-false, ltb-true, ltb-false, lt-ltb, le-ltb, eq-eqb, ne_eqb}
-use Rattle.rules.specs.Order.{comesBefore, keyIn, precedes}
+use Rattle.rules.specs.Order.{comes_before, key_in, precedes}
 
 -- ---- by a table of keys
 
 module _ (key : ℕ → ℕ) (a b : ℕ) where
-  byTests : (P : Bool → Type 0) → (key a < key b → P true) → (key a ≡ key b → a < b → P true)
-      → (key a ≡ key b → b ≤ a → P false) → (key b < key a → P false) → P (comesBefore key a b)
-  unfolding comesBefore
-  byTests P f g h k = go (ltb (key a) (key b)) (eqb (key a) (key b)) (ltb a b) refl refl refl
+  by_tests : (P : Bool → Type 0) → (key a < key b → P true) → (key a ≡ key b → a < b → P true)
+      → (key a ≡ key b → b ≤ a → P false) → (key b < key a → P false) → P (comes_before key a b)
+  unfolding comes_before
+  by_tests P f g h k = go (ltb (key a) (key b)) (eqb (key a) (key b)) (ltb a b) refl refl refl
     where
       go : (u v w : Bool) → ltb (key a) (key b) ≡ u → eqb (key a) (key b) ≡ v → ltb a b ≡ w → P (u || (v && w))
       go true v w p q r = f (ltb-true _ _ p)
@@ -35,22 +35,22 @@ module _ (key : ℕ → ℕ) (a b : ℕ) where
   abbrev Y : ℕ
   Y = key b * 4294967296 + b
 
-  pub before-number : a < 4294967296 → b < 4294967296 → comesBefore key a b ≡ ltb X Y
-  before-number i j =
-      byTests (λ t. t ≡ ltb X Y) (λ l. sym (lt-ltb X Y (omega arith))) (λ q l. sym (lt-ltb X Y (omega arith)))
+  pub before_number : a < 4294967296 → b < 4294967296 → comes_before key a b ≡ ltb X Y
+  before_number i j =
+      by_tests (λ t. t ≡ ltb X Y) (λ l. sym (lt-ltb X Y (omega arith))) (λ q l. sym (lt-ltb X Y (omega arith)))
       (λ q l. sym (le-ltb X Y (omega arith))) (λ l. sym (le-ltb X Y (omega arith)))
 
 -- the order looks at two keys alone
-pub before-keys : (key key' : ℕ → ℕ) (a b : ℕ) → key a ≡ key' a → key b ≡ key' b
-    → comesBefore key a b ≡ comesBefore key' a b
-unfolding comesBefore
-before-keys key key' a b p q = rw (p, q)
+pub before_keys : (key key' : ℕ → ℕ) (a b : ℕ) → key a ≡ key' a → key b ≡ key' b
+    → comes_before key a b ≡ comes_before key' a b
+unfolding comes_before
+before_keys key key' a b p q = rw (p, q)
 
 -- and stays where both rise by d
-pub before-raised : (key key' : ℕ → ℕ) (a b d : ℕ) → key a ≡ key' a + d → key b ≡ key' b + d
-    → comesBefore key a b ≡ comesBefore key' a b
-unfolding comesBefore
-before-raised key key' a b d p q = rw (p, q, ltb-add (key' a) (key' b), eqb-add (key' a) (key' b))
+pub before_raised : (key key' : ℕ → ℕ) (a b d : ℕ) → key a ≡ key' a + d → key b ≡ key' b + d
+    → comes_before key a b ≡ comes_before key' a b
+unfolding comes_before
+before_raised key key' a b d p q = rw (p, q, ltb-add (key' a) (key' b), eqb-add (key' a) (key' b))
   where
     ltb-add : (x y : ℕ) → ltb (x + d) (y + d) ≡ ltb x y
     ltb-add x y = go (ltb x y) refl
@@ -76,43 +76,43 @@ module _ (key : List ℕ) (a b : ℕ) where
   abbrev B : ℕ
   B = get_or key b 0
 
-  pub is-precedes : precedes key a b ≡ true → (A ≤ B) × (A ≡ B → a < b)
-  is-precedes =
-      byTests (keyIn key) a b (λ t. t ≡ true → (A ≤ B) × (A ≡ B → a < b))
+  pub is_precedes : precedes key a b ≡ true → (A ≤ B) × (A ≡ B → a < b)
+  is_precedes =
+      by_tests (key_in key) a b (λ t. t ≡ true → (A ≤ B) × (A ≡ B → a < b))
       (λ l _. (omega arith, λ z. absurd (omega arith)))
       (λ q l _. (omega arith, λ _. l)) (λ _ _ e. absurd (false≢true e)) (λ _ e. absurd (false≢true e))
 
-  pub precedes-is : A ≤ B → (A ≡ B → a < b) → precedes key a b ≡ true
-  precedes-is l k =
-      byTests (keyIn key) a b (λ t. t ≡ true) (λ _. refl) (λ _ _. refl) (λ q m. absurd (omega (arith, k q)))
+  pub precedes_is : A ≤ B → (A ≡ B → a < b) → precedes key a b ≡ true
+  precedes_is l k =
+      by_tests (key_in key) a b (λ t. t ≡ true) (λ _. refl) (λ _ _. refl) (λ q m. absurd (omega (arith, k q)))
       (λ m. absurd (omega arith))
 
-  pub not-precedes : precedes key a b ≡ false → (B ≤ A) × (A ≡ B → b ≤ a)
-  not-precedes =
-      byTests (keyIn key) a b (λ t. t ≡ false → (B ≤ A) × (A ≡ B → b ≤ a)) (λ _ e. absurd (true≢false e))
+  pub not_precedes : precedes key a b ≡ false → (B ≤ A) × (A ≡ B → b ≤ a)
+  not_precedes =
+      by_tests (key_in key) a b (λ t. t ≡ false → (B ≤ A) × (A ≡ B → b ≤ a)) (λ _ e. absurd (true≢false e))
       (λ _ _ e. absurd (true≢false e)) (λ q l _. (omega arith, λ _. l))
       (λ l _. (omega arith, λ z. absurd (omega arith)))
 
 -- of two items, one comes before the other; none comes before itself
 pub precedes-total : (key : List ℕ) (a b : ℕ) → a ≢ b → precedes key a b ≡ false → precedes key b a ≡ true
 precedes-total key a b n e = let f =
-    not-precedes key a b e in precedes-is key b a f.0 (λ q. let g = f.1 (sym q) in omega arith)
+    not_precedes key a b e in precedes_is key b a f.0 (λ q. let g = f.1 (sym q) in omega arith)
 
-pub precedes-irrefl : (key : List ℕ) (a b : ℕ) → precedes key a b ≡ true → a ≢ b
-precedes-irrefl key a b e q = let f = is-precedes key a b e in omega (arith, f.1 (ap (λ c. get_or key c 0) q))
+pub precedes_irrefl : (key : List ℕ) (a b : ℕ) → precedes key a b ≡ true → a ≢ b
+precedes_irrefl key a b e q = let f = is_precedes key a b e in omega (arith, f.1 (ap (λ c. get_or key c 0) q))
 
 -- the key of a third item does not matter
-pub precedes-other : (key : List ℕ) (x v a b : ℕ) → a ≢ x → b ≢ x → precedes (set key x v) a b ≡ precedes key a b
-precedes-other key x v a b m n =
-    before-keys (keyIn (set key x v)) (keyIn key) a b (get_or-set_other key x a v 0 m) (get_or-set_other key x b v 0 n)
+pub precedes_other : (key : List ℕ) (x v a b : ℕ) → a ≢ x → b ≢ x → precedes (set key x v) a b ≡ precedes key a b
+precedes_other key x v a b m n =
+    before_keys (key_in (set key x v)) (key_in key) a b (get_or-set_other key x a v 0 m) (get_or-set_other key x b v 0 n)
 
 -- the order as one number, for items up to 4096
 unfoldable pub ord : List ℕ → ℕ → ℕ
 ord key x = 4097 * get_or key x 0 + x
 
-pub ord-precedes : (key : List ℕ) (a b : ℕ) → a ≤ 4096 → precedes key a b ≡ true → ord key a < ord key b
+pub ord_precedes : (key : List ℕ) (a b : ℕ) → a ≤ 4096 → precedes key a b ≡ true → ord key a < ord key b
 unfolding ord
-ord-precedes key a b h e = go (eqb (get_or key a 0) (get_or key b 0)) refl (is-precedes key a b e)
+ord_precedes key a b h e = go (eqb (get_or key a 0) (get_or key b 0)) refl (is_precedes key a b e)
   where
     go : (t : Bool) → eqb (get_or key a 0) (get_or key b 0) ≡ t
         → (get_or key a 0 ≤ get_or key b 0) × (get_or key a 0 ≡ get_or key b 0 → a < b)
@@ -121,16 +121,16 @@ ord-precedes key a b h e = go (eqb (get_or key a 0) (get_or key b 0)) refl (is-p
     go false q f = let n : get_or key a 0 ≢ get_or key b 0 =
         eqb-false (get_or key a 0) (get_or key b 0) q in omega (arith, f.0)
 
-pub precedes-ord : (key : List ℕ) (a b : ℕ) → a ≤ 4096 → ord key b ≤ ord key a → precedes key a b ≡ false
-precedes-ord key a b h k = go (precedes key a b) refl
+pub precedes_ord : (key : List ℕ) (a b : ℕ) → a ≤ 4096 → ord key b ≤ ord key a → precedes key a b ≡ false
+precedes_ord key a b h k = go (precedes key a b) refl
   where
     go : (t : Bool) → precedes key a b ≡ t → t ≡ false
-    go true e = absurd (omega (arith, ord-precedes key a b h e))
+    go true e = absurd (omega (arith, ord_precedes key a b h e))
     go false e = refl
 
-pub ord-total : (key : List ℕ) (a b : ℕ) → b ≤ 4096 → precedes key a b ≡ false → ord key b ≤ ord key a
-ord-total key a b h e = go (eqb a b) refl
+pub ord_total : (key : List ℕ) (a b : ℕ) → b ≤ 4096 → precedes key a b ≡ false → ord key b ≤ ord key a
+ord_total key a b h e = go (eqb a b) refl
   where
     go : (t : Bool) → eqb a b ≡ t → ord key b ≤ ord key a
     go true q = rw (eqb-true a b q) (le_refl _)
-    go false q = omega (arith, ord-precedes key b a h (precedes-total key a b (eqb-false a b q) e))
+    go false q = omega (arith, ord_precedes key b a h (precedes-total key a b (eqb-false a b q) e))

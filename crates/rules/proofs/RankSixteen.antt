@@ -7,36 +7,36 @@ use native.Mathlib.Nat.{le_refl, le_trans}
 use native.Mathlib.Omega.{arith}
 use lib.ListN.{length}
 use lib.Dec.{eqb}
-use Rattle.rules.specs.Fibonacci.{R, lastFrom}
-use Rattle.rules.specs.Forests.{Forests, count, rank_of, row_of, tableSize}
+use Rattle.rules.specs.Fibonacci.{R, last_from}
+use Rattle.rules.specs.Forests.{Forests, count, rank_of, row_of, table_size}
 use Rattle.rules.specs.Lists.{occurs, sumBy}
 use Rattle.rules.specs.WellFormed.{Disjoint}
 use Rattle.rules.proofs.Excused.{Formed}
-use Rattle.rules.proofs.Fibonacci.{R-mono}
-use Rattle.rules.proofs.RankBound.{rank-le}
+use Rattle.rules.proofs.Fibonacci.{R_mono}
+use Rattle.rules.proofs.RankBound.{rank_le}
 
-count-le : (l : List ℕ) (h : ℕ) → sumBy (λ x. cond (eqb x (suc h)) 1 0) l ≤ length l
+count_le : (l : List ℕ) (h : ℕ) → sumBy (λ x. cond (eqb x (suc h)) 1 0) l ≤ length l
 unfolding sumBy
-count-le [] h = le_refl 0
-count-le (x ∷ xs) h = go (eqb x (suc h)) (count-le xs h)
+count_le [] h = le_refl 0
+count_le (x ∷ xs) h = go (eqb x (suc h)) (count_le xs h)
   where
     go : (t : Bool) → sumBy (λ x. cond (eqb x (suc h)) 1 0) xs ≤ length xs
         → cond t 1 0 + sumBy (λ x. cond (eqb x (suc h)) 1 0) xs ≤ suc (length xs)
     go true k = omega arith
     go false k = omega arith
 
-R-top : R 4096 ≡ 16
-unfolding R lastFrom
-R-top = refl
+R_top : R 4096 ≡ 16
+unfolding R last_from
+R_top = refl
 
 -- a heap has no more items than the table
-pub count-table : (s : Forests) (h : ℕ) → count s h ≤ tableSize s
+pub count_table : (s : Forests) (h : ℕ) → count s h ≤ table_size s
 unfolding count
-count-table s h = count-le s.heap h
+count_table s h = count_le s.heap h
 
 -- no heap of a table of 4,096 items has an R above 16
-pub R-sixteen : (s : Forests) → Disjoint s → (h : ℕ) → R (count s h) ≤ 16
-R-sixteen s S h = omega (arith, R-mono (count s h) 4096 (le_trans (count-table s h) S.small), R-top)
+pub R_sixteen : (s : Forests) → Disjoint s → (h : ℕ) → R (count s h) ≤ 16
+R_sixteen s S h = omega (arith, R_mono (count s h) 4096 (le_trans (count_table s h) S.small), R_top)
 
-pub root-rank-16 : (s : Forests) → Formed s → (h x : ℕ) → 1 ≤ occurs x (row_of s h) → rank_of s x ≤ 16
-root-rank-16 s S h x k = omega (arith, rank-le s S.disjoint S.ranked h x k, R-sixteen s S.disjoint h)
+pub root_rank_16 : (s : Forests) → Formed s → (h x : ℕ) → 1 ≤ occurs x (row_of s h) → rank_of s x ≤ 16
+root_rank_16 s S h x k = omega (arith, rank_le s S.disjoint S.ranked h x k, R_sixteen s S.disjoint h)

@@ -9,29 +9,29 @@ use lib.Dec.{eqb}
 use borrow.Author.Tests.{eqb-false}
 use Rattle.rules.specs.Lists.{occurs, sumBy}
 use Rattle.rules.specs.Words.{last_or}
-use Rattle.rules.proofs.Occurs.{delta-self, delta-other}
+use Rattle.rules.proofs.Occurs.{delta_self, delta_other}
 
 -- no item twice
 abbrev pub Once : List ℕ → Type 0
 Once l = (z : ℕ) → occurs z l ≤ 1
 
-pub once-tail : (z : ℕ) (zs : List ℕ) → Once (z ∷ zs) → Once zs
+pub once_tail : (z : ℕ) (zs : List ℕ) → Once (z ∷ zs) → Once zs
 unfolding occurs sumBy
-once-tail z zs o y = omega (arith, o y)
+once_tail z zs o y = omega (arith, o y)
 
-pub head-out : (z : ℕ) (zs : List ℕ) → Once (z ∷ zs) → occurs z zs ≡ 0
+pub head_out : (z : ℕ) (zs : List ℕ) → Once (z ∷ zs) → occurs z zs ≡ 0
 unfolding occurs sumBy
-head-out z zs o = omega (arith, o z, delta-self z)
+head_out z zs o = omega (arith, o z, delta_self z)
 
 -- in the tail, where it is not the head
-pub tail-in : (y z : ℕ) (zs : List ℕ) → eqb z y ≡ false → 1 ≤ occurs y (z ∷ zs) → 1 ≤ occurs y zs
+pub tail_in : (y z : ℕ) (zs : List ℕ) → eqb z y ≡ false → 1 ≤ occurs y (z ∷ zs) → 1 ≤ occurs y zs
 unfolding occurs sumBy
-tail-in y z zs e k = omega (arith, delta-other y z (eqb-false z y e))
+tail_in y z zs e k = omega (arith, delta_other y z (eqb-false z y e))
 
-pub last-in : (d : ℕ) (l : List ℕ) → 1 ≤ occurs (last_or d l) (d ∷ l)
+pub last_in : (d : ℕ) (l : List ℕ) → 1 ≤ occurs (last_or d l) (d ∷ l)
 unfolding last_or occurs sumBy
-last-in d [] = omega (arith, delta-self d)
-last-in d (z ∷ zs) = omega (arith, last-in z zs)
+last_in d [] = omega (arith, delta_self d)
+last_in d (z ∷ zs) = omega (arith, last_in z zs)
 
 pub member_apart : (x y : ℕ) (l : List ℕ) → 1 ≤ occurs x l → occurs y l ≡ 0 → x ≢ y
 member_apart x y l k e q = omega (arith, ap (λ z. occurs z l) q)

@@ -4,44 +4,44 @@ use mathlib.Core.Path.{◌≡◌, refl, sym, ap, ◌∙◌}
 use mathlib.Core.List.{List}
 use Rattle.rules.specs.declared.Layout.{Layout}
 use Rattle.rules.specs.declared.Layout.TheVariants.{ByItem}
-use Rattle.rules.specs.Forests.{tableSize}
+use Rattle.rules.specs.Forests.{table_size}
 use Rattle.rules.specs.Queues.{Queues}
 use Rattle.rules.specs.WellFormed.{WellFormed, WellFormedQueues}
-use Rattle.rules.specs.Words.{Sound, SoundIn, decode, encode, encodeIn, lookIn, queuesIn, queuesOf, items_in}
-use Rattle.rules.proofs.DecodeEncode.{decodeEncode, encodeLength}
-use Rattle.rules.proofs.Sizes.{items-in}
+use Rattle.rules.specs.Words.{Sound, SoundIn, decode, encode, encode_in, look_in, queues_in, queues_of, items_in}
+use Rattle.rules.proofs.DecodeEncode.{decode_encode, encode_length}
+use Rattle.rules.proofs.Sizes.{items_in_lem}
 
 module _ (o : Layout) where
-  pub items-encode-in : (q : Queues) → items_in (encodeIn o q) ≡ tableSize q.forests
-  items-encode-in q = items-in (encodeIn o q) (tableSize q.forests) (encodeLength o q)
+  pub items-encode_in : (q : Queues) → items_in (encode_in o q) ≡ table_size q.forests
+  items-encode_in q = items_in_lem (encode_in o q) (table_size q.forests) (encode_length o q)
 
-  -- the words of well-formed queues are theirs again
-  pub queues-encode-in : (q : Queues) → WellFormedQueues q → queuesIn o (encodeIn o q) ≡ q
-  queues-encode-in q W = ap (λ n. decode n (lookIn o n (encodeIn o q))) (items-encode-in q) ∙ decodeEncode o q W
+  -- the words of well_formed queues are theirs again
+  pub queues_encode_in : (q : Queues) → WellFormedQueues q → queues_in o (encode_in o q) ≡ q
+  queues_encode_in q W = ap (λ n. decode n (look_in o n (encode_in o q))) (items-encode_in q) ∙ decode_encode o q W
 
-  pub sound-encode-in : (q : Queues) → WellFormedQueues q → SoundIn o (encodeIn o q)
-  sound-encode-in q W = record { queues = q; wellFormed = W; words = refl }
+  pub sound_encode_in : (q : Queues) → WellFormedQueues q → SoundIn o (encode_in o q)
+  sound_encode_in q W = record { queues = q; well_formed = W; words = refl }
 
 module _ {o : Layout} (w : List ℕ) (S : SoundIn o w) where
-  same-queues : queuesIn o w ≡ S.queues
-  same-queues = ap (queuesIn o) S.words ∙ queues-encode-in o S.queues S.wellFormed
+  same_queues : queues_in o w ≡ S.queues
+  same_queues = ap (queues_in o) S.words ∙ queues_encode_in o S.queues S.well_formed
 
-  -- of sound words the queues are well-formed, and the words are theirs
-  pub sound-queues : WellFormedQueues (queuesIn o w)
-  sound-queues = rw same-queues S.wellFormed
+  -- of sound words the queues are well_formed, and the words are theirs
+  pub sound_queues : WellFormedQueues (queues_in o w)
+  sound_queues = rw same_queues S.well_formed
 
-  pub sound-forests : WellFormed (queuesIn o w).forests
-  sound-forests = sound-queues.forests
+  pub sound_forests : WellFormed (queues_in o w).forests
+  sound_forests = sound_queues.forests
 
-  pub sound-words : w ≡ encodeIn o (queuesIn o w)
-  sound-words = S.words ∙ ap (encodeIn o) (sym same-queues)
+  pub sound_words : w ≡ encode_in o (queues_in o w)
+  sound_words = S.words ∙ ap (encode_in o) (sym same_queues)
 
 -- the same of the order in use
-pub items-encode : (q : Queues) → items_in (encode q) ≡ tableSize q.forests
-items-encode = items-encode-in ByItem
+pub items-encode : (q : Queues) → items_in (encode q) ≡ table_size q.forests
+items-encode = items-encode_in ByItem
 
-pub queues-encode : (q : Queues) → WellFormedQueues q → queuesOf (encode q) ≡ q
-queues-encode = queues-encode-in ByItem
+pub queues_encode : (q : Queues) → WellFormedQueues q → queues_of (encode q) ≡ q
+queues_encode = queues_encode_in ByItem
 
-pub sound-encode : (q : Queues) → WellFormedQueues q → Sound (encode q)
-sound-encode = sound-encode-in ByItem
+pub sound_encode : (q : Queues) → WellFormedQueues q → Sound (encode q)
+sound_encode = sound_encode_in ByItem

@@ -19,16 +19,16 @@ getD-from k (suc n) f zero d h = ap f (omega arith)
 getD-from k (suc n) f (suc i) d h = getD-from (suc k) n f i d (omega arith) ∙ ap f (omega arith)
 
 module _ {ℓ} {A : Type ℓ} where
-  pub length-tabulate : (n : ℕ) (f : ℕ → A) → length (tabulate n f) ≡ n
-  length-tabulate n f = length_from 0 n f
+  pub length_tabulate : (n : ℕ) (f : ℕ → A) → length (tabulate n f) ≡ n
+  length_tabulate n f = length_from 0 n f
 
   pub get_d_tabulate : (n : ℕ) (f : ℕ → A) (i : ℕ) (d : A) → i < n → get_or (tabulate n f) i d ≡ f i
   get_d_tabulate n f i d h = getD-from 0 n f i d h ∙ ap f (omega arith)
 
   -- a list is the table of its elements
-  pub tabulate-is : (d : A) (n : ℕ) (f : ℕ → A) (l : List A) → length l ≡ n → ((i : ℕ) → i < n → f i ≡ get_or l i d)
+  pub tabulate_is : (d : A) (n : ℕ) (f : ℕ → A) (l : List A) → length l ≡ n → ((i : ℕ) → i < n → f i ≡ get_or l i d)
       → tabulate n f ≡ l
-  tabulate-is d n f l e h =
-      ext_get_or d (tabulate n f) l (length-tabulate n f ∙ sym e) (λ i k.
-      let j : i < n = omega (arith, length-tabulate n f) in
+  tabulate_is d n f l e h =
+      ext_get_or d (tabulate n f) l (length_tabulate n f ∙ sym e) (λ i k.
+      let j : i < n = omega (arith, length_tabulate n f) in
       get_d_tabulate n f i d j ∙ h i j)

@@ -3,71 +3,71 @@ use mathlib.Core.Path.{refl}
 use Rattle.rules.specs.Answers.{
   after,
   answer,
-  carriedOver,
+  carried_over,
   is_empty,
   refusal,
   refused,
-  someCarriedOver,
-  unlessRefused,
+  some_carried_over,
+  unless_refused,
 }
 use Rattle.rules.specs.Calls.{
-  decreaseKey,
+  decrease_key,
   extract,
-  hasParent,
+  has_parent,
   insert,
   perform,
   raise,
-  raisedKey,
+  raised_key,
   release,
-  removeRoot,
-  setFree,
+  remove_root,
+  set_free,
 }
-use Rattle.rules.specs.Consolidate.{climb, consolidate, consolidateWithin, isFree, link, linkTrees, occupied}
-use Rattle.rules.specs.Cut.{cascadingCut, cut, cut_if, cutOut, cutWithin, nodeKind}
+use Rattle.rules.specs.Consolidate.{climb, consolidate, consolidate_within, is_free, link, link_trees, occupied}
+use Rattle.rules.specs.Cut.{cascading_cut, cut, cut_if, cut_out, cut_within, node_kind}
 use Rattle.rules.specs.Forests.{count}
-use Rattle.rules.specs.Lists.{setAll, sumBy, tabulateFrom, without}
-use Rattle.rules.specs.Order.{comesBefore, leastIn, leastOf, minimum}
-use Rattle.rules.specs.Queues.{amountsAfter, amountsAfterCall, amountsAfterLine, amountsLeft, keyFrom, keyWord}
+use Rattle.rules.specs.Lists.{set_all, sumBy, tabulateFrom, without}
+use Rattle.rules.specs.Order.{comes_before, least_in, least_of, minimum}
+use Rattle.rules.specs.Queues.{amounts_after, amounts_after_call, amounts_after_line, amounts_left, key_from, key_word}
 use Rattle.rules.specs.Turn.{relaid}
 use Rattle.rules.specs.TurnByHand.{
   TurnWorked,
-  emptyHeapWords,
-  heapsWith,
-  linesTurned,
-  newCut,
-  newWords,
-  oldWords,
+  empty_heap_words,
+  heaps_with,
+  lines_turned,
+  new_cut,
+  new_words,
+  old_words,
 }
 use Rattle.rules.specs.Words.{
-  decodeForests,
-  encodeIn,
+  decode_forests,
+  encode_in,
   follow,
   head_or,
   items_in,
   last_or,
   list_from,
-  nextIn,
-  prevIn,
-  readKey,
+  next_in,
+  prev_in,
+  read_key,
   siblings,
-  stateHeap,
-  stateMark,
+  state_heap,
+  state_mark,
   state_of,
-  storeField,
-  storeFields,
-  storeSize,
-  unlessFree,
+  store_field,
+  store_fields,
+  store_size,
+  unless_free,
   word,
   words_in,
 }
 
-pub turnWorked : TurnWorked
-unfolding linesTurned emptyHeapWords heapsWith newWords oldWords newCut relaid after answer unlessRefused refused
-    refusal carriedOver someCarriedOver is_empty perform raise raisedKey decreaseKey hasParent extract removeRoot
-    setFree release insert consolidate consolidateWithin occupied linkTrees climb isFree link cut_if cutOut cutWithin
-    cascadingCut nodeKind cut minimum leastIn leastOf comesBefore count setAll without sumBy tabulateFrom
-    amountsAfter amountsAfterLine amountsAfterCall amountsLeft keyFrom keyWord encodeIn words_in storeFields
-    storeField storeSize items_in word unlessFree state_of stateHeap stateMark siblings prevIn nextIn last_or head_or
-    decodeForests list_from follow readKey
-turnWorked =
-    record { new = refl; old = refl; turned = refl; back = refl; cutNew = refl; cutOld = refl; kept = refl }
+pub turn_worked : TurnWorked
+unfolding lines_turned empty_heap_words heaps_with new_words old_words new_cut relaid after answer unless_refused refused
+    refusal carried_over some_carried_over is_empty perform raise raised_key decrease_key has_parent extract remove_root
+    set_free release insert consolidate consolidate_within occupied link_trees climb is_free link cut_if cut_out cut_within
+    cascading_cut node_kind cut minimum least_in least_of comes_before count set_all without sumBy tabulateFrom
+    amounts_after amounts_after_line amounts_after_call amounts_left key_from key_word encode_in words_in store_fields
+    store_field store_size items_in word unless_free state_of state_heap state_mark siblings prev_in next_in last_or head_or
+    decode_forests list_from follow read_key
+turn_worked =
+    record { new = refl; old = refl; turned = refl; back = refl; cut_new = refl; cut_old = refl; kept = refl }

@@ -12,54 +12,54 @@ use Rattle.rules.specs.declared.Layout.TheVariants.{ByKind}
 use Rattle.rules.specs.declared.Line.{Line}
 use Rattle.rules.specs.declared.Line.TheVariants.{NoCall, Yields}
 use Rattle.rules.specs.Answers.{after, answer, refusal}
-use Rattle.rules.specs.Forests.{Forests, count, heapNumber}
-use Rattle.rules.specs.Queues.{amountsAfter, amountsAfterCall, amountsAfterLine, amountsLeft}
-use Rattle.rules.specs.Unraised.{KeepsUnraised, UnraisedRun, WithoutRaise, isRaise}
-use Rattle.rules.specs.Words.{encodeIn}
-use Rattle.rules.proofs.Answers.{after-well-formed}
-use Rattle.rules.proofs.UnraisedWords.{unraisedWords, zero-at}
+use Rattle.rules.specs.Forests.{Forests, count, heap_number}
+use Rattle.rules.specs.Queues.{amounts_after, amounts_after_call, amounts_after_line, amounts_left}
+use Rattle.rules.specs.Unraised.{KeepsUnraised, UnraisedRun, WithoutRaise, is_raise}
+use Rattle.rules.specs.Words.{encode_in}
+use Rattle.rules.proofs.Answers.{after_well_formed}
+use Rattle.rules.proofs.UnraisedWords.{unraised_words, zero_at}
 
 abbrev zeros : List ℕ
 zeros = replicate 8 0
 
-set-zero : (h : ℕ) → set zeros h 0 ≡ zeros
-set-zero h = ap (set zeros h) (sym (zero-at 8 h)) ∙ set-get_or zeros h 0
+set_zero : (h : ℕ) → set zeros h 0 ≡ zeros
+set_zero h = ap (set zeros h) (sym (zero_at 8 h)) ∙ set-get_or zeros h 0
 
-left-zero : (s : Forests) (h : ℕ) → amountsLeft s h zeros ≡ zeros
-unfolding amountsLeft
-left-zero s h = go (eqb (count s h) 1)
+left_zero : (s : Forests) (h : ℕ) → amounts_left s h zeros ≡ zeros
+unfolding amounts_left
+left_zero s h = go (eqb (count s h) 1)
   where
     go : (b : Bool) → cond b (set zeros h 0) zeros ≡ zeros
-    go true = set-zero h
+    go true = set_zero h
     go false = refl
 
-line-zero : (s : Forests) (l : Line) → isRaise l ≡ false → amountsAfterLine s l zeros ≡ zeros
-unfolding amountsAfterLine amountsAfterCall isRaise
-line-zero s NoCall e = refl
-line-zero s (Yields c) e = go (eqb (refusal s c) 0) (call c e)
+line_zero : (s : Forests) (l : Line) → is_raise l ≡ false → amounts_after_line s l zeros ≡ zeros
+unfolding amounts_after_line amounts_after_call is_raise
+line_zero s NoCall e = refl
+line_zero s (Yields c) e = go (eqb (refusal s c) 0) (call c e)
   where
-    call : (c : Call) → isRaise (Yields c) ≡ false → amountsAfterCall s c zeros ≡ zeros
+    call : (c : Call) → is_raise (Yields c) ≡ false → amounts_after_call s c zeros ≡ zeros
     call (Insert h i k) e = refl
     call (FindMin h) e = refl
-    call (ExtractMin h) e = left-zero s h
+    call (ExtractMin h) e = left_zero s h
     call (DecreaseKey i k) e = refl
-    call (Delete i) e = left-zero s (heapNumber s i)
-    call (Meld a b) e = set-zero b
+    call (Delete i) e = left_zero s (heap_number s i)
+    call (Meld a b) e = set_zero b
     call (Raise h d) e = absurd (true≢false e)
 
-    go : (b : Bool) → amountsAfterCall s c zeros ≡ zeros → cond b (amountsAfterCall s c zeros) zeros ≡ zeros
+    go : (b : Bool) → amounts_after_call s c zeros ≡ zeros → cond b (amounts_after_call s c zeros) zeros ≡ zeros
     go true q = q
     go false q = refl
 
-lines-zero : (s : Forests) (ls : List Line) → WithoutRaise ls → amountsAfter s ls zeros ≡ zeros
-unfolding amountsAfter
-lines-zero s [] r = refl
-lines-zero s (l ∷ ls) r =
-    ap (amountsAfter (answer s l).next ls) (line-zero s l r.0) ∙ lines-zero (answer s l).next ls r.1
+lines_zero : (s : Forests) (ls : List Line) → WithoutRaise ls → amounts_after s ls zeros ≡ zeros
+unfolding amounts_after
+lines_zero s [] r = refl
+lines_zero s (l ∷ ls) r =
+    ap (amounts_after (answer s l).next ls) (line_zero s l r.0) ∙ lines_zero (answer s l).next ls r.1
 
-pub keepsUnraised : KeepsUnraised
-keepsUnraised s ls r = ap (λ l. record { forests = after s ls; amounts = l }) (lines-zero s ls r)
+pub keeps_unraised : KeepsUnraised
+keeps_unraised s ls r = ap (λ l. record { forests = after s ls; amounts = l }) (lines_zero s ls r)
 
-pub unraisedRun : UnraisedRun
-unraisedRun s W ls f r =
-    ap (encodeIn ByKind) (keepsUnraised s ls r) ∙ unraisedWords.words (after s ls) (after-well-formed s W ls f)
+pub unraised_run : UnraisedRun
+unraised_run s W ls f r =
+    ap (encode_in ByKind) (keeps_unraised s ls r) ∙ unraised_words.words (after s ls) (after_well_formed s W ls f)

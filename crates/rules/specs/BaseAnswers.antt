@@ -6,48 +6,48 @@ use Rattle.rules.specs.declared.Call.TheVariants.{Insert, FindMin, ExtractMin, D
 use Rattle.rules.specs.declared.Line.{Line}
 use Rattle.rules.specs.declared.Line.TheVariants.{Yields, NoCall}
 use Rattle.rules.specs.declared.Answer.{Answer}
-use Rattle.rules.specs.Forests.{Forests, row_of, key_of, heapOf, tableSize, count}
+use Rattle.rules.specs.Forests.{Forests, row_of, key_of, heap_of, table_size, count}
 use Rattle.rules.specs.Order.{minimum}
-use Rattle.rules.specs.Calls.{Outcome, done, insert, extract, decreaseKey, delete, meld}
+use Rattle.rules.specs.Calls.{Outcome, done, insert, extract, decrease_key, delete, meld}
 use Rattle.rules.specs.Answers.{is_empty, refused, answers, after}
 use Rattle.rules.specs.Unraised.{WithoutRaise}
 
-unfoldable pub baseRefusal : Forests → Call → ℕ
-baseRefusal s (Insert h i k) = cond (ltb 7 h) 7 (cond (leb (tableSize s) i) 8 (cond (eqb (heapOf s i) 0) 0 9))
-baseRefusal s (FindMin h) = cond (ltb 7 h) 7 (cond (is_empty (row_of s h)) 12 0)
-baseRefusal s (ExtractMin h) = cond (ltb 7 h) 7 (cond (is_empty (row_of s h)) 12 0)
-baseRefusal s (DecreaseKey i k) =
-    cond (leb (tableSize s) i) 8 (cond (eqb (heapOf s i) 0) 10 (cond (ltb (key_of s i) k) 11 0))
-baseRefusal s (Delete i) = cond (leb (tableSize s) i) 8 (cond (eqb (heapOf s i) 0) 10 0)
-baseRefusal s (Meld a b) = cond (ltb 7 a || ltb 7 b) 7 (cond (eqb a b) 13 0)
-baseRefusal s (Raise h d) = 6
+unfoldable pub base_refusal : Forests → Call → ℕ
+base_refusal s (Insert h i k) = cond (ltb 7 h) 7 (cond (leb (table_size s) i) 8 (cond (eqb (heap_of s i) 0) 0 9))
+base_refusal s (FindMin h) = cond (ltb 7 h) 7 (cond (is_empty (row_of s h)) 12 0)
+base_refusal s (ExtractMin h) = cond (ltb 7 h) 7 (cond (is_empty (row_of s h)) 12 0)
+base_refusal s (DecreaseKey i k) =
+    cond (leb (table_size s) i) 8 (cond (eqb (heap_of s i) 0) 10 (cond (ltb (key_of s i) k) 11 0))
+base_refusal s (Delete i) = cond (leb (table_size s) i) 8 (cond (eqb (heap_of s i) 0) 10 0)
+base_refusal s (Meld a b) = cond (ltb 7 a || ltb 7 b) 7 (cond (eqb a b) 13 0)
+base_refusal s (Raise h d) = 6
 
-unfoldable pub basePerform : Forests → Call → Outcome
-basePerform s (Insert h i k) = done i k 0 0 (insert h i k s)
-basePerform s (FindMin h) = done (minimum s h) (key_of s (minimum s h)) 0 0 s
-basePerform s (ExtractMin h) = extract h (minimum s h) s
-basePerform s (DecreaseKey i k) = decreaseKey i k s
-basePerform s (Delete i) = delete i s
-basePerform s (Meld a b) = done a (count s a + count s b) 0 0 (meld a b s)
-basePerform s (Raise h d) = refused 6 s
+unfoldable pub base_perform : Forests → Call → Outcome
+base_perform s (Insert h i k) = done i k 0 0 (insert h i k s)
+base_perform s (FindMin h) = done (minimum s h) (key_of s (minimum s h)) 0 0 s
+base_perform s (ExtractMin h) = extract h (minimum s h) s
+base_perform s (DecreaseKey i k) = decrease_key i k s
+base_perform s (Delete i) = delete i s
+base_perform s (Meld a b) = done a (count s a + count s b) 0 0 (meld a b s)
+base_perform s (Raise h d) = refused 6 s
 
-unfoldable pub baseUnlessRefused : ℕ → Forests → Call → Outcome
-baseUnlessRefused zero s c = basePerform s c
-baseUnlessRefused (suc code) s c = refused (suc code) s
+unfoldable pub base_unless_refused : ℕ → Forests → Call → Outcome
+base_unless_refused zero s c = base_perform s c
+base_unless_refused (suc code) s c = refused (suc code) s
 
-unfoldable pub baseAnswer : Forests → Line → Outcome
-baseAnswer s (Yields c) = baseUnlessRefused (baseRefusal s c) s c
-baseAnswer s NoCall = refused 6 s
+unfoldable pub base_answer : Forests → Line → Outcome
+base_answer s (Yields c) = base_unless_refused (base_refusal s c) s c
+base_answer s NoCall = refused 6 s
 
-unfoldable pub baseAnswers : Forests → List Line → List Answer
-baseAnswers s [] = []
-baseAnswers s (l ∷ ls) = (baseAnswer s l).reply ∷ baseAnswers (baseAnswer s l).next ls
+unfoldable pub base_answers : Forests → List Line → List Answer
+base_answers s [] = []
+base_answers s (l ∷ ls) = (base_answer s l).reply ∷ base_answers (base_answer s l).next ls
 
-unfoldable pub baseAfter : Forests → List Line → Forests
-baseAfter s [] = s
-baseAfter s (l ∷ ls) = baseAfter (baseAnswer s l).next ls
+unfoldable pub base_after : Forests → List Line → Forests
+base_after s [] = s
+base_after s (l ∷ ls) = base_after (base_answer s l).next ls
 
 abbrev pub SameAsBase : Type 0
 SameAsBase =
     (s : Forests) (ls : List Line) → WithoutRaise ls
-    → (answers s ls ≡ baseAnswers s ls) × (after s ls ≡ baseAfter s ls)
+    → (answers s ls ≡ base_answers s ls) × (after s ls ≡ base_after s ls)

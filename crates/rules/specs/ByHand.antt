@@ -4,126 +4,126 @@ use Rattle.std.specs.Prelude.{◌≡◌, List, [], ◌∷◌, ◌++◌, map}
 use Rattle.rules.specs.declared.Call.TheVariants.{Insert, FindMin, ExtractMin, DecreaseKey, Delete, Meld}
 use Rattle.rules.specs.declared.Line.{Line}
 use Rattle.rules.specs.declared.Line.TheVariants.{Yields}
-use Rattle.rules.specs.WorkedRow.{Worked, rank, run, byRules, sees, reply}
-use Rattle.rules.specs.RaisesByHand.{raiseRows}
+use Rattle.rules.specs.WorkedRow.{Worked, rank, run, by_rules, sees, reply}
+use Rattle.rules.specs.RaisesByHand.{raise_rows}
 
 -- ---- the paper's runs
 
-unfoldable pub linesB : List Line
-linesB =
+unfoldable pub lines_b : List Line
+lines_b =
     Yields (Insert 0 0 5) ∷ Yields (Insert 0 1 3) ∷ Yields (Insert 0 2 8) ∷ Yields (Insert 0 3 1)
     ∷ Yields (ExtractMin 0) ∷ []
 
-unfoldable pub runB : Worked
-runB = run linesB (sees (reply 0 3 1 1 0) (2 ∷ 1 ∷ []) ((1, 0 ∷ []) ∷ []) [] 2 1 6)
+unfoldable pub run_b : Worked
+run_b = run lines_b (sees (reply 0 3 1 1 0) (2 ∷ 1 ∷ []) ((1, 0 ∷ []) ∷ []) [] 2 1 6)
 
 unfoldable pub run_c : Worked
 run_c =
-    run (linesB ++ Yields (DecreaseKey 0 4) ∷ [])
+    run (lines_b ++ Yields (DecreaseKey 0 4) ∷ [])
     (sees (reply 0 0 4 0 0) (2 ∷ 1 ∷ []) ((1, 0 ∷ []) ∷ []) [] 2 1 10)
 
-unfoldable pub runD : Worked
-runD = run (linesB ++ Yields (DecreaseKey 0 3) ∷ []) (sees (reply 0 0 3 0 1) (2 ∷ 1 ∷ 0 ∷ []) [] [] 3 2 10)
+unfoldable pub run_d : Worked
+run_d = run (lines_b ++ Yields (DecreaseKey 0 3) ∷ []) (sees (reply 0 0 3 0 1) (2 ∷ 1 ∷ 0 ∷ []) [] [] 3 2 10)
 
-unfoldable pub linesE : List Line
-linesE =
+unfoldable pub lines_e : List Line
+lines_e =
     Yields (Insert 0 0 0) ∷ Yields (Insert 0 1 10) ∷ Yields (Insert 0 2 20) ∷ Yields (Insert 0 3 30)
     ∷ Yields (Insert 0 4 40) ∷ Yields (Insert 0 5 50) ∷ Yields (Insert 0 6 60) ∷ Yields (Insert 0 7 70)
     ∷ Yields (Insert 0 8 80) ∷ Yields (ExtractMin 0) ∷ []
 
-unfoldable pub runE : Worked
-runE =
-    run linesE
+unfoldable pub run_e : Worked
+run_e =
+    run lines_e
     (sees (reply 0 0 0 7 0) (1 ∷ []) ((1, 2 ∷ 3 ∷ 5 ∷ []) ∷ (3, 4 ∷ []) ∷ (5, 6 ∷ 7 ∷ []) ∷ (7, 8 ∷ []) ∷ [])
     [] 1 7 13)
 
 -- (f) after its first call, its second and its third
-unfoldable pub linesF1 : List Line
-linesF1 = linesE ++ Yields (DecreaseKey 8 5) ∷ []
+unfoldable pub lines_f1 : List Line
+lines_f1 = lines_e ++ Yields (DecreaseKey 8 5) ∷ []
 
-unfoldable pub runF1 : Worked
-runF1 =
-    run linesF1
+unfoldable pub run_f1 : Worked
+run_f1 =
+    run lines_f1
     (sees (reply 0 8 5 0 1) (1 ∷ 8 ∷ []) ((1, 2 ∷ 3 ∷ 5 ∷ []) ∷ (3, 4 ∷ []) ∷ (5, 6 ∷ 7 ∷ []) ∷ []) (7 ∷ []) 4 8 17)
 
-unfoldable pub linesF2 : List Line
-linesF2 = linesF1 ++ Yields (DecreaseKey 6 4) ∷ []
+unfoldable pub lines_f2 : List Line
+lines_f2 = lines_f1 ++ Yields (DecreaseKey 6 4) ∷ []
 
-unfoldable pub runF2 : Worked
-runF2 =
-    run linesF2
+unfoldable pub run_f2 : Worked
+run_f2 =
+    run lines_f2
     (sees (reply 0 6 4 0 1) (1 ∷ 8 ∷ 6 ∷ []) ((1, 2 ∷ 3 ∷ 5 ∷ []) ∷ (3, 4 ∷ []) ∷ (5, 7 ∷ []) ∷ []) (5 ∷ 7 ∷ [])
     7 9 21)
 
-unfoldable pub linesF : List Line
-linesF = linesF2 ++ Yields (DecreaseKey 7 3) ∷ []
+unfoldable pub lines_f : List Line
+lines_f = lines_f2 ++ Yields (DecreaseKey 7 3) ∷ []
 
-unfoldable pub runF : Worked
-runF =
-    run linesF
+unfoldable pub run_f : Worked
+run_f =
+    run lines_f
     (sees (reply 0 7 3 0 2) (1 ∷ 8 ∷ 6 ∷ 7 ∷ 5 ∷ []) ((1, 2 ∷ 3 ∷ []) ∷ (3, 4 ∷ []) ∷ []) [] 5 11 25)
 
-unfoldable pub linesG : List Line
-linesG = linesF ++ Yields (Delete 3) ∷ []
+unfoldable pub lines_g : List Line
+lines_g = lines_f ++ Yields (Delete 3) ∷ []
 
-unfoldable pub runG : Worked
-runG = run linesG (sees (reply 0 3 30 0 1) (1 ∷ 8 ∷ 6 ∷ 7 ∷ 5 ∷ 4 ∷ []) ((1, 2 ∷ []) ∷ []) [] 6 12 32)
+unfoldable pub run_g : Worked
+run_g = run lines_g (sees (reply 0 3 30 0 1) (1 ∷ 8 ∷ 6 ∷ 7 ∷ 5 ∷ 4 ∷ []) ((1, 2 ∷ []) ∷ []) [] 6 12 32)
 
-unfoldable pub runH : Worked
-runH =
-    run (linesG ++ Yields (ExtractMin 0) ∷ [])
+unfoldable pub run_h : Worked
+run_h =
+    run (lines_g ++ Yields (ExtractMin 0) ∷ [])
     (sees (reply 0 7 3 3 0) (4 ∷ 6 ∷ []) ((1, 2 ∷ []) ∷ (4, 5 ∷ []) ∷ (6, 8 ∷ 1 ∷ []) ∷ []) [] 2 15 35)
 
 -- ---- what the paper's runs do not reach
 
 -- Of two equal keys the lower item is taken, wherever it stands in the row.
-unfoldable pub runTie : Worked
-runTie =
+unfoldable pub run_tie : Worked
+run_tie =
     run (Yields (Insert 0 2 5) ∷ Yields (Insert 0 1 5) ∷ Yields (ExtractMin 0) ∷ [])
     (sees (reply 0 1 5 0 0) (2 ∷ []) [] [] 1 0 3)
 
 -- The marked item 5 is released by a deletion and loses its mark; 7 below it keeps its own.
-unfoldable pub runRelease : Worked
-runRelease =
-    run (linesF2 ++ Yields (Delete 1) ∷ [])
+unfoldable pub run_release : Worked
+run_release =
+    run (lines_f2 ++ Yields (Delete 1) ∷ [])
     (sees (reply 0 1 10 0 0) (8 ∷ 6 ∷ 2 ∷ 3 ∷ 5 ∷ []) ((3, 4 ∷ []) ∷ (5, 7 ∷ []) ∷ []) (7 ∷ []) 7 9 28)
 
 -- Items 0 and 1 in heap 0, and in heap 1 item 3 with 4 below it; then J,0,1. It answers heap 0 and its four items, and
 -- 3 stands after 0 and 1.
-unfoldable pub linesJ : List Line
-linesJ =
+unfoldable pub lines_j : List Line
+lines_j =
     Yields (Insert 0 0 6) ∷ Yields (Insert 0 1 4) ∷ Yields (Insert 1 2 1) ∷ Yields (Insert 1 3 3)
     ∷ Yields (Insert 1 4 5) ∷ Yields (ExtractMin 1) ∷ Yields (Meld 0 1) ∷ []
 
-unfoldable pub runJ : Worked
-runJ = run linesJ (sees (reply 0 0 4 0 0) (0 ∷ 1 ∷ 3 ∷ []) ((3, 4 ∷ []) ∷ []) [] 3 1 7)
+unfoldable pub run_j : Worked
+run_j = run lines_j (sees (reply 0 0 4 0 0) (0 ∷ 1 ∷ 3 ∷ []) ((3, 4 ∷ []) ∷ []) [] 3 1 7)
 
 -- M: the minimum of heap 0 came from heap 1, which is now empty (12).
 unfoldable pub run_m : Worked
 run_m =
-    run (linesJ ++ Yields (FindMin 0) ∷ []) (sees (reply 0 3 3 0 0) (0 ∷ 1 ∷ 3 ∷ []) ((3, 4 ∷ []) ∷ []) [] 3 1 7)
+    run (lines_j ++ Yields (FindMin 0) ∷ []) (sees (reply 0 3 3 0 0) (0 ∷ 1 ∷ 3 ∷ []) ((3, 4 ∷ []) ∷ []) [] 3 1 7)
 
-unfoldable pub runEmptied : Worked
-runEmptied =
-    run (linesJ ++ Yields (FindMin 1) ∷ []) (sees (reply 12 0 0 0 0) (0 ∷ 1 ∷ 3 ∷ []) ((3, 4 ∷ []) ∷ []) [] 3 1 7)
+unfoldable pub run_emptied : Worked
+run_emptied =
+    run (lines_j ++ Yields (FindMin 1) ∷ []) (sees (reply 12 0 0 0 0) (0 ∷ 1 ∷ 3 ∷ []) ((3, 4 ∷ []) ∷ []) [] 3 1 7)
 
 -- What was below 3 in heap 1 is an item of heap 0: a cut takes it to that row.
-unfoldable pub runMoved : Worked
-runMoved =
-    run (linesJ ++ Yields (DecreaseKey 4 2) ∷ [])
+unfoldable pub run_moved : Worked
+run_moved =
+    run (lines_j ++ Yields (DecreaseKey 4 2) ∷ [])
     (sees (reply 0 4 2 0 1) (0 ∷ 1 ∷ 3 ∷ 4 ∷ []) [] [] 4 2 11)
 
 -- Heap 1 is used and joined again: item 5 comes last, and the minimum is the one that heap 0 had.
-unfoldable pub runJoinAgain : Worked
-runJoinAgain =
-    run (linesJ ++ Yields (Insert 1 5 8) ∷ Yields (Meld 0 1) ∷ Yields (FindMin 0) ∷ [])
+unfoldable pub run_join_again : Worked
+run_join_again =
+    run (lines_j ++ Yields (Insert 1 5 8) ∷ Yields (Meld 0 1) ∷ Yields (FindMin 0) ∷ [])
     (sees (reply 0 3 3 0 0) (0 ∷ 1 ∷ 3 ∷ 5 ∷ []) ((3, 4 ∷ []) ∷ []) [] 4 1 8)
 
-unfoldable pub workedTable : List Worked
-workedTable =
+unfoldable pub worked_table : List Worked
+worked_table =
     rank 1 0 ∷ rank 2 1 ∷ rank 3 2 ∷ rank 4 2 ∷ rank 5 3 ∷ rank 8 4
-    ∷ runB ∷ run_c ∷ runD ∷ runE ∷ runF1 ∷ runF2 ∷ runF ∷ runG ∷ runH ∷ runTie ∷ runRelease
-    ∷ runJ ∷ run_m ∷ runEmptied ∷ runMoved ∷ runJoinAgain ∷ raiseRows
+    ∷ run_b ∷ run_c ∷ run_d ∷ run_e ∷ run_f1 ∷ run_f2 ∷ run_f ∷ run_g ∷ run_h ∷ run_tie ∷ run_release
+    ∷ run_j ∷ run_m ∷ run_emptied ∷ run_moved ∷ run_join_again ∷ raise_rows
 
 abbrev pub WorkedRuns : Type 0
-WorkedRuns = map byRules workedTable ≡ workedTable
+WorkedRuns = map by_rules worked_table ≡ worked_table

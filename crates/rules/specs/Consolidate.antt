@@ -4,18 +4,18 @@ use Rattle.rules.specs.Forests.{
   Forests,
   none,
   row_of,
-  childrenOf,
+  children_of,
   rank_of,
   set_row,
-  setChildren,
-  setParent,
-  setMark,
+  set_children,
+  set_parent,
+  set_mark,
 }
 use Rattle.rules.specs.Order.{precedes}
 
 -- The root l becomes the last child of the root w, unmarked.
 unfoldable pub link : ℕ → ℕ → Forests → Forests
-link w l s = setChildren w (childrenOf s w ++ (l ∷ [])) (setMark l 0 (setParent l w s))
+link w l s = set_children w (children_of s w ++ (l ∷ [])) (set_mark l 0 (set_parent l w s))
 
 -- the tree at each place (`none`: it is free), the links made, and the forests they leave
 pub record Linking : Type 0 where
@@ -27,8 +27,8 @@ pub record Linking : Type 0 where
 abbrev pub holder : List ℕ → ℕ → ℕ
 holder places r = get_or places r none
 
-unfoldable pub isFree : List ℕ → ℕ → Bool
-isFree places r = eqb (holder places r) none
+unfoldable pub is_free : List ℕ → ℕ → Bool
+is_free places r = eqb (holder places r) none
 
 -- of two roots y and x, by their keys: the one that comes first, and the other
 abbrev pub winner : List ℕ → ℕ → ℕ → ℕ
@@ -55,25 +55,25 @@ climb zero free r x w = w
 climb (suc d) true r x w = record { places = set w.places r x; links = w.links; forests = w.forests }
 climb (suc d) false r x w =
     let v = link_at r x w in
-    climb d (isFree v.places (suc r)) (suc r) (winner w.forests.key (holder w.places r) x) v
+    climb d (is_free v.places (suc r)) (suc r) (winner w.forests.key (holder w.places r) x) v
 
 -- one step for each tree, left to right
-unfoldable pub linkTrees : ℕ → List ℕ → Linking → Linking
-linkTrees d [] w = w
-linkTrees d (x ∷ xs) w =
+unfoldable pub link_trees : ℕ → List ℕ → Linking → Linking
+link_trees d [] w = w
+link_trees d (x ∷ xs) w =
     let r = rank_of w.forests x in
-    linkTrees d xs (climb d (isFree w.places r) r x w)
+    link_trees d xs (climb d (is_free w.places r) r x w)
 
 -- the trees at rest, by ascending rank
 unfoldable pub occupied : List ℕ → List ℕ
 occupied [] = []
 occupied (x ∷ xs) = cond (eqb x none) (occupied xs) (x ∷ occupied xs)
 
-unfoldable pub consolidateWithin : ℕ → ℕ → Forests → Linking
-consolidateWithin d h s =
+unfoldable pub consolidate_within : ℕ → ℕ → Forests → Linking
+consolidate_within d h s =
     let start : Linking = record { places = replicate 17 none; links = 0; forests = s } in
-    let w = linkTrees d (row_of s h) start in
+    let w = link_trees d (row_of s h) start in
     record { places = w.places; links = w.links; forests = set_row h (occupied w.places) w.forests }
 
 unfoldable pub consolidate : ℕ → Forests → Linking
-consolidate h s = consolidateWithin 18 h s
+consolidate h s = consolidate_within 18 h s

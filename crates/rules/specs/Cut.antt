@@ -5,21 +5,21 @@ use Rattle.rules.specs.Forests.{
   Forests,
   none,
   row_of,
-  childrenOf,
+  children_of,
   parent_of,
   mark_of,
-  tableSize,
+  table_size,
   set_row,
-  setChildren,
-  setParent,
-  setMark,
+  set_children,
+  set_parent,
+  set_mark,
 }
 
 -- One cut: the tree x leaves its parent, whose rank falls by 1, and goes unmarked to the end of row h.
 unfoldable pub cut : ℕ → ℕ → Forests → Forests
 cut h x s =
     let p = parent_of s x in
-    set_row h (row_of s h ++ (x ∷ [])) (setMark x 0 (setParent x none (setChildren p (without x (childrenOf s p)) s)))
+    set_row h (row_of s h ++ (x ∷ [])) (set_mark x 0 (set_parent x none (set_children p (without x (children_of s p)) s)))
 
 -- What a parent that lost a child is.
 pub data NodeKind : Type 0 where
@@ -27,8 +27,8 @@ pub data NodeKind : Type 0 where
   unmarked : NodeKind
   marked : NodeKind
 
-unfoldable pub nodeKind : Forests → ℕ → NodeKind
-nodeKind s p = cond (eqb (parent_of s p) none) root (cond (eqb (mark_of s p) 0) unmarked marked)
+unfoldable pub node_kind : Forests → ℕ → NodeKind
+node_kind s p = cond (eqb (parent_of s p) none) root (cond (eqb (mark_of s p) 0) unmarked marked)
 
 -- the cuts made, and the forests they leave
 pub record Cuts : Type 0 where
@@ -37,27 +37,27 @@ pub record Cuts : Type 0 where
 
 -- The item p lost a child: a root stays as it is, an unmarked child is marked, a marked one is cut likewise.
 -- The first argument bounds the cuts; `CascadeBound` says that it changes nothing.
-unfoldable pub cascadingCut : ℕ → NodeKind → ℕ → ℕ → Forests → Cuts
-cascadingCut zero st h p s = record { cuts = 0; forests = s }
-cascadingCut (suc d) root h p s = record { cuts = 0; forests = s }
-cascadingCut (suc d) unmarked h p s = record { cuts = 0; forests = setMark p 1 s }
-cascadingCut (suc d) marked h p s =
+unfoldable pub cascading_cut : ℕ → NodeKind → ℕ → ℕ → Forests → Cuts
+cascading_cut zero st h p s = record { cuts = 0; forests = s }
+cascading_cut (suc d) root h p s = record { cuts = 0; forests = s }
+cascading_cut (suc d) unmarked h p s = record { cuts = 0; forests = set_mark p 1 s }
+cascading_cut (suc d) marked h p s =
     let cutFree = cut h p s in
     let above = parent_of s p in
-    let further = cascadingCut d (nodeKind cutFree above) h above cutFree in
+    let further = cascading_cut d (node_kind cutFree above) h above cutFree in
     record { cuts = suc further.cuts; forests = further.forests }
 
 -- x is cut, and its parent is then treated as one that lost a child.
-unfoldable pub cutWithin : ℕ → ℕ → ℕ → Forests → Cuts
-cutWithin d h x s =
+unfoldable pub cut_within : ℕ → ℕ → ℕ → Forests → Cuts
+cut_within d h x s =
     let cutFree = cut h x s in
     let above = parent_of s x in
-    let further = cascadingCut d (nodeKind cutFree above) h above cutFree in
+    let further = cascading_cut d (node_kind cutFree above) h above cutFree in
     record { cuts = suc further.cuts; forests = further.forests }
 
-unfoldable pub cutOut : ℕ → ℕ → Forests → Cuts
-cutOut h x s = cutWithin (suc (tableSize s)) h x s
+unfoldable pub cut_out : ℕ → ℕ → Forests → Cuts
+cut_out h x s = cut_within (suc (table_size s)) h x s
 
 unfoldable pub cut_if : Bool → ℕ → ℕ → Forests → Cuts
-cut_if true h x s = cutOut h x s
+cut_if true h x s = cut_out h x s
 cut_if false h x s = record { cuts = 0; forests = s }

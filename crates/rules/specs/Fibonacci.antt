@@ -10,10 +10,10 @@ unfoldable pub F : ℕ → ℕ
 F n = (fibonacci n).0
 
 -- From k on, with a = F (k + 2) and b = F (k + 3): the last k with F (k + 2) ≤ n, looking at most d further.
-unfoldable pub lastFrom : ℕ → ℕ → ℕ → ℕ → ℕ → ℕ
-lastFrom zero k a b n = k
-lastFrom (suc d) k a b n = elim (leb b n) [ true ↦ lastFrom d (suc k) b (a + b) n | false ↦ k ]
+unfoldable pub last_from : ℕ → ℕ → ℕ → ℕ → ℕ → ℕ
+last_from zero k a b n = k
+last_from (suc d) k a b n = elim (leb b n) [ true ↦ last_from d (suc k) b (a + b) n | false ↦ k ]
 
 -- R(n), the largest k with F(k + 2) ≤ n: `RLargest` says so.
 unfoldable pub R : ℕ → ℕ
-R n = lastFrom n 0 1 2 n
+R n = last_from n 0 1 2 n

@@ -23,8 +23,8 @@ none = 4294967295
 abbrev pub row_of : Forests → ℕ → List ℕ
 row_of s h = get_or s.rows h []
 
-abbrev pub childrenOf : Forests → ℕ → List ℕ
-childrenOf s i = get_or s.children i []
+abbrev pub children_of : Forests → ℕ → List ℕ
+children_of s i = get_or s.children i []
 
 abbrev pub parent_of : Forests → ℕ → ℕ
 parent_of s i = get_or s.parent i 0
@@ -35,20 +35,20 @@ key_of s i = get_or s.key i 0
 abbrev pub mark_of : Forests → ℕ → ℕ
 mark_of s i = get_or s.mark i 0
 
-abbrev pub heapOf : Forests → ℕ → ℕ
-heapOf s i = get_or s.heap i 0
+abbrev pub heap_of : Forests → ℕ → ℕ
+heap_of s i = get_or s.heap i 0
 
 -- the number of the heap that an item is in
-abbrev pub heapNumber : Forests → ℕ → ℕ
-heapNumber s i = heapOf s i - 1
+abbrev pub heap_number : Forests → ℕ → ℕ
+heap_number s i = heap_of s i - 1
 
 -- the rank is the number of children
 abbrev pub rank_of : Forests → ℕ → ℕ
-rank_of s i = length (childrenOf s i)
+rank_of s i = length (children_of s i)
 
 -- N, the number of items in the table
-abbrev pub tableSize : Forests → ℕ
-tableSize s = length s.heap
+abbrev pub table_size : Forests → ℕ
+table_size s = length s.heap
 
 -- eight empty heaps over n free items
 abbrev pub empty : ℕ → Forests
@@ -74,8 +74,8 @@ set_row h r s =
       heap = s.heap;
     }
 
-abbrev pub setChildren : ℕ → List ℕ → Forests → Forests
-setChildren i c s =
+abbrev pub set_children : ℕ → List ℕ → Forests → Forests
+set_children i c s =
     record {
       rows = s.rows;
       children = set s.children i c;
@@ -85,8 +85,8 @@ setChildren i c s =
       heap = s.heap;
     }
 
-abbrev pub setParent : ℕ → ℕ → Forests → Forests
-setParent i p s =
+abbrev pub set_parent : ℕ → ℕ → Forests → Forests
+set_parent i p s =
     record {
       rows = s.rows;
       children = s.children;
@@ -96,8 +96,8 @@ setParent i p s =
       heap = s.heap;
     }
 
-abbrev pub setKey : ℕ → ℕ → Forests → Forests
-setKey i k s =
+abbrev pub set_key : ℕ → ℕ → Forests → Forests
+set_key i k s =
     record {
       rows = s.rows;
       children = s.children;
@@ -107,8 +107,8 @@ setKey i k s =
       heap = s.heap;
     }
 
-abbrev pub setMark : ℕ → ℕ → Forests → Forests
-setMark i m s =
+abbrev pub set_mark : ℕ → ℕ → Forests → Forests
+set_mark i m s =
     record {
       rows = s.rows;
       children = s.children;
@@ -118,8 +118,8 @@ setMark i m s =
       heap = s.heap;
     }
 
-abbrev pub setHeap : ℕ → ℕ → Forests → Forests
-setHeap i h s =
+abbrev pub set_heap : ℕ → ℕ → Forests → Forests
+set_heap i h s =
     record {
       rows = s.rows;
       children = s.children;

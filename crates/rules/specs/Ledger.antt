@@ -6,15 +6,15 @@ use Rattle.rules.specs.declared.Answer.{Answer}
 use Rattle.rules.specs.declared.Line.{Line}
 use Rattle.rules.specs.declared.Line.TheVariants.{Yields, NoCall}
 use Rattle.rules.specs.Lists.{sumBy}
-use Rattle.rules.specs.Forests.{Forests, heapNumber, count, potential}
+use Rattle.rules.specs.Forests.{Forests, heap_number, count, potential}
 use Rattle.rules.specs.Answers.{refusal, answer, answers, after}
 use Rattle.rules.specs.Fibonacci.{R}
 use Rattle.rules.specs.WellFormed.{WellFormed}
 
 -- a number of a call that is done, and 0 of any other line
-unfoldable pub ifDone : (Call → ℕ) → Forests → Line → ℕ
-ifDone f s (Yields c) = cond (eqb (refusal s c) 0) (f c) 0
-ifDone f s NoCall = 0
+unfoldable pub if_done : (Call → ℕ) → Forests → Line → ℕ
+if_done f s (Yields c) = cond (eqb (refusal s c) 0) (f c) 0
+if_done f s NoCall = 0
 
 -- What a call that is done may cost, by its kind and whatever moves it made: a lowering that cuts nothing and a
 -- deletion that links cost as any other. R is taken of the heap's item count before the call.
@@ -23,25 +23,25 @@ price s (Insert h i k) = 1
 price s (FindMin h) = 0
 price s (ExtractMin h) = R (count s h)
 price s (DecreaseKey i k) = 4
-price s (Delete i) = R (count s (heapNumber s i)) + 3
+price s (Delete i) = R (count s (heap_number s i)) + 3
 price s (Meld a b) = 0
 price s (Raise h d) = 0
 
 unfoldable pub allowance : Forests → Line → ℕ
-allowance s l = ifDone (price s) s l
+allowance s l = if_done (price s) s l
 
 -- the links and cuts that answers show; those that a list of lines is answered, and the sum of its allowances
-abbrev pub movesIn : List Answer → ℕ
-movesIn told = sumBy (λ a. a.links + a.cuts) told
+abbrev pub moves_in : List Answer → ℕ
+moves_in told = sumBy (λ a. a.links + a.cuts) told
 
 unfoldable pub moves : Forests → List Line → ℕ
-moves s ls = movesIn (answers s ls)
+moves s ls = moves_in (answers s ls)
 
 unfoldable pub allowed : Forests → List Line → ℕ
 allowed s [] = 0
 allowed s (l ∷ ls) = allowance s l + allowed (answer s l).next ls
 
--- Any well-formed forests, any list of lines, any two moments: i lines stand before the first, n between the two.
+-- Any well_formed forests, any list of lines, any two moments: i lines stand before the first, n between the two.
 abbrev pub Ledger : Type 0
 Ledger =
     (start : Forests) → WellFormed start → (ls : List Line) (i n : ℕ) →

@@ -27,9 +27,9 @@ without x [] = []
 without x (y ∷ ys) = cond (eqb y x) ys (y ∷ without x ys)
 
 -- v stored at each of several places
-unfoldable pub setAll : List ℕ → ℕ → List ℕ → List ℕ
-setAll [] v l = l
-setAll (i ∷ is) v l = setAll is v (set l i v)
+unfoldable pub set_all : List ℕ → ℕ → List ℕ → List ℕ
+set_all [] v l = l
+set_all (i ∷ is) v l = set_all is v (set l i v)
 
 -- f k, f (k + 1), .. : n of them
 unfoldable pub tabulateFrom {ℓ} : {A : Type ℓ} → ℕ → ℕ → (ℕ → A) → List A

@@ -12,83 +12,83 @@ use Rattle.rules.specs.Forests.{
   Forests,
   none,
   row_of,
-  childrenOf,
+  children_of,
   parent_of,
   key_of,
   mark_of,
-  heapOf,
+  heap_of,
   rank_of,
-  tableSize,
+  table_size,
   count,
 }
 use Rattle.rules.specs.Order.{minimum}
 use Rattle.rules.specs.Answers.{after}
-use Rattle.rules.specs.Queues.{unraised, afterLines}
+use Rattle.rules.specs.Queues.{unraised, after_lines}
 use Rattle.rules.specs.WellFormed.{WellFormed}
 use Rattle.rules.specs.Theorems.{AllInRange}
-use Rattle.rules.specs.Words.{encodeIn, head_or, last_or, nextIn, prevIn, siblings, state_of, unlessFree}
+use Rattle.rules.specs.Words.{encode_in, head_or, last_or, next_in, prev_in, siblings, state_of, unless_free}
 
 -- ---- the words of the base, one after the other
 
 -- first tree, last tree, first item and item count of heap h
-abbrev pub fourWords : Forests → ℕ → List ℕ
-fourWords s h = head_or none (row_of s h) ∷ last_or none (row_of s h) ∷ minimum s h ∷ count s h ∷ []
+abbrev pub four_words : Forests → ℕ → List ℕ
+four_words s h = head_or none (row_of s h) ∷ last_or none (row_of s h) ∷ minimum s h ∷ count s h ∷ []
 
 -- the words of an item: key, parent, first child, last child, next, previous, rank, state
-abbrev pub itemWords : Forests → List (ℕ → ℕ)
-itemWords s =
+abbrev pub item_words : Forests → List (ℕ → ℕ)
+item_words s =
     key_of s
     ∷ parent_of s
-    ∷ (λ i. unlessFree s i (head_or none (childrenOf s i)))
-    ∷ (λ i. unlessFree s i (last_or none (childrenOf s i)))
-    ∷ (λ i. unlessFree s i (nextIn i (siblings s i)))
-    ∷ (λ i. unlessFree s i (prevIn none i (siblings s i)))
+    ∷ (λ i. unless_free s i (head_or none (children_of s i)))
+    ∷ (λ i. unless_free s i (last_or none (children_of s i)))
+    ∷ (λ i. unless_free s i (next_in i (siblings s i)))
+    ∷ (λ i. unless_free s i (prev_in none i (siblings s i)))
     ∷ rank_of s
-    ∷ (λ i. state_of (heapOf s i) (mark_of s i))
+    ∷ (λ i. state_of (heap_of s i) (mark_of s i))
     ∷ []
 
 -- one of these words of each item; the eight columns
 abbrev pub column : Forests → (ℕ → ℕ) → List ℕ
-column s f = tabulate (tableSize s) f
+column s f = tabulate (table_size s) f
 
 abbrev pub columns : Forests → List (List ℕ)
-columns s = map (column s) (itemWords s)
+columns s = map (column s) (item_words s)
 
-unfoldable pub baseWords : Forests → List ℕ
-baseWords s = flatten (tabulate 8 (fourWords s)) ++ flatten (columns s)
+unfoldable pub base_words : Forests → List ℕ
+base_words s = flatten (tabulate 8 (four_words s)) ++ flatten (columns s)
 
 -- the same with a 0 after each heap's four
-unfoldable pub withZeros : Forests → List ℕ
-withZeros s = flatten (tabulate 8 (λ h. fourWords s h ++ 0 ∷ [])) ++ flatten (columns s)
+unfoldable pub with_zeros : Forests → List ℕ
+with_zeros s = flatten (tabulate 8 (λ h. four_words s h ++ 0 ∷ [])) ++ flatten (columns s)
 
 pub record UnraisedWords : Type 0 where
-  pub words : (s : Forests) → WellFormed s → encodeIn ByKind (unraised s) ≡ withZeros s
-  pub base : (s : Forests) → length (baseWords s) ≡ 32 + 8 * tableSize s
-  pub longer : (s : Forests) → length (withZeros s) ≡ 40 + 8 * tableSize s
+  pub words : (s : Forests) → WellFormed s → encode_in ByKind (unraised s) ≡ with_zeros s
+  pub base : (s : Forests) → length (base_words s) ≡ 32 + 8 * table_size s
+  pub longer : (s : Forests) → length (with_zeros s) ≡ 40 + 8 * table_size s
 
 -- ---- lines without A
 
-unfoldable pub isRaise : Line → Bool
-isRaise (Yields (Insert h i k)) = false
-isRaise (Yields (FindMin h)) = false
-isRaise (Yields (ExtractMin h)) = false
-isRaise (Yields (DecreaseKey i k)) = false
-isRaise (Yields (Delete i)) = false
-isRaise (Yields (Meld a b)) = false
-isRaise (Yields (Raise h d)) = true
-isRaise NoCall = false
+unfoldable pub is_raise : Line → Bool
+is_raise (Yields (Insert h i k)) = false
+is_raise (Yields (FindMin h)) = false
+is_raise (Yields (ExtractMin h)) = false
+is_raise (Yields (DecreaseKey i k)) = false
+is_raise (Yields (Delete i)) = false
+is_raise (Yields (Meld a b)) = false
+is_raise (Yields (Raise h d)) = true
+is_raise NoCall = false
 
 abbrev pub WithoutRaise : List Line → Type 0
 WithoutRaise [] = Unit {0}
-WithoutRaise (l ∷ ls) = (isRaise l ≡ false) × WithoutRaise ls
+WithoutRaise (l ∷ ls) = (is_raise l ≡ false) × WithoutRaise ls
 
 -- from any forests whatever
 abbrev pub KeepsUnraised : Type 0
 KeepsUnraised =
-    (s : Forests) (ls : List Line) → WithoutRaise ls → afterLines (unraised s) ls ≡ unraised (after s ls)
+    (s : Forests) (ls : List Line) → WithoutRaise ls → after_lines (unraised s) ls ≡ unraised (after s ls)
 
 -- so after such lines the words are again the base's with zeros
 abbrev pub UnraisedRun : Type 0
 UnraisedRun =
     (s : Forests) → WellFormed s → (ls : List Line) → AllInRange ls → WithoutRaise ls
-    → encodeIn ByKind (afterLines (unraised s) ls) ≡ withZeros (after s ls)
+    → encode_in ByKind (after_lines (unraised s) ls) ≡ with_zeros (after s ls)

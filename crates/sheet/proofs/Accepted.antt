@@ -4,15 +4,15 @@ use mathlib.Core.Path.{◌≡◌}
 use mathlib.Core.List.{List}
 use mathlib.Core.Bool.{true}
 use Rattle.rules.specs.Words.{Sound}
-use Rattle.soundness.specs.Check.{soundWords}
+use Rattle.soundness.specs.Check.{sound_words}
 use Rattle.rules.specs.declared.Layout.TheVariants.{ByItem}
 use Rattle.soundness.specs.Theorems.{SoundExact}
-use Rattle.soundness.proofs.SoundExact.{soundExact}
+use Rattle.soundness.proofs.SoundExact.{sound_exact}
 
-pub accepted-sound : (w : List ℕ) → soundWords w ≡ true → Sound w
+pub accepted_sound : (w : List ℕ) → sound_words w ≡ true → Sound w
 unfolding SoundExact
-accepted-sound w = (soundExact ByItem w).0
+accepted_sound w = (sound_exact ByItem w).0
 
-pub sound-accepted : (w : List ℕ) → Sound w → soundWords w ≡ true
+pub sound_accepted : (w : List ℕ) → Sound w → sound_words w ≡ true
 unfolding SoundExact
-sound-accepted w = (soundExact ByItem w).1
+sound_accepted w = (sound_exact ByItem w).1

@@ -10,13 +10,13 @@ use borrow.Author.Tests.{ltb-false, lt-ltb, le-ltb}
 use Rattle.rules.specs.Words.{items_in, is_store}
 use Rattle.rules.proofs.Sizes.{same_store}
 use Rattle.store.specs.Says.{Sized}
-use Rattle.store.proofs.Sizes.{store-sized}
+use Rattle.store.proofs.Sizes.{store_sized}
 use Rattle.text.specs.Lines.{lines}
 use Rattle.text.proofs.Cases.{by_cond}
 use Rattle.lines.proofs.LinesOf.{lines-length}
 use Rattle.sheet.specs.declared.Checked.{Checked}
 use Rattle.sheet.specs.Promises.{Limited}
-use Rattle.sheet.specs.Runs.{limitCode}
+use Rattle.sheet.specs.Runs.{limit_code}
 
 -- the store is one for N items, and the output has room for 32 bytes a line
 pub record WithinLimits (store sheet out : List ℕ) : Type 0 where
@@ -24,8 +24,8 @@ pub record WithinLimits (store sheet out : List ℕ) : Type 0 where
   pub few : length (lines sheet) ≤ 2000
   pub room : 32 * length (lines sheet) ≤ length out
 
-pub within : (store sheet out : List ℕ) → limitCode store sheet out ≡ 0 → WithinLimits store sheet out
-unfolding limitCode
+pub within : (store sheet out : List ℕ) → limit_code store sheet out ≡ 0 → WithinLimits store sheet out
+unfolding limit_code
 within store sheet out e =
     go (is_store store) (ltb 60000 (length sheet)) (ltb 2000 (length (lines sheet)))
     (ltb (length out) (32 * length (lines sheet))) refl refl refl e
@@ -34,21 +34,21 @@ within store sheet out e =
         → ltb (length out) (32 * length (lines sheet)) ≡ d
         → ◌≡◌ {A = ℕ} (cond (not a) 1 (cond b 2 (cond c 3 (cond d 4 0)))) 0 → WithinLimits store sheet out
     go true false false false p q r e =
-        record { sized = store-sized store p refl; few = ltb-false _ _ q; room = ltb-false _ _ r }
+        record { sized = store_sized store p refl; few = ltb-false _ _ q; room = ltb-false _ _ r }
     go true false false true p q r e = absurd (omega arith)
     go true false true d p q r e = absurd (omega arith)
     go true true c d p q r e = absurd (omega arith)
     go false b c d p q r e = absurd (omega arith)
 
 -- the limits look at a store's length alone
-pub same-limits : (a b sheet out : List ℕ) → length a ≡ length b → limitCode a sheet out ≡ limitCode b sheet out
-unfolding limitCode
-same-limits a b sheet out e = rw (same_store a b e)
+pub same_limits : (a b sheet out : List ℕ) → length a ≡ length b → limit_code a sheet out ≡ limit_code b sheet out
+unfolding limit_code
+same_limits a b sheet out e = rw (same_store a b e)
 
 -- the codes end at 4
-pub limit-le : (store sheet out : List ℕ) → limitCode store sheet out ≤ 4
-unfolding limitCode
-limit-le store sheet out =
+pub limit_le : (store sheet out : List ℕ) → limit_code store sheet out ≤ 4
+unfolding limit_code
+limit_le store sheet out =
     by_cond low (not (is_store store)) (omega arith)
     (by_cond low (ltb 60000 (length sheet)) (omega arith)
     (by_cond low (ltb 2000 (length (lines sheet))) (omega arith)
@@ -59,7 +59,7 @@ limit-le store sheet out =
 
 -- ---- the codes
 
-pub met : {store sheet out : List ℕ} {l : Checked} (k : ℕ) → limitCode store sheet out ≡ suc k → l.code ≡ suc k
+pub met : {store sheet out : List ℕ} {l : Checked} (k : ℕ) → limit_code store sheet out ≡ suc k → l.code ≡ suc k
     → Limited store sheet out l
 met k e q =
     record {
@@ -69,39 +69,39 @@ met k e q =
     }
 
 module _ (store sheet out : List ℕ) where
-  pub code-1 : is_store store ≡ false → limitCode store sheet out ≡ 1
-  unfolding limitCode
-  code-1 a = rw a
+  pub code_1 : is_store store ≡ false → limit_code store sheet out ≡ 1
+  unfolding limit_code
+  code_1 a = rw a
 
   module _ (a : is_store store ≡ true) where
-    pub code-2 : 60000 < length sheet → limitCode store sheet out ≡ 2
-    unfolding limitCode
-    code-2 b = rw a (simp (lt-ltb _ _ b))
+    pub code_2 : 60000 < length sheet → limit_code store sheet out ≡ 2
+    unfolding limit_code
+    code_2 b = rw a (simp (lt-ltb _ _ b))
 
     module _ (b : length sheet ≤ 60000) {n : ℕ} (p : n ≡ length (lines sheet)) where
-      pub code-3 : 2000 < n → limitCode store sheet out ≡ 3
-      unfolding limitCode
-      code-3 d =
+      pub code_3 : 2000 < n → limit_code store sheet out ≡ 3
+      unfolding limit_code
+      code_3 d =
           let d' : 2000 < length (lines sheet) = omega arith in
           rw a (simp (le-ltb _ _ b, lt-ltb _ _ d'))
 
       module _ (d : n ≤ 2000) where
-        few-lines : length (lines sheet) ≤ 2000
-        few-lines = omega arith
+        few_lines : length (lines sheet) ≤ 2000
+        few_lines = omega arith
 
-        pub code-4 : length out < 32 * n → limitCode store sheet out ≡ 4
-        unfolding limitCode
-        code-4 r =
+        pub code_4 : length out < 32 * n → limit_code store sheet out ≡ 4
+        unfolding limit_code
+        code_4 r =
             let r' : length out < 32 * length (lines sheet) = omega arith in
-            rw a (simp (le-ltb _ _ b, le-ltb _ _ few-lines, lt-ltb _ _ r'))
+            rw a (simp (le-ltb _ _ b, le-ltb _ _ few_lines, lt-ltb _ _ r'))
 
-        pub none-met : 32 * n ≤ length out → {k : ℕ} → k ≡ items_in store
+        pub none_met : 32 * n ≤ length out → {k : ℕ} → k ≡ items_in store
             → Limited store sheet out (record { code = 0; items = k; lines = n })
-        unfolding limitCode
-        none-met r q =
+        unfolding limit_code
+        none_met r q =
             let r' : 32 * length (lines sheet) ≤ length out = omega arith in
             record {
-              code = rw a (simp (le-ltb _ _ b, le-ltb _ _ few-lines, le-ltb _ _ r'));
+              code = rw a (simp (le-ltb _ _ b, le-ltb _ _ few_lines, le-ltb _ _ r'));
               items = λ z. q;
               lines = λ z. p ∙ sym (lines-length sheet);
             }

@@ -7,12 +7,12 @@ use lib.Seq.{take-add, take-nil, drop-nil}
 use Rattle.rules.specs.declared.Line.{Line}
 use Rattle.rules.specs.Answers.{after, answer, answers}
 use Rattle.rules.specs.Forests.{Forests, potential}
-use Rattle.rules.specs.Ledger.{allowed, moves, movesIn}
+use Rattle.rules.specs.Ledger.{allowed, moves, moves_in}
 use Rattle.rules.specs.WellFormed.{WellFormed}
 use Rattle.rules.proofs.Answers.{after-append}
 use Rattle.rules.proofs.Ledger.{ledger}
 use Rattle.lines.specs.Print.{printed}
-use Rattle.sheet.specs.Histories.{forestsAt}
+use Rattle.sheet.specs.Histories.{forests_at}
 use Rattle.sheet.specs.Theorems.{Accounted}
 
 answers-length : (s : Forests) (ls : List Line) → length (answers s ls) ≡ length ls
@@ -35,20 +35,20 @@ answers-drop s (l ∷ ls) (suc i) = answers-drop (answer s l).next ls i
 
 module _ (s : Forests) (W : WellFormed s) (ls : List Line) where
   module _ (i n : ℕ) where
-    between : take n (drop i (answers s ls)) ≡ answers (forestsAt s ls i) (take n (drop i ls))
-    unfolding forestsAt
+    between : take n (drop i (answers s ls)) ≡ answers (forests_at s ls i) (take n (drop i ls))
+    unfolding forests_at
     between = ap (take n) (answers-drop s ls i) ∙ answers-take (after s (take i ls)) (drop i ls) n
 
-    later : forestsAt s ls (i + n) ≡ after (forestsAt s ls i) (take n (drop i ls))
-    unfolding forestsAt
+    later : forests_at s ls (i + n) ≡ after (forests_at s ls i) (take n (drop i ls))
+    unfolding forests_at
     later = ap (after s) (take-add i n ls) ∙ after-append s (take i ls) (take n (drop i ls))
 
     -- the ledger of the rules, read off the answers
-    told-paid : movesIn (take n (drop i (answers s ls))) + potential (forestsAt s ls (i + n))
-        ≤ potential (forestsAt s ls i) + allowed (forestsAt s ls i) (take n (drop i ls))
-    unfolding moves forestsAt
-    told-paid = rw (between, later) (ledger s W ls i n)
+    told_paid : moves_in (take n (drop i (answers s ls))) + potential (forests_at s ls (i + n))
+        ≤ potential (forests_at s ls i) + allowed (forests_at s ls i) (take n (drop i ls))
+    unfolding moves forests_at
+    told_paid = rw (between, later) (ledger s W ls i n)
 
   pub accounted : {written : List ℕ} → written ≡ printed (answers s ls) → Accounted s ls written
   accounted e =
-      record { told = answers s ls; oneEach = answers-length s ls; byRules = refl; allWritten = e; ledger = told-paid }
+      record { told = answers s ls; one_each = answers-length s ls; by_rules = refl; all_written = e; ledger = told_paid }

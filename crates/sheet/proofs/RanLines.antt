@@ -7,20 +7,20 @@ use lib.ListN.{length, drop}
 use Rattle.rules.specs.declared.Line.{Line}
 use Rattle.rules.specs.Answers.{after, answer, answers}
 use Rattle.rules.specs.Forests.{Forests}
-use Rattle.rules.specs.Queues.{afterLines, amountsAfter}
-use Rattle.rules.specs.Words.{Sound, encode, queuesOf, forestsOf}
-use Rattle.rules.proofs.KeepsSound.{next-forests, next-queues, next-sound}
+use Rattle.rules.specs.Queues.{after_lines, amounts_after}
+use Rattle.rules.specs.Words.{Sound, encode, queues_of, forests_of}
+use Rattle.rules.proofs.KeepsSound.{next_forests, next_queues, next_sound}
 use Rattle.rules.proofs.ReplyBounds.{answer-small}
-use Rattle.rules.proofs.SoundWords.{sound-forests, sound-words}
+use Rattle.rules.proofs.SoundWords.{sound_forests, sound_words}
 use Rattle.text.specs.Output.{Wrote}
-use Rattle.text.proofs.Wrote.{wrote-length, wrote_none, wrote_then}
+use Rattle.text.proofs.Wrote.{wrote_length, wrote_none, wrote_then}
 use Rattle.lines.specs.declared.reader.NextLine.TheVariants.{Found, NoMore}
 use Rattle.lines.specs.LineAt.{line_at}
 use Rattle.lines.specs.Parse.{lines_of}
-use Rattle.lines.specs.Print.{answerRow, printed}
+use Rattle.lines.specs.Print.{answer_row, printed}
 use Rattle.lines.proofs.LinesOf.{lines-length}
 use Rattle.lines.proofs.LineFound.{LineFound, found, no_line}
-use Rattle.lines.proofs.Printed.{row-32, small-short}
+use Rattle.lines.proofs.Printed.{row_32, small_short}
 use Rattle.sheet.specs.Promises.{Answerable, Answered, RanLines, Runnable}
 
 -- the lines before `at` are answered, and the answers end at `to`
@@ -28,9 +28,9 @@ pub record AnsweredTo (w₀ sheet out₀ w out : List ℕ) (at to : ℕ) : Type 
   pub sound : Sound w
   pub done : List ℕ
   pub wrote : Wrote out₀ 0 done out to
-  pub queues : afterLines (queuesOf w₀) (lines_of sheet) ≡ afterLines (queuesOf w) (lines_of (drop at sheet))
-  pub shows : printed (answers (forestsOf w₀) (lines_of sheet))
-      ≡ done ++ printed (answers (forestsOf w) (lines_of (drop at sheet)))
+  pub queues : after_lines (queues_of w₀) (lines_of sheet) ≡ after_lines (queues_of w) (lines_of (drop at sheet))
+  pub shows : printed (answers (forests_of w₀) (lines_of sheet))
+      ≡ done ++ printed (answers (forests_of w) (lines_of (drop at sheet)))
   pub room : to + 32 * length (lines_of (drop at sheet)) ≤ length out₀
   pub same_length : length w ≡ length w₀
 
@@ -50,7 +50,7 @@ none_done {w} {sheet} {out} R =
 module _ {w₀ sheet out₀ w out : List ℕ} {at to : ℕ} (G : AnsweredTo w₀ sheet out₀ w out at to) (l : Line) (e : ℕ)
     (q : line_at sheet at ≡ Found l e) where
   abbrev s : Forests
-  s = forestsOf w
+  s = forests_of w
 
   abbrev F : LineFound sheet at l e
   F = found sheet at l e q
@@ -59,25 +59,25 @@ module _ {w₀ sheet out₀ w out : List ℕ} {at to : ℕ} (G : AnsweredTo w₀
   answerable =
       record {
         sound = G.sound;
-        room = omega (arith, G.room, wrote-length G.wrote, ap length F.rest);
+        room = omega (arith, G.room, wrote_length G.wrote, ap length F.rest);
         range = F.range;
       }
 
-  short : length (answerRow (answer s l).reply) ≤ 32
-  short = row-32 _ (small-short (answer-small s (sound-forests w G.sound) l F.range))
+  short : length (answer_row (answer s l).reply) ≤ 32
+  short = row_32 _ (small_short (answer-small s (sound_forests w G.sound) l F.range))
 
   pub one_more : {w' out' : List ℕ} {to' : ℕ} → length w' ≡ length w → Answered w out to l to' w' out'
       → AnsweredTo w₀ sheet out₀ w' out' (e + 1) to'
-  unfolding after amountsAfter answers printed
+  unfolding after amounts_after answers printed
   one_more {w'} {out'} {to'} k A =
       let rest = lines_of (drop (e + 1) sheet) in
-      let t = next-queues l G.sound F.range A.words in
-      let f = next-forests l G.sound F.range A.words in
+      let t = next_queues l G.sound F.range A.words in
+      let f = next_forests l G.sound F.range A.words in
       record {
-        sound = next-sound l G.sound F.range A.words;
-        done = G.done ++ answerRow (answer s l).reply;
+        sound = next_sound l G.sound F.range A.words;
+        done = G.done ++ answer_row (answer s l).reply;
         wrote = wrote_then G.wrote A.wrote;
-        queues = G.queues ∙ ap (afterLines (queuesOf w)) F.rest ∙ ap (λ q. afterLines q rest) (sym t);
+        queues = G.queues ∙ ap (after_lines (queues_of w)) F.rest ∙ ap (λ q. after_lines q rest) (sym t);
         shows = G.shows ∙ rw (F.rest, f, append_assoc);
         room = omega (arith, G.room, A.wrote.next, short, ap length F.rest);
         same_length = k ∙ G.same_length;
@@ -86,9 +86,9 @@ module _ {w₀ sheet out₀ w out : List ℕ} {at to : ℕ} (G : AnsweredTo w₀
 -- all lines
 pub all_done : {w₀ sheet out₀ w out : List ℕ} {at to : ℕ} → AnsweredTo w₀ sheet out₀ w out at to
     → line_at sheet at ≡ NoMore → RanLines w₀ sheet out₀ to w out
-unfolding after amountsAfter answers printed
+unfolding after amounts_after answers printed
 all_done {w₀} {sheet} {out₀} {w} {out} {at} {to} G q =
     let e : lines_of (drop at sheet) ≡ [] = no_line sheet at q in
-    let f : afterLines (queuesOf w₀) (lines_of sheet) ≡ queuesOf w = G.queues ∙ ap (afterLines (queuesOf w)) e in
-    let p : printed (answers (forestsOf w₀) (lines_of sheet)) ≡ G.done = G.shows ∙ rw (e, append-nil) in
-    record { words = sound-words w G.sound ∙ ap encode (sym f); wrote = rw p G.wrote }
+    let f : after_lines (queues_of w₀) (lines_of sheet) ≡ queues_of w = G.queues ∙ ap (after_lines (queues_of w)) e in
+    let p : printed (answers (forests_of w₀) (lines_of sheet)) ≡ G.done = G.shows ∙ rw (e, append-nil) in
+    record { words = sound_words w G.sound ∙ ap encode (sym f); wrote = rw p G.wrote }

@@ -4,7 +4,7 @@ use Rattle.rules.specs.declared.Line.{Line}
 use Rattle.rules.specs.Answers.{after}
 use Rattle.rules.specs.Forests.{Forests}
 use Rattle.lines.specs.Parse.{lines_of}
-use Rattle.sheet.specs.Runs.{keptRun}
+use Rattle.sheet.specs.Runs.{kept_run}
 
 -- the sheet and the output that a run is lent
 pub record Lent : Type 0 where
@@ -12,29 +12,29 @@ pub record Lent : Type 0 where
   pub out : List ℕ
 
 -- the words that the last run left
-unfoldable pub storeAfter : List ℕ → List Lent → List ℕ
-storeAfter store [] = store
-storeAfter store (l ∷ ls) = storeAfter (keptRun store l.sheet l.out).store ls
+unfoldable pub store_after : List ℕ → List Lent → List ℕ
+store_after store [] = store
+store_after store (l ∷ ls) = store_after (kept_run store l.sheet l.out).store ls
 
 -- all that the runs wrote
 unfoldable pub written_by : List ℕ → List Lent → List ℕ
 written_by store [] = []
 written_by store (l ∷ ls) =
-    let r = keptRun store l.sheet l.out in
+    let r = kept_run store l.sheet l.out in
     take r.bytes r.out ++ written_by r.store ls
 
 -- the lines of a run that was done; a refused run has none
-unfoldable pub linesIf : ℕ → List ℕ → List Line
-linesIf zero sheet = lines_of sheet
-linesIf (suc code) sheet = []
+unfoldable pub lines_if : ℕ → List ℕ → List Line
+lines_if zero sheet = lines_of sheet
+lines_if (suc code) sheet = []
 
 -- the lines of all runs that were done, in order
-unfoldable pub historyLines : List ℕ → List Lent → List Line
-historyLines store [] = []
-historyLines store (l ∷ ls) =
-    let r = keptRun store l.sheet l.out in
-    linesIf r.code l.sheet ++ historyLines r.store ls
+unfoldable pub history_lines : List ℕ → List Lent → List Line
+history_lines store [] = []
+history_lines store (l ∷ ls) =
+    let r = kept_run store l.sheet l.out in
+    lines_if r.code l.sheet ++ history_lines r.store ls
 
 -- A moment of a list of lines: after the first i of them. These are the forests then.
-unfoldable pub forestsAt : Forests → List Line → ℕ → Forests
-forestsAt start ls i = after start (take i ls)
+unfoldable pub forests_at : Forests → List Line → ℕ → Forests
+forests_at start ls i = after start (take i ls)

@@ -2,16 +2,16 @@
 use Rattle.std.specs.Prelude.{ℕ, ◌+◌, ◌*◌, ◌≤◌, ◌≡◌, List, length}
 use Rattle.rules.specs.declared.Line.{Line}
 use Rattle.rules.specs.Answers.{answer, answers}
-use Rattle.rules.specs.Queues.{afterLine, afterLines}
+use Rattle.rules.specs.Queues.{after_line, after_lines}
 use Rattle.rules.specs.Theorems.{InRange}
-use Rattle.rules.specs.Words.{Sound, encode, queuesOf, forestsOf, items_in}
+use Rattle.rules.specs.Words.{Sound, encode, queues_of, forests_of, items_in}
 use Rattle.text.specs.Lines.{lines}
 use Rattle.text.specs.Output.{Wrote}
 use Rattle.lines.specs.Parse.{lines_of}
-use Rattle.lines.specs.Print.{answerRow, printed}
+use Rattle.lines.specs.Print.{answer_row, printed}
 use Rattle.sheet.specs.declared.Checked.{Checked}
 use Rattle.sheet.specs.declared.Ran.{Ran}
-use Rattle.sheet.specs.Runs.{limitCode}
+use Rattle.sheet.specs.Runs.{limit_code}
 
 -- a sound store, room for a line of output, and a call whose numbers are words
 pub record Answerable (w out : List ℕ) (at : ℕ) (line : Line) : Type 0 where
@@ -21,8 +21,8 @@ pub record Answerable (w out : List ℕ) (at : ℕ) (line : Line) : Type 0 where
 
 -- the words of the queues after the line, and its answer in the output
 pub record Answered (w out : List ℕ) (at : ℕ) (line : Line) (r : ℕ) (w' out' : List ℕ) : Type 0 where
-  pub words : w' ≡ encode (afterLine (queuesOf w) line)
-  pub wrote : Wrote out at (answerRow (answer (forestsOf w) line).reply) out' r
+  pub words : w' ≡ encode (after_line (queues_of w) line)
+  pub wrote : Wrote out at (answer_row (answer (forests_of w) line).reply) out' r
 
 -- A sound store, and an output with room for every line.
 pub record Runnable (w sheet out : List ℕ) : Type 0 where
@@ -31,17 +31,17 @@ pub record Runnable (w sheet out : List ℕ) : Type 0 where
 
 -- the words of the queues after all lines, and their answers at the start of the output
 pub record RanLines (w sheet out : List ℕ) (r : ℕ) (w' out' : List ℕ) : Type 0 where
-  pub words : w' ≡ encode (afterLines (queuesOf w) (lines_of sheet))
-  pub wrote : Wrote out 0 (printed (answers (forestsOf w) (lines_of sheet))) out' r
+  pub words : w' ≡ encode (after_lines (queues_of w) (lines_of sheet))
+  pub wrote : Wrote out 0 (printed (answers (forests_of w) (lines_of sheet))) out' r
 
 -- the first of the codes 1 to 4 whose condition is met; 0, and then the number of items and the number of lines
 pub record Limited (store sheet out : List ℕ) (l : Checked) : Type 0 where
-  pub code : l.code ≡ limitCode store sheet out
+  pub code : l.code ≡ limit_code store sheet out
   pub items : l.code ≡ 0 → l.items ≡ items_in store
   pub lines : l.code ≡ 0 → l.lines ≡ length (lines_of sheet)
 
 -- the code of a refusal, and two zeros
 pub record Refuses (code : ℕ) (r : Ran) : Type 0 where
-  pub sameCode : r.code ≡ code
-  pub noLines : r.lines ≡ 0
-  pub noBytes : r.bytes ≡ 0
+  pub same_code : r.code ≡ code
+  pub no_lines : r.lines ≡ 0
+  pub no_bytes : r.bytes ≡ 0

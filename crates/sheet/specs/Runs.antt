@@ -4,9 +4,9 @@ use Rattle.std.specs.Prelude.{ℕ, zero, suc, ◌*◌, ◌≡◌, List, cond, no
 use Rattle.std.proofs.lemmas.List.Edits.{sets}
 use Rattle.rules.specs.declared.Line.{Line}
 use Rattle.rules.specs.Answers.{answers}
-use Rattle.rules.specs.Queues.{Queues, emptyQueues, afterLines}
-use Rattle.rules.specs.Words.{items_in, is_store, encode, queuesOf}
-use Rattle.soundness.specs.Check.{soundWords}
+use Rattle.rules.specs.Queues.{Queues, empty_queues, after_lines}
+use Rattle.rules.specs.Words.{items_in, is_store, encode, queues_of}
+use Rattle.soundness.specs.Check.{sound_words}
 use Rattle.text.specs.Lines.{lines}
 use Rattle.lines.specs.Parse.{lines_of}
 use Rattle.lines.specs.Print.{printed}
@@ -21,48 +21,48 @@ pub record Run : Type 0 where
   pub out : List ℕ
 
 -- The first of the conditions 1 to 4 that is met; 0: the run is within the limits.
-unfoldable pub limitCode : List ℕ → List ℕ → List ℕ → ℕ
-limitCode store sheet out =
+unfoldable pub limit_code : List ℕ → List ℕ → List ℕ → ℕ
+limit_code store sheet out =
     cond (not (is_store store)) 1
     (cond (ltb 60000 (length sheet)) 2
     (cond (ltb 2000 (length (lines sheet))) 3
     (cond (ltb (length out) (32 * length (lines sheet))) 4 0)))
 
 -- A refusal returns its code and two zeros, and leaves everything as it was.
-unfoldable pub refusedRun : ℕ → List ℕ → List ℕ → Run
-refusedRun code store out = record { code = code; lines = 0; bytes = 0; store = store; out = out }
+unfoldable pub refused_run : ℕ → List ℕ → List ℕ → Run
+refused_run code store out = record { code = code; lines = 0; bytes = 0; store = store; out = out }
 
 -- The lines ls answered from the queues q on: the store has the words of the queues after them, the output begins with
 -- the answers and is untouched beyond.
-unfoldable pub doneRun : Queues → List Line → List ℕ → Run
-doneRun q ls out =
+unfoldable pub done_run : Queues → List Line → List ℕ → Run
+done_run q ls out =
     record {
       code = 0;
       lines = length ls;
       bytes = length (printed (answers q.forests ls));
-      store = encode (afterLines q ls);
+      store = encode (after_lines q ls);
       out = sets out 0 (printed (answers q.forests ls));
     }
 
-unfoldable pub unlessLimit : ℕ → List ℕ → List ℕ → Run → Run
-unlessLimit zero store out run = run
-unlessLimit (suc code) store out run = refusedRun (suc code) store out
+unfoldable pub unless_limit : ℕ → List ℕ → List ℕ → Run → Run
+unless_limit zero store out run = run
+unless_limit (suc code) store out run = refused_run (suc code) store out
 
 -- A fresh run starts from the empty store, whatever words it finds.
-unfoldable pub freshRun : List ℕ → List ℕ → List ℕ → Run
-freshRun store sheet out =
-    unlessLimit (limitCode store sheet out) store out (doneRun (emptyQueues (items_in store)) (lines_of sheet) out)
+unfoldable pub fresh_run : List ℕ → List ℕ → List ℕ → Run
+fresh_run store sheet out =
+    unless_limit (limit_code store sheet out) store out (done_run (empty_queues (items_in store)) (lines_of sheet) out)
 
 -- A kept run goes on from the store that it finds; after the limits comes code 5, for words that are not sound.
-unfoldable pub keptRun : List ℕ → List ℕ → List ℕ → Run
-keptRun store sheet out =
-    unlessLimit (limitCode store sheet out) store out
-    (cond (not (soundWords store)) (refusedRun 5 store out) (doneRun (queuesOf store) (lines_of sheet) out))
+unfoldable pub kept_run : List ℕ → List ℕ → List ℕ → Run
+kept_run store sheet out =
+    unless_limit (limit_code store sheet out) store out
+    (cond (not (sound_words store)) (refused_run 5 store out) (done_run (queues_of store) (lines_of sheet) out))
 
 -- A run that answers r and leaves these words and these bytes did all that the definition says.
 pub record Leaves (run : Run) (r : Ran) (store out : List ℕ) : Type 0 where
-  pub sameCode : r.code ≡ run.code
-  pub sameLines : r.lines ≡ run.lines
-  pub sameBytes : r.bytes ≡ run.bytes
+  pub same_code : r.code ≡ run.code
+  pub same_lines : r.lines ≡ run.lines
+  pub same_bytes : r.bytes ≡ run.bytes
   pub same_store : store ≡ run.store
-  pub sameOut : out ≡ run.out
+  pub same_out : out ≡ run.out

@@ -1,7 +1,7 @@
 // Sheets of queue calls: each line is read and answered, in fresh and in kept runs.
 ghost use Rattle.std.specs.Prelude.{◌≡◌};
 ghost use Rattle.sheet.specs.Promises.{Answerable, Answered, Runnable, RanLines, Limited, Refuses};
-ghost use Rattle.sheet.specs.Runs.{freshRun, keptRun, Leaves};
+ghost use Rattle.sheet.specs.Runs.{fresh_run, kept_run, Leaves};
 
 use audit::sound;
 use heap::perform::perform;
@@ -127,7 +127,7 @@ fn refused_run(code: u8) -> Ran
 
 // Runs a sheet on the store made empty.
 pub fn run_fresh(store: &mut [u32], sheet: &[u8], out: &mut [u8]) -> Ran
-    ensures { Leaves (freshRun store.old sheet.now out.old) result
+    ensures { Leaves (fresh_run store.old sheet.now out.old) result
         store.new out.new }
 {
     let within = check_limits(store, sheet, out);
@@ -146,7 +146,7 @@ pub fn run_fresh(store: &mut [u32], sheet: &[u8], out: &mut [u8]) -> Ran
 
 // Runs a sheet on the store as it is.
 pub fn run_kept(store: &mut [u32], sheet: &[u8], out: &mut [u8]) -> Ran
-    ensures { Leaves (keptRun store.old sheet.now out.old) result
+    ensures { Leaves (kept_run store.old sheet.now out.old) result
         store.new out.new }
 {
     let within = check_limits(store, sheet, out);

@@ -17,24 +17,24 @@ use Rattle.rules.specs.declared.Field.TheVariants.{
   State,
 }
 use Rattle.rules.specs.Forests.{none}
-use Rattle.rules.specs.Order.{comesBefore}
+use Rattle.rules.specs.Order.{comes_before}
 use Rattle.rules.proofs.Occurs.{and_split}
-use Rattle.store.specs.ItemOrder.{itemKey}
+use Rattle.store.specs.ItemOrder.{item_key}
 use Rattle.store.specs.Says.{Values}
 use Rattle.soundness.specs.Check.{
   heap_at,
-  markAt,
-  childrenAt,
-  listAt,
-  listOk,
-  rootUnmarked,
-  parentInHeap,
-  inHeapOrder,
-  parentOk,
-  childRanksOk,
-  freeZero,
-  memberOk,
-  itemOk,
+  mark_at,
+  children_at,
+  list_at,
+  list_ok,
+  root_unmarked,
+  parent_in_heap,
+  in_heap_order,
+  parent_ok,
+  child_ranks_ok,
+  free_zero,
+  member_ok,
+  item_ok,
 }
 
 module _ (n : ℕ) (v : Values) where
@@ -51,22 +51,22 @@ module _ (n : ℕ) (v : Values) where
   pub record PassedChild (i p : ℕ) : Type 0 where
     pub inside : p < n
     pub heap : heap_at n v p ≡ heap_at n v i
-    pub order : comesBefore (itemKey (heap_at n v i - 1) v) p i ≡ true
+    pub order : comes_before (item_key (heap_at n v i - 1) v) p i ≡ true
 
   -- an item of a heap
   pub record PassedMember (i : ℕ) : Type 0 where
     pub state : v State i ≤ 16
     pub key : v Key i ≤ 4294967295
-    pub root : v Parent i ≡ none → markAt n v i ≡ 0
+    pub root : v Parent i ≡ none → mark_at n v i ≡ 0
     pub child : v Parent i ≢ none → PassedChild i (v Parent i)
-    pub children : listOk n v (childrenAt n v i) ≡ true
-    pub rank : length (listAt n v (childrenAt n v i)) ≡ v Rank i
-    pub ranks : childRanksOk n v 1 (listAt n v (childrenAt n v i)) ≡ true
+    pub children : list_ok n v (children_at n v i) ≡ true
+    pub rank : length (list_at n v (children_at n v i)) ≡ v Rank i
+    pub ranks : child_ranks_ok n v 1 (list_at n v (children_at n v i)) ≡ true
 
   -- ---- what passes
 
-  pub is_free : (i : ℕ) → itemOk n v i ≡ true → v State i ≡ 0 → PassedFree i
-  unfolding itemOk freeZero
+  pub is_free : (i : ℕ) → item_ok n v i ≡ true → v State i ≡ 0 → PassedFree i
+  unfolding item_ok free_zero
   is_free i e z =
       let a = and_split _ _ (rw (eq-eqb (v State i) 0 z) at e) in
       let b = and_split _ _ a.0 in
@@ -84,9 +84,9 @@ module _ (n : ℕ) (v : Values) where
         rank = eqb-true (v Rank i) 0 a.1;
       }
 
-  is-child : (i : ℕ) → (parentInHeap n v i && inHeapOrder n v i) ≡ true → PassedChild i (v Parent i)
-  unfolding parentInHeap inHeapOrder
-  is-child i e =
+  is_child : (i : ℕ) → (parent_in_heap n v i && in_heap_order n v i) ≡ true → PassedChild i (v Parent i)
+  unfolding parent_in_heap in_heap_order
+  is_child i e =
       let p = v Parent i in
       let a = and_split _ _ e in
       let b = and_split _ _ a.0 in
@@ -96,8 +96,8 @@ module _ (n : ℕ) (v : Values) where
         order = a.1;
       }
 
-  pub is_member : (i : ℕ) → itemOk n v i ≡ true → v State i ≢ 0 → PassedMember i
-  unfolding itemOk memberOk parentOk rootUnmarked
+  pub is_member : (i : ℕ) → item_ok n v i ≡ true → v State i ≢ 0 → PassedMember i
+  unfolding item_ok member_ok parent_ok root_unmarked
   is_member i e z =
       let a = and_split _ _ (rw (ne_eqb (v State i) 0 z) at e) in
       let b = and_split _ _ a.0 in
@@ -107,27 +107,27 @@ module _ (n : ℕ) (v : Values) where
       record {
         state = leb-true (v State i) 16 f.0;
         key = leb-true (v Key i) 4294967295 f.1;
-        root = λ p. eqb-true (markAt n v i) 0 (rw (eq-eqb (v Parent i) none p) at d.1);
-        child = λ p. is-child i (rw (ne_eqb (v Parent i) none p) at d.1);
+        root = λ p. eqb-true (mark_at n v i) 0 (rw (eq-eqb (v Parent i) none p) at d.1);
+        child = λ p. is_child i (rw (ne_eqb (v Parent i) none p) at d.1);
         children = c.1;
-        rank = eqb-true (length (listAt n v (childrenAt n v i))) (v Rank i) b.1;
+        rank = eqb-true (length (list_at n v (children_at n v i))) (v Rank i) b.1;
         ranks = a.1;
       }
 
   -- ---- what must pass
 
-  pub free-passes : (i : ℕ) → v State i ≡ 0 → PassedFree i → itemOk n v i ≡ true
-  unfolding itemOk freeZero
-  free-passes i z r =
+  pub free_passes : (i : ℕ) → v State i ≡ 0 → PassedFree i → item_ok n v i ≡ true
+  unfolding item_ok free_zero
+  free_passes i z r =
       rw (eq-eqb (v State i) 0 z, r.key, r.parent, r.first, r.last, r.next, r.prev, r.rank)
 
-  parent-passes : (i : ℕ) → PassedMember i → parentOk n v i ≡ true
-  unfolding parentOk rootUnmarked parentInHeap inHeapOrder
-  parent-passes i r = go (eqb (v Parent i) none) refl
+  parent_passes : (i : ℕ) → PassedMember i → parent_ok n v i ≡ true
+  unfolding parent_ok root_unmarked parent_in_heap in_heap_order
+  parent_passes i r = go (eqb (v Parent i) none) refl
     where
       go : (t : Bool) → eqb (v Parent i) none ≡ t
-          → cond t (rootUnmarked n v i) (parentInHeap n v i && inHeapOrder n v i) ≡ true
-      go true e = eq-eqb (markAt n v i) 0 (r.root (eqb-true (v Parent i) none e))
+          → cond t (root_unmarked n v i) (parent_in_heap n v i && in_heap_order n v i) ≡ true
+      go true e = eq-eqb (mark_at n v i) 0 (r.root (eqb-true (v Parent i) none e))
       go false e =
           let a = r.child (eqb-false (v Parent i) none e) in
           rw (
@@ -136,15 +136,15 @@ module _ (n : ℕ) (v : Values) where
             a.order,
           )
 
-  pub member-passes : (i : ℕ) → v State i ≢ 0 → PassedMember i → itemOk n v i ≡ true
-  unfolding itemOk memberOk
-  member-passes i z r =
+  pub member_passes : (i : ℕ) → v State i ≢ 0 → PassedMember i → item_ok n v i ≡ true
+  unfolding item_ok member_ok
+  member_passes i z r =
       rw (
         ne_eqb (v State i) 0 z,
         le-leb (v State i) 16 r.state,
         le-leb (v Key i) 4294967295 r.key,
-        parent-passes i r,
+        parent_passes i r,
         r.children,
-        eq-eqb (length (listAt n v (childrenAt n v i))) (v Rank i) r.rank,
+        eq-eqb (length (list_at n v (children_at n v i))) (v Rank i) r.rank,
         r.ranks,
       )

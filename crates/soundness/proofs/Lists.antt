@@ -10,12 +10,12 @@ use borrow.Author.Tests.{eqb-true, ltb-true, lt-ltb, eq-eqb, ne_eqb}
 use Rattle.rules.specs.declared.Field.TheVariants.{Parent, Next, Prev}
 use Rattle.rules.specs.Lists.{sumBy, occurs}
 use Rattle.rules.specs.Forests.{none}
-use Rattle.rules.specs.Words.{head_or, last_or, nextIn, prevIn}
-use Rattle.rules.proofs.Occurs.{and_split, delta-self, eqb-self}
-use Rattle.rules.proofs.Siblings.{Once, once-tail, head-out, tail-in}
+use Rattle.rules.specs.Words.{head_or, last_or, next_in, prev_in}
+use Rattle.rules.proofs.Occurs.{and_split, delta_self, eqb_self}
+use Rattle.rules.proofs.Siblings.{Once, once_tail, head_out, tail_in}
 use Rattle.store.specs.Says.{Values}
 use Rattle.soundness.specs.declared.Siblings.{Siblings}
-use Rattle.soundness.specs.Check.{heap_at, listAt, namesOwner, linksOk, listOk}
+use Rattle.soundness.specs.Check.{heap_at, list_at, names_owner, links_ok, list_ok}
 use Rattle.soundness.proofs.Links.{Prevs}
 
 module _ (n : ℕ) (v : Values) (l : Siblings) where
@@ -29,13 +29,13 @@ module _ (n : ℕ) (v : Values) (l : Siblings) where
   pub record OwnList (xs : List ℕ) : Type 0 where
     pub own : (y : ℕ) → 1 ≤ occurs y xs → Owned y
     pub prevs : Prevs (v Prev) none xs
-    pub next : (y : ℕ) → 1 ≤ occurs y xs → nextIn y xs ≡ v Next y
+    pub next : (y : ℕ) → 1 ≤ occurs y xs → next_in y xs ≡ v Next y
     pub head : head_or none xs ≡ l.first
     pub last : last_or none xs ≡ l.last
 
-  pub is-owned : (x : ℕ) → namesOwner n v l x ≡ true → Owned x
-  unfolding namesOwner
-  is-owned x e =
+  pub is_owned : (x : ℕ) → names_owner n v l x ≡ true → Owned x
+  unfolding names_owner
+  is_owned x e =
       let a = and_split _ _ e in
       let b = and_split _ _ a.0 in
       record {
@@ -44,26 +44,26 @@ module _ (n : ℕ) (v : Values) (l : Siblings) where
         parent = eqb-true (v Parent x) l.parent a.1;
       }
 
-  pub owned-passes : (x : ℕ) → Owned x → namesOwner n v l x ≡ true
-  unfolding namesOwner
-  owned-passes x o =
+  pub owned_passes : (x : ℕ) → Owned x → names_owner n v l x ≡ true
+  unfolding names_owner
+  owned_passes x o =
       rw (
         lt-ltb x n o.inside,
         eq-eqb (heap_at n v x) l.heap o.heap,
         eq-eqb (v Parent x) l.parent o.parent,
       )
 
-  links-all : (prev : ℕ) (xs : List ℕ) → linksOk n v l prev xs ≡ true
+  links_all : (prev : ℕ) (xs : List ℕ) → links_ok n v l prev xs ≡ true
       → ((y : ℕ) → 1 ≤ occurs y xs → Owned y) × Prevs (v Prev) prev xs
-      × ((y : ℕ) → 1 ≤ occurs y xs → nextIn y xs ≡ v Next y)
-  unfolding linksOk occurs sumBy nextIn
-  links-all prev [] e = (λ y i. absurd (omega arith), tt, λ y i. absurd (omega arith))
-  links-all prev (x ∷ xs) e =
+      × ((y : ℕ) → 1 ≤ occurs y xs → next_in y xs ≡ v Next y)
+  unfolding links_ok occurs sumBy next_in
+  links_all prev [] e = (λ y i. absurd (omega arith), tt, λ y i. absurd (omega arith))
+  links_all prev (x ∷ xs) e =
       let a = and_split _ _ e in
       let b = and_split _ _ a.0 in
       let c = and_split _ _ b.0 in
-      let r = links-all x xs a.1 in (
-        λ y i. pick y (eqb x y) refl i (is-owned x c.0) r.0,
+      let r = links_all x xs a.1 in (
+        λ y i. pick y (eqb x y) refl i (is_owned x c.0) r.0,
         (eqb-true (v Prev x) prev c.1, r.1),
         λ y i. after y (eqb x y) refl i (eqb-true (v Next x) (head_or none xs) b.1) r.2,
       )
@@ -71,56 +71,56 @@ module _ (n : ℕ) (v : Values) (l : Siblings) where
       pick : (y : ℕ) (t : Bool) → eqb x y ≡ t → 1 ≤ occurs y (x ∷ xs) → Owned x
           → ((y : ℕ) → 1 ≤ occurs y xs → Owned y) → Owned y
       pick y true f i o r = subst Owned (eqb-true x y f) o
-      pick y false f i o r = r y (tail-in y x xs f i)
+      pick y false f i o r = r y (tail_in y x xs f i)
 
       after : (y : ℕ) (t : Bool) → eqb x y ≡ t → 1 ≤ occurs y (x ∷ xs) → v Next x ≡ head_or none xs
-          → ((y : ℕ) → 1 ≤ occurs y xs → nextIn y xs ≡ v Next y)
-          → cond t (head_or none xs) (nextIn y xs) ≡ v Next y
+          → ((y : ℕ) → 1 ≤ occurs y xs → next_in y xs ≡ v Next y)
+          → cond t (head_or none xs) (next_in y xs) ≡ v Next y
       after y true f i e r = sym e ∙ ap (v Next) (eqb-true x y f)
-      after y false f i e r = r y (tail-in y x xs f i)
+      after y false f i e r = r y (tail_in y x xs f i)
 
-  pub is-listed : listOk n v l ≡ true → OwnList (listAt n v l)
-  unfolding listOk
-  is-listed e =
+  pub is_listed : list_ok n v l ≡ true → OwnList (list_at n v l)
+  unfolding list_ok
+  is_listed e =
       let a = and_split _ _ e in
       let b = and_split _ _ a.0 in
-      let r = links-all none (listAt n v l) b.0 in
+      let r = links_all none (list_at n v l) b.0 in
       record {
         own = r.0;
         prevs = r.1;
         next = r.2;
-        head = sym (eqb-true l.first (head_or none (listAt n v l)) b.1);
-        last = sym (eqb-true l.last (last_or none (listAt n v l)) a.1);
+        head = sym (eqb-true l.first (head_or none (list_at n v l)) b.1);
+        last = sym (eqb-true l.last (last_or none (list_at n v l)) a.1);
       }
 
   -- a list all of whose items are linked right passes
-  links-pass : (prev : ℕ) (xs : List ℕ) → Once xs → ((y : ℕ) → 1 ≤ occurs y xs → Owned y)
-      → ((y : ℕ) → 1 ≤ occurs y xs → v Prev y ≡ prevIn prev y xs)
-      → ((y : ℕ) → 1 ≤ occurs y xs → v Next y ≡ nextIn y xs) → linksOk n v l prev xs ≡ true
-  unfolding linksOk occurs sumBy head_or prevIn nextIn
-  links-pass prev [] o own pv nx = refl
-  links-pass prev (y ∷ ys) o own pv nx =
-      let i : 1 ≤ occurs y (y ∷ ys) = omega (arith, delta-self y) in
+  links_pass : (prev : ℕ) (xs : List ℕ) → Once xs → ((y : ℕ) → 1 ≤ occurs y xs → Owned y)
+      → ((y : ℕ) → 1 ≤ occurs y xs → v Prev y ≡ prev_in prev y xs)
+      → ((y : ℕ) → 1 ≤ occurs y xs → v Next y ≡ next_in y xs) → links_ok n v l prev xs ≡ true
+  unfolding links_ok occurs sumBy head_or prev_in next_in
+  links_pass prev [] o own pv nx = refl
+  links_pass prev (y ∷ ys) o own pv nx =
+      let i : 1 ≤ occurs y (y ∷ ys) = omega (arith, delta_self y) in
       let far : (z : ℕ) → 1 ≤ occurs z ys → y ≢ z =
-      λ z k e. omega (arith, head-out y ys o, ap (λ u. occurs u ys) e) in
+      λ z k e. omega (arith, head_out y ys o, ap (λ u. occurs u ys) e) in
       rw (
-        owned-passes y (own y i),
-        eq-eqb (v Prev y) prev (pv y i ∙ rw (eqb-self y)),
-        eq-eqb (v Next y) (head_or none ys) (nx y i ∙ rw (eqb-self y)),
+        owned_passes y (own y i),
+        eq-eqb (v Prev y) prev (pv y i ∙ rw (eqb_self y)),
+        eq-eqb (v Next y) (head_or none ys) (nx y i ∙ rw (eqb_self y)),
       )
-      (links-pass y ys (once-tail y ys o) (λ z k. own z (omega arith))
+      (links_pass y ys (once_tail y ys o) (λ z k. own z (omega arith))
       (λ z k. pv z (omega arith) ∙ rw (ne_eqb y z (far z k)))
       (λ z k. nx z (omega arith) ∙ rw (ne_eqb y z (far z k))))
 
-  pub listed-passes : (xs : List ℕ) → listAt n v l ≡ xs → Once xs → ((y : ℕ) → 1 ≤ occurs y xs → Owned y)
-      → ((y : ℕ) → 1 ≤ occurs y xs → v Prev y ≡ prevIn none y xs)
-      → ((y : ℕ) → 1 ≤ occurs y xs → v Next y ≡ nextIn y xs)
-      → l.first ≡ head_or none xs → l.last ≡ last_or none xs → listOk n v l ≡ true
-  unfolding listOk
-  listed-passes xs e o own pv nx hd la =
+  pub listed_passes : (xs : List ℕ) → list_at n v l ≡ xs → Once xs → ((y : ℕ) → 1 ≤ occurs y xs → Owned y)
+      → ((y : ℕ) → 1 ≤ occurs y xs → v Prev y ≡ prev_in none y xs)
+      → ((y : ℕ) → 1 ≤ occurs y xs → v Next y ≡ next_in y xs)
+      → l.first ≡ head_or none xs → l.last ≡ last_or none xs → list_ok n v l ≡ true
+  unfolding list_ok
+  listed_passes xs e o own pv nx hd la =
       rw (
         e,
-        links-pass none xs o own pv nx,
+        links_pass none xs o own pv nx,
         eq-eqb l.first (head_or none xs) hd,
         eq-eqb l.last (last_or none xs) la,
       )

@@ -9,31 +9,31 @@ use Rattle.rules.specs.declared.Field.TheVariants.{Rank}
 use Rattle.rules.specs.Lists.{sumBy, occurs}
 use Rattle.rules.specs.Forests.{Forests, mark_of, rank_of}
 use Rattle.rules.specs.WellFormed.{ChildRanks}
-use Rattle.rules.proofs.Occurs.{and_split, delta-self}
+use Rattle.rules.proofs.Occurs.{and_split, delta_self}
 use Rattle.store.specs.Says.{Values}
-use Rattle.soundness.specs.Check.{markAt, childRankOk, childRanksOk}
+use Rattle.soundness.specs.Check.{mark_at, child_rank_ok, child_ranks_ok}
 
 module _ (n : ℕ) (v : Values) (s : Forests) where
   pub record SameRank (c : ℕ) : Type 0 where
     pub rank : v Rank c ≡ rank_of s c
-    pub mark : markAt n v c ≡ mark_of s c
+    pub mark : mark_at n v c ≡ mark_of s c
 
-  pub ranks-rule : (i : ℕ) (l : List ℕ) → ((c : ℕ) → 1 ≤ occurs c l → SameRank c) → childRanksOk n v i l ≡ true
+  pub ranks_rule : (i : ℕ) (l : List ℕ) → ((c : ℕ) → 1 ≤ occurs c l → SameRank c) → child_ranks_ok n v i l ≡ true
       → ChildRanks s i l
-  unfolding childRanksOk childRankOk occurs sumBy
-  ranks-rule i [] f e = tt
-  ranks-rule i (c ∷ l) f e =
+  unfolding child_ranks_ok child_rank_ok occurs sumBy
+  ranks_rule i [] f e = tt
+  ranks_rule i (c ∷ l) f e =
       let a = and_split _ _ e in
-      let g = f c (omega (arith, delta-self c)) in (
-        rw (g.rank, g.mark) at (leb-true (i - (1 + markAt n v c)) (v Rank c) a.0),
-        ranks-rule (suc i) l (λ d k. f d (omega arith)) a.1,
+      let g = f c (omega (arith, delta_self c)) in (
+        rw (g.rank, g.mark) at (leb-true (i - (1 + mark_at n v c)) (v Rank c) a.0),
+        ranks_rule (suc i) l (λ d k. f d (omega arith)) a.1,
       )
 
-  pub rule-ranks : (i : ℕ) (l : List ℕ) → ((c : ℕ) → 1 ≤ occurs c l → SameRank c) → ChildRanks s i l
-      → childRanksOk n v i l ≡ true
-  unfolding childRanksOk childRankOk occurs sumBy
-  rule-ranks i [] f t = refl
-  rule-ranks i (c ∷ l) f t =
-      let g = f c (omega (arith, delta-self c)) in
+  pub rule_ranks : (i : ℕ) (l : List ℕ) → ((c : ℕ) → 1 ≤ occurs c l → SameRank c) → ChildRanks s i l
+      → child_ranks_ok n v i l ≡ true
+  unfolding child_ranks_ok child_rank_ok occurs sumBy
+  rule_ranks i [] f t = refl
+  rule_ranks i (c ∷ l) f t =
+      let g = f c (omega (arith, delta_self c)) in
       rw (g.rank, g.mark, le-leb (i - (1 + mark_of s c)) (rank_of s c) t.0)
-      (rule-ranks (suc i) l (λ d k. f d (omega arith)) t.1)
+      (rule_ranks (suc i) l (λ d k. f d (omega arith)) t.1)

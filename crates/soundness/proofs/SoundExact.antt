@@ -1,53 +1,53 @@
--- The check says yes of the words of well-formed queues, and of no others.
+-- The check says yes of the words of well_formed queues, and of no others.
 use mathlib.Core.Path.{◌≡◌, refl, sym, ap, ◌∙◌}
 use mathlib.Core.Bool.{Bool, true, false, true≢false}
 use Rattle.rules.specs.declared.Layout.TheVariants.{ByItem, ByKind}
-use Rattle.rules.specs.Forests.{tableSize}
+use Rattle.rules.specs.Forests.{table_size}
 use Rattle.rules.specs.Turn.{turn}
-use Rattle.rules.specs.Words.{items_in, is_store, lookIn, SoundIn, encodeIn, queuesIn}
-use Rattle.rules.proofs.DecodeEncode.{encodeLength}
+use Rattle.rules.specs.Words.{items_in, is_store, look_in, SoundIn, encode_in, queues_in}
+use Rattle.rules.proofs.DecodeEncode.{encode_length}
 use Rattle.rules.proofs.Occurs.{and_split}
-use Rattle.rules.proofs.Turn.{turnSound}
+use Rattle.rules.proofs.Turn.{turn_sound}
 use Rattle.store.specs.Says.{Sized}
-use Rattle.store.proofs.Sizes.{store-sized, sized-store, sized-items}
-use Rattle.soundness.specs.Check.{soundWords, soundWordsIn}
+use Rattle.store.proofs.Sizes.{store_sized, sized_store, sized_items}
+use Rattle.soundness.specs.Check.{sound_words, sound_words_in}
 use Rattle.soundness.specs.Theorems.{SoundExact, SoundDecoded, RefusedUnsound, EncodedAccepted, TurnChecked}
 use Rattle.soundness.proofs.Passed.{passed, passes}
-use Rattle.soundness.proofs.PassedQueues.{wellFormedQueues}
+use Rattle.soundness.proofs.PassedQueues.{well_formed_queues}
 use Rattle.soundness.proofs.PassedWords.{words}
 use Rattle.soundness.proofs.EncodedAccepted.{accepted}
 
-pub soundDecoded : SoundDecoded
-unfolding SoundDecoded soundWordsIn
-soundDecoded o w e =
+pub sound_decoded : SoundDecoded
+unfolding SoundDecoded sound_words_in
+sound_decoded o w e =
     let n = items_in w in
     let a = and_split (is_store w) _ e in
-    let S : Sized n w = store-sized w a.0 refl in
-    let A = passed n (lookIn o n w) S.small a.1 in
-    record { wellFormed = wellFormedQueues n (lookIn o n w) A; words = words o n w A S.size }
+    let S : Sized n w = store_sized w a.0 refl in
+    let A = passed n (look_in o n w) S.small a.1 in
+    record { well_formed = well_formed_queues n (look_in o n w) A; words = words o n w A S.size }
 
-pub encodedAccepted : EncodedAccepted
-unfolding EncodedAccepted soundWordsIn
-encodedAccepted o q W =
-    let n = tableSize q.forests in
-    let S : Sized n (encodeIn o q) = record { size = encodeLength o q; small = W.forests.disjoint.small } in
-    rw (sized-store S, sized-items S) (passes n (lookIn o n (encodeIn o q)) (accepted o q W))
+pub encoded_accepted : EncodedAccepted
+unfolding EncodedAccepted sound_words_in
+encoded_accepted o q W =
+    let n = table_size q.forests in
+    let S : Sized n (encode_in o q) = record { size = encode_length o q; small = W.forests.disjoint.small } in
+    rw (sized_store S, sized_items S) (passes n (look_in o n (encode_in o q)) (accepted o q W))
 
-pub soundExact : SoundExact
+pub sound_exact : SoundExact
 unfolding SoundExact SoundDecoded EncodedAccepted
-soundExact o w = (there, back)
+sound_exact o w = (there, back)
   where
-    there : soundWordsIn o w ≡ true → SoundIn o w
+    there : sound_words_in o w ≡ true → SoundIn o w
     there e =
-        let d = soundDecoded o w e in
-        record { queues = queuesIn o w; wellFormed = d.wellFormed; words = d.words }
+        let d = sound_decoded o w e in
+        record { queues = queues_in o w; well_formed = d.well_formed; words = d.words }
 
-    back : SoundIn o w → soundWordsIn o w ≡ true
-    back S = ap (soundWordsIn o) S.words ∙ encodedAccepted o S.queues S.wellFormed
+    back : SoundIn o w → sound_words_in o w ≡ true
+    back S = ap (sound_words_in o) S.words ∙ encoded_accepted o S.queues S.well_formed
 
-pub refusedUnsound : RefusedUnsound
+pub refused_unsound : RefusedUnsound
 unfolding RefusedUnsound EncodedAccepted
-refusedUnsound o w e q W p = true≢false (sym (ap (soundWordsIn o) p ∙ encodedAccepted o q W) ∙ e)
+refused_unsound o w e q W p = true≢false (sym (ap (sound_words_in o) p ∙ encoded_accepted o q W) ∙ e)
 
 -- two tests that each hold where the other does are one
 same_test : (a b : Bool) → (a ≡ true → b ≡ true) → (b ≡ true → a ≡ true) → a ≡ b
@@ -55,9 +55,9 @@ same_test true b f g = sym (f refl)
 same_test false true f g = g refl
 same_test false false f g = refl
 
-pub turnChecked : TurnChecked
+pub turn_checked : TurnChecked
 unfolding TurnChecked SoundExact
-turnChecked w k =
-    same_test (soundWordsIn ByKind w) (soundWords (turn w))
-    (λ e. (soundExact ByItem (turn w)).1 ((turnSound.sound w k).0 ((soundExact ByKind w).0 e)))
-    (λ e. (soundExact ByKind w).1 ((turnSound.sound w k).1 ((soundExact ByItem (turn w)).0 e)))
+turn_checked w k =
+    same_test (sound_words_in ByKind w) (sound_words (turn w))
+    (λ e. (sound_exact ByItem (turn w)).1 ((turn_sound.sound w k).0 ((sound_exact ByKind w).0 e)))
+    (λ e. (sound_exact ByKind w).1 ((turn_sound.sound w k).1 ((sound_exact ByItem (turn w)).0 e)))

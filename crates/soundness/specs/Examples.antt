@@ -16,23 +16,23 @@ use Rattle.rules.specs.declared.Field.TheVariants.{
   State,
 }
 use Rattle.rules.specs.Forests.{Forests, none}
-use Rattle.rules.specs.Queues.{unraised, emptyQueues}
-use Rattle.rules.specs.Words.{place_in, at, encode, encodeIn}
-use Rattle.soundness.specs.Check.{soundWords, soundWordsIn}
+use Rattle.rules.specs.Queues.{unraised, empty_queues}
+use Rattle.rules.specs.Words.{place_in, at, encode, encode_in}
+use Rattle.soundness.specs.Check.{sound_words, sound_words_in}
 
 pub data Example : Type 0 where
   passes : List ℕ → Example
   fails : List ℕ → Example
   -- as words that stand by kind
-  oldPasses : List ℕ → Example
-  oldFails : List ℕ → Example
+  old_passes : List ℕ → Example
+  old_fails : List ℕ → Example
 
 -- an example as the check has it
-unfoldable pub byCheck : Example → Example
-byCheck (passes w) = cond (soundWords w) (passes w) (fails w)
-byCheck (fails w) = cond (soundWords w) (passes w) (fails w)
-byCheck (oldPasses w) = cond (soundWordsIn ByKind w) (oldPasses w) (oldFails w)
-byCheck (oldFails w) = cond (soundWordsIn ByKind w) (oldPasses w) (oldFails w)
+unfoldable pub by_check : Example → Example
+by_check (passes w) = cond (sound_words w) (passes w) (fails w)
+by_check (fails w) = cond (sound_words w) (passes w) (fails w)
+by_check (old_passes w) = cond (sound_words_in ByKind w) (old_passes w) (old_fails w)
+by_check (old_fails w) = cond (sound_words_in ByKind w) (old_passes w) (old_fails w)
 
 -- a store for six items with another value for word i of a kind
 unfoldable pub but : Field → ℕ → ℕ → List ℕ → List ℕ
@@ -56,8 +56,8 @@ unfoldable pub full : List ℕ
 full = encode (unraised (sample (3 ∷ []) 2 40 1))
 
 -- and by kind
-unfoldable pub oldFull : List ℕ
-oldFull = encodeIn ByKind (unraised (sample (3 ∷ []) 2 40 1))
+unfoldable pub old_full : List ℕ
+old_full = encode_in ByKind (unraised (sample (3 ∷ []) 2 40 1))
 
 -- the same keys in a heap of amount 35: their words are less by it, and those of keys below 35 wrap
 unfoldable pub raised : List ℕ
@@ -70,8 +70,8 @@ unfoldable pub small : List ℕ
 small = encode (unraised (sample [] 0 0 0))
 
 -- an item that is its own parent and its own only child
-unfoldable pub ownParent : Forests
-ownParent =
+unfoldable pub own_parent : Forests
+own_parent =
     record {
       rows = replicate 8 [];
       children = (0 ∷ []) ∷ [];
@@ -82,8 +82,8 @@ ownParent =
     }
 
 -- three trees without children
-unfoldable pub threeTrees : Forests
-threeTrees =
+unfoldable pub three_trees : Forests
+three_trees =
     record {
       rows = (0 ∷ 1 ∷ 2 ∷ []) ∷ replicate 7 [];
       children = [] ∷ [] ∷ [] ∷ [] ∷ [] ∷ [] ∷ [];
@@ -98,15 +98,15 @@ examples =
     -- lengths: no words, heaps of four words, no items, and one word more
     fails []
     ∷ fails (replicate 32 0)
-    ∷ passes (encode (emptyQueues 0))
-    ∷ fails (encode (emptyQueues 0) ++ (0 ∷ []))
+    ∷ passes (encode (empty_queues 0))
+    ∷ fails (encode (empty_queues 0) ++ (0 ∷ []))
     -- no items, and yet a first tree
-    ∷ fails (set (encode (emptyQueues 0)) (at 0 FirstTree 0) 0)
+    ∷ fails (set (encode (empty_queues 0)) (at 0 FirstTree 0) 0)
     -- all free; an item count of 1 then; a free item with a stray word
-    ∷ passes (encode (emptyQueues 6))
-    ∷ fails (but Count 0 1 (encode (emptyQueues 6)))
-    ∷ fails (but Rank 3 1 (encode (emptyQueues 6)))
-    ∷ fails (but Key 3 7 (encode (emptyQueues 6)))
+    ∷ passes (encode (empty_queues 6))
+    ∷ fails (but Count 0 1 (encode (empty_queues 6)))
+    ∷ fails (but Rank 3 1 (encode (empty_queues 6)))
+    ∷ fails (but Key 3 7 (encode (empty_queues 6)))
     -- the sample; keys that are equal or at the limit; a child that comes before its parent; a key word of 33 bits
     ∷ passes full
     ∷ passes (but Key 1 10 full)
@@ -118,7 +118,7 @@ examples =
     ∷ passes (but Amount 0 4294967295 full)
     ∷ fails (but Amount 0 4294967296 full)
     ∷ fails (but Amount 7 1 full)
-    ∷ fails (but Amount 0 1 (encode (emptyQueues 6)))
+    ∷ fails (but Amount 0 1 (encode (empty_queues 6)))
     -- keys in order by words that are not, and words in order of keys that are not: that of 3 wraps to 5, that of its
     -- parent does not
     ∷ passes raised
@@ -142,18 +142,18 @@ examples =
     ∷ fails small
     ∷ passes (but State 2 2 small)
     -- an item that is its own parent
-    ∷ fails (encode (unraised ownParent))
+    ∷ fails (encode (unraised own_parent))
     -- trees 1 and 2 in a circle that the row does not reach
-    ∷ passes (encode (unraised threeTrees))
-    ∷ fails (but LastTree 0 0 (but Next 0 none (but Prev 1 2 (but Next 2 1 (encode (unraised threeTrees))))))
+    ∷ passes (encode (unraised three_trees))
+    ∷ fails (but LastTree 0 0 (but Next 0 none (but Prev 1 2 (but Next 2 1 (encode (unraised three_trees))))))
     -- by kind: the sample, and a rank too small; words of either order by the check of the other; those of the empty
     -- store are the same in both
-    ∷ oldPasses oldFull
-    ∷ oldFails (set oldFull (place_in ByKind 6 Rank 2) 0)
-    ∷ oldFails full
-    ∷ fails oldFull
-    ∷ oldPasses (encode (emptyQueues 6))
+    ∷ old_passes old_full
+    ∷ old_fails (set old_full (place_in ByKind 6 Rank 2) 0)
+    ∷ old_fails full
+    ∷ fails old_full
+    ∷ old_passes (encode (empty_queues 6))
     ∷ []
 
 unfoldable pub ExamplesHold : Type 0
-ExamplesHold = map byCheck examples ≡ examples
+ExamplesHold = map by_check examples ≡ examples

@@ -6,30 +6,30 @@ use Rattle.rules.specs.declared.Layout.TheVariants.{ByKind}
 use Rattle.rules.specs.Queues.{Queues}
 use Rattle.rules.specs.WellFormed.{WellFormedQueues}
 use Rattle.rules.specs.Turn.{turn}
-use Rattle.rules.specs.Words.{SoundIn, encodeIn, is_store, queuesIn}
-use Rattle.soundness.specs.Check.{soundWords, soundWordsIn}
+use Rattle.rules.specs.Words.{SoundIn, encode_in, is_store, queues_in}
+use Rattle.soundness.specs.Check.{sound_words, sound_words_in}
 
--- In either order the check says yes of the words of well-formed queues, and of no others.
+-- In either order the check says yes of the words of well_formed queues, and of no others.
 unfoldable pub SoundExact : Type 0
-SoundExact = (o : Layout) (w : List ℕ) → (soundWordsIn o w ≡ true) ↔ SoundIn o w
+SoundExact = (o : Layout) (w : List ℕ) → (sound_words_in o w ≡ true) ↔ SoundIn o w
 
 -- What passes is the words of the queues that are read from it.
 pub record Decoded (o : Layout) (w : List ℕ) : Type 0 where
-  pub wellFormed : WellFormedQueues (queuesIn o w)
-  pub words : w ≡ encodeIn o (queuesIn o w)
+  pub well_formed : WellFormedQueues (queues_in o w)
+  pub words : w ≡ encode_in o (queues_in o w)
 
 unfoldable pub SoundDecoded : Type 0
-SoundDecoded = (o : Layout) (w : List ℕ) → soundWordsIn o w ≡ true → Decoded o w
+SoundDecoded = (o : Layout) (w : List ℕ) → sound_words_in o w ≡ true → Decoded o w
 
--- What is refused is the words of no well-formed queues.
+-- What is refused is the words of no well_formed queues.
 unfoldable pub RefusedUnsound : Type 0
 RefusedUnsound =
-    (o : Layout) (w : List ℕ) → soundWordsIn o w ≡ false → (q : Queues) → WellFormedQueues q → w ≢ encodeIn o q
+    (o : Layout) (w : List ℕ) → sound_words_in o w ≡ false → (q : Queues) → WellFormedQueues q → w ≢ encode_in o q
 
--- The words of well-formed queues pass.
+-- The words of well_formed queues pass.
 unfoldable pub EncodedAccepted : Type 0
-EncodedAccepted = (o : Layout) (q : Queues) → WellFormedQueues q → soundWordsIn o (encodeIn o q) ≡ true
+EncodedAccepted = (o : Layout) (q : Queues) → WellFormedQueues q → sound_words_in o (encode_in o q) ≡ true
 
 -- Words pass by kind exactly if their turn passes.
 unfoldable pub TurnChecked : Type 0
-TurnChecked = (w : List ℕ) → is_store w ≡ true → soundWordsIn ByKind w ≡ soundWords (turn w)
+TurnChecked = (w : List ℕ) → is_store w ≡ true → sound_words_in ByKind w ≡ sound_words (turn w)

@@ -11,14 +11,14 @@ use lib.Seq.{get_or-set_same, get_or-set_other}
 use borrow.Author.Tests.{ltb-true, ltb-false}
 use Rattle.spans.specs.Range.{Sorted, FirstSpan, IsIndex}
 
-sorted-by : (from : List ℕ) → Sorted from → (a n b : ℕ) → b ≡ a + n → b < length from → get_or from a 0 ≤ get_or from b 0
-sorted-by from S a zero b q h = let z : b ≡ a = omega arith in rw z (le_refl _)
-sorted-by from S a (suc n) zero q h = absurd (omega arith)
-sorted-by from S a (suc n) (suc b) q h =
-    le_trans (sorted-by from S a n b (omega arith) (omega arith)) (S.rising b h)
+sorted_by : (from : List ℕ) → Sorted from → (a n b : ℕ) → b ≡ a + n → b < length from → get_or from a 0 ≤ get_or from b 0
+sorted_by from S a zero b q h = let z : b ≡ a = omega arith in rw z (le_refl _)
+sorted_by from S a (suc n) zero q h = absurd (omega arith)
+sorted_by from S a (suc n) (suc b) q h =
+    le_trans (sorted_by from S a n b (omega arith) (omega arith)) (S.rising b h)
 
 pub sorted_all : (from : List ℕ) → Sorted from → (a b : ℕ) → a ≤ b → b < length from → get_or from a 0 ≤ get_or from b 0
-sorted_all from S a b k h = sorted-by from S a (b - a) b (omega arith) h
+sorted_all from S a b k h = sorted_by from S a (b - a) b (omega arith) h
 
 -- The spans below e leave places up to u, and span e, if there is one, a higher one.
 pub first_above : {from : List ℕ} → Sorted from → (u : ℕ) {e : ℕ} → e ≤ length from
@@ -31,21 +31,21 @@ first_above {from} S u {e} w b a =
     }
 
 -- An index begins with the word 0, and grows by a word.
-pub first-none : (from : List ℕ) → FirstSpan from 0 0
-first-none from =
+pub first_none : (from : List ℕ) → FirstSpan from 0 0
+first_none from =
     record {
       within = omega arith;
       below = λ e h. absurd (omega arith);
       above = λ e k h. omega arith;
     }
 
-pub index-none : (from index : List ℕ) → 0 < length index → IsIndex 0 from (set index 0 0)
-index-none from index h =
-    record { first = λ u k. let z : u ≡ 0 = omega arith in rw (z, get_or-set_same index 0 0 0 h) (first-none from) }
+pub index_none : (from index : List ℕ) → 0 < length index → IsIndex 0 from (set index 0 0)
+index_none from index h =
+    record { first = λ u k. let z : u ≡ 0 = omega arith in rw (z, get_or-set_same index 0 0 0 h) (first_none from) }
 
-pub index-more : {from index : List ℕ} {u e : ℕ} → IsIndex u from index → FirstSpan from (u + 1) e
+pub index_more : {from index : List ℕ} {u e : ℕ} → IsIndex u from index → FirstSpan from (u + 1) e
     → u + 1 < length index → IsIndex (u + 1) from (set index (u + 1) e)
-index-more {from} {index} {u} {e} I F h = record { first = λ v k. go v k (ltb v (u + 1)) refl }
+index_more {from} {index} {u} {e} I F h = record { first = λ v k. go v k (ltb v (u + 1)) refl }
   where
     go : (v : ℕ) → v ≤ u + 1 → (t : Bool) → ltb v (u + 1) ≡ t → FirstSpan from v (get_or (set index (u + 1) e) v 0)
     go v k true q =

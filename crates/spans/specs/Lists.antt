@@ -3,7 +3,7 @@ use Rattle.std.specs.Prelude.{◌≡◌, length}
 use Rattle.paths.specs.Map.{SpanLists, Windows}
 
 pub record OneLength (l : SpanLists) (w : Windows) : Type 0 where
-  pub toN : length l.to ≡ length l.from
-  pub lossN : length l.loss ≡ length l.from
-  pub opensN : length w.opens ≡ length l.from
-  pub closesN : length w.closes ≡ length l.from
+  pub to_n : length l.to ≡ length l.from
+  pub loss_n : length l.loss ≡ length l.from
+  pub opens_n : length w.opens ≡ length l.from
+  pub closes_n : length w.closes ≡ length l.from

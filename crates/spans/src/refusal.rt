@@ -1,7 +1,7 @@
 // The codes of a feed call, in the order in which they are tested.
 ghost use Rattle.std.specs.Prelude.{◌≡◌, cond, not, ◌&&◌, ◌||◌, ℕ, ◌≤◌, eqb, ltb, leb};
-ghost use Rattle.paths.specs.Map.{spanLists, windows, atMinute, mapAt, lastMinute};
-ghost use Rattle.paths.specs.Codes.{fault, windowFault, firstCode, spansCode, resultListsFit, feedCode};
+ghost use Rattle.paths.specs.Map.{span_lists, windows, at_minute, map_at, last_minute};
+ghost use Rattle.paths.specs.Codes.{fault, window_fault, first_code, spans_code, result_lists_fit, feed_code};
 ghost use Rattle.spans.specs.Lists.{OneLength};
 
 use super::window::window_fault;
@@ -31,7 +31,7 @@ fn fault_of(places: u32, from: u32, to: u32, loss: u32, before: u32) -> u32
 
 // The first of two codes that is not 0.
 fn first_code(code: u32, next: u32) -> u32
-    ensures { result ≡ firstCode code next }
+    ensures { result ≡ first_code code next }
 {
     if code == 0 {
         return next;
@@ -49,7 +49,7 @@ fn is_faulty(
     opens: u32,
     closes: u32,
 ) -> bool
-    ensures { result ≡ not (eqb (firstCode (fault places from to loss before) (windowFault opens closes)) 0) }
+    ensures { result ≡ not (eqb (first_code (fault places from to loss before) (window_fault opens closes)) 0) }
 {
     let span = (places <= from) | (places <= to) | (loss == 0) | (1000000 < loss) | (from < before);
     span | (closes <= opens) | (1440 < closes)
@@ -65,10 +65,10 @@ fn faultless(
     opens: &[u32],
     closes: &[u32],
 ) -> bool
-    requires { OneLength (spanLists from.now to.now loss.now) (windows opens.now closes.now) }
-    ensures { (minute : ℕ) → result ≡ eqb (spansCode places
-        (spanLists from.now to.now loss.now)
-        (atMinute minute (windows opens.now closes.now))) 0 }
+    requires { OneLength (span_lists from.now to.now loss.now) (windows opens.now closes.now) }
+    ensures { (minute : ℕ) → result ≡ eqb (spans_code places
+        (span_lists from.now to.now loss.now)
+        (at_minute minute (windows opens.now closes.now))) 0 }
 {
     let mut e = 0;
     let mut before = 0;
@@ -94,10 +94,10 @@ fn lowest_fault(
     opens: &[u32],
     closes: &[u32],
 ) -> u32
-    requires { OneLength (spanLists from.now to.now loss.now) (windows opens.now closes.now) }
-    ensures { (minute : ℕ) → result ≡ spansCode places
-        (spanLists from.now to.now loss.now)
-        (atMinute minute (windows opens.now closes.now)) }
+    requires { OneLength (span_lists from.now to.now loss.now) (windows opens.now closes.now) }
+    ensures { (minute : ℕ) → result ≡ spans_code places
+        (span_lists from.now to.now loss.now)
+        (at_minute minute (windows opens.now closes.now)) }
 {
     let mut e = 0;
     let mut before = 0;
@@ -124,10 +124,10 @@ fn spans_code(
     opens: &[u32],
     closes: &[u32],
 ) -> u32
-    requires { OneLength (spanLists from.now to.now loss.now) (windows opens.now closes.now) }
-    ensures { (minute : ℕ) → result ≡ spansCode places
-        (spanLists from.now to.now loss.now)
-        (atMinute minute (windows opens.now closes.now)) }
+    requires { OneLength (span_lists from.now to.now loss.now) (windows opens.now closes.now) }
+    ensures { (minute : ℕ) → result ≡ spans_code places
+        (span_lists from.now to.now loss.now)
+        (at_minute minute (windows opens.now closes.now)) }
 {
     if faultless(places, from, to, loss, opens, closes) {
         return 0;
@@ -153,7 +153,7 @@ fn places_code(places: u32, start: u32) -> u32
 
 // 24 for a minute that is not of the day, or 0.
 fn minute_code(minute: u32) -> u32
-    ensures { result ≡ cond (not (leb minute lastMinute)) 24 0 }
+    ensures { result ≡ cond (not (leb minute last_minute)) 24 0 }
 {
     if 1439 < minute {
         return 24;
@@ -187,7 +187,7 @@ fn span_lists_code(from: usize, to: usize, loss: usize, opens: usize, closes: us
 // 17 for result lists or a store of another size than that for the places, or 0.
 fn result_lists_code(places: usize, best: usize, last: usize, joints: usize, store: usize) -> u32
     requires { places ≤ 4096 }
-    ensures { result ≡ cond (not (resultListsFit places best last joints store)) 17 0 }
+    ensures { result ≡ cond (not (result_lists_fit places best last joints store)) 17 0 }
 {
     if best != places {
         return 17;
@@ -231,8 +231,8 @@ pub fn feed_code(
     listed: usize,
     store: usize,
 ) -> u32
-    ensures { result ≡ feedCode
-        (mapAt places start minute (spanLists from.now to.now loss.now)
+    ensures { result ≡ feed_code
+        (map_at places start minute (span_lists from.now to.now loss.now)
         (windows opens.now closes.now))
         best last joints listed store }
 {

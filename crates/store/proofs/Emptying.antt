@@ -24,18 +24,18 @@ use Rattle.rules.specs.declared.Field.TheVariants.{
   Rank,
   State,
 }
-use Rattle.rules.specs.Kinds.{isOneOf, Apart}
+use Rattle.rules.specs.Kinds.{is_one_of, Apart}
 use Rattle.rules.specs.Lists.{sumBy}
 use Rattle.rules.specs.Forests.{none, empty, count}
-use Rattle.rules.specs.Order.{leastIn, minimum}
-use Rattle.rules.specs.Queues.{amountOf, emptyQueues}
-use Rattle.rules.specs.Words.{fieldSize, at, head_or, last_or, state_of, unlessFree, word, words_of, encode, encodeIn}
-use Rattle.rules.proofs.ByKind.{apart_from, by-kinds}
-use Rattle.rules.proofs.EmptyForests.{getD-all}
-use Rattle.rules.proofs.Words.{words-equal}
+use Rattle.rules.specs.Order.{least_in, minimum}
+use Rattle.rules.specs.Queues.{amount_of, empty_queues}
+use Rattle.rules.specs.Words.{field_size, at, head_or, last_or, state_of, unless_free, word, words_of, encode, encode_in}
+use Rattle.rules.proofs.ByKind.{apart_from, by_kinds}
+use Rattle.rules.proofs.EmptyForests.{get_d_all}
+use Rattle.rules.proofs.Words.{words_equal}
 use Rattle.store.specs.Says.{Sized, Values, Says, Changes}
-use Rattle.store.specs.Empty.{emptyHeap}
-use Rattle.store.proofs.Says.{says-as}
+use Rattle.store.specs.Empty.{empty_heap}
+use Rattle.store.proofs.Says.{says_as}
 use Rattle.store.proofs.SetAt.{cond_same}
 
 -- the kinds of which an empty heap has the word `none`
@@ -44,17 +44,17 @@ nones = FirstTree ∷ LastTree ∷ Minimum ∷ []
 
 -- the first k heaps are empty, all other words 0
 abbrev pub emptied : ℕ → Values
-emptied k f i = cond (isOneOf nones f) (cond (ltb i k) none 0) 0
+emptied k f i = cond (is_one_of nones f) (cond (ltb i k) none 0) 0
 
 -- all words 0: no heap is empty yet
-emptied-none : (f : Field) (i : ℕ) → 0 ≡ emptied 0 f i
-emptied-none f i = rw (le-ltb i 0 (omega arith)) (sym (cond_same (isOneOf nones f) 0))
+emptied_none : (f : Field) (i : ℕ) → 0 ≡ emptied 0 f i
+emptied_none f i = rw (le-ltb i 0 (omega arith)) (sym (cond_same (is_one_of nones f) 0))
 
 -- emptying a heap leaves the words of every other kind
-pub empty-else : (h : ℕ) (v : Values) (f : Field) → Apart (Amount ∷ Count ∷ nones) f → (i : ℕ)
-    → emptyHeap h v f i ≡ v f i
-unfolding emptyHeap
-empty-else h v f o i =
+pub empty_else : (h : ℕ) (v : Values) (f : Field) → Apart (Amount ∷ Count ∷ nones) f → (i : ℕ)
+    → empty_heap h v f i ≡ v f i
+unfolding empty_heap
+empty_else h v f o i =
     let e = apart_from (Amount ∷ Count ∷ nones) f o in
     rw (e Amount refl, e Count refl, e FirstTree refl, e LastTree refl, e Minimum refl)
 
@@ -70,10 +70,10 @@ one_more k i = go (eqb k i) (ltb i k) refl refl
         rw (le-ltb i (k + 1) (omega (arith, ltb-false i k e)))
 
 -- one heap more, word by word
-emptied-more : (k : ℕ) (f : Field) (i : ℕ) → emptyHeap k (emptied k) f i ≡ emptied (k + 1) f i
-unfolding emptyHeap
-emptied-more k =
-    by-kinds (Amount ∷ Count ∷ nones) (λ f. (i : ℕ) → emptyHeap k (emptied k) f i ≡ emptied (k + 1) f i)
+emptied_more : (k : ℕ) (f : Field) (i : ℕ) → empty_heap k (emptied k) f i ≡ emptied (k + 1) f i
+unfolding empty_heap
+emptied_more k =
+    by_kinds (Amount ∷ Count ∷ nones) (λ f. (i : ℕ) → empty_heap k (emptied k) f i ≡ emptied (k + 1) f i)
     (λ i. cond_same (eqb k i) 0) (λ i. cond_same (eqb k i) 0) (one_more k) (one_more k) (one_more k)
     (λ f o i.
     let e = apart_from (Amount ∷ Count ∷ nones) f o in
@@ -85,43 +85,43 @@ count-empty zero h = refl
 count-empty (suc n) h = rw (eqb-zero-suc h) (omega (arith, count-empty n h))
 
 -- eight empty heaps over free items: the words of the empty queues
-emptied-all : (n : ℕ) (f : Field) (i : ℕ) → i < fieldSize n f → emptied 8 f i
-    ≡ word (amountOf (emptyQueues n)) (empty n) f i
-unfolding word head_or last_or minimum leastIn unlessFree state_of
-emptied-all n FirstTree i k = rw (lt-ltb i 8 k, getD-all 8 i)
-emptied-all n LastTree i k = rw (lt-ltb i 8 k, getD-all 8 i)
-emptied-all n Minimum i k = rw (lt-ltb i 8 k, getD-all 8 i)
-emptied-all n Count i k = sym (count-empty n i)
-emptied-all n Amount i k = sym (getD-all 8 i 0)
-emptied-all n Key i k = rw (getD-all {A = ℕ} n i 0)
-emptied-all n Parent i k = sym (getD-all n i 0)
-emptied-all n FirstChild i k = rw (getD-all {A = ℕ} n i 0)
-emptied-all n LastChild i k = rw (getD-all {A = ℕ} n i 0)
-emptied-all n Next i k = rw (getD-all {A = ℕ} n i 0)
-emptied-all n Prev i k = rw (getD-all {A = ℕ} n i 0)
-emptied-all n Rank i k = rw (getD-all {A = List ℕ} n i [])
-emptied-all n State i k = rw (getD-all {A = ℕ} n i 0)
+emptied_all : (n : ℕ) (f : Field) (i : ℕ) → i < field_size n f → emptied 8 f i
+    ≡ word (amount_of (empty_queues n)) (empty n) f i
+unfolding word head_or last_or minimum least_in unless_free state_of
+emptied_all n FirstTree i k = rw (lt-ltb i 8 k, get_d_all 8 i)
+emptied_all n LastTree i k = rw (lt-ltb i 8 k, get_d_all 8 i)
+emptied_all n Minimum i k = rw (lt-ltb i 8 k, get_d_all 8 i)
+emptied_all n Count i k = sym (count-empty n i)
+emptied_all n Amount i k = sym (get_d_all 8 i 0)
+emptied_all n Key i k = rw (get_d_all {A = ℕ} n i 0)
+emptied_all n Parent i k = sym (get_d_all n i 0)
+emptied_all n FirstChild i k = rw (get_d_all {A = ℕ} n i 0)
+emptied_all n LastChild i k = rw (get_d_all {A = ℕ} n i 0)
+emptied_all n Next i k = rw (get_d_all {A = ℕ} n i 0)
+emptied_all n Prev i k = rw (get_d_all {A = ℕ} n i 0)
+emptied_all n Rank i k = rw (get_d_all {A = List ℕ} n i [])
+emptied_all n State i k = rw (get_d_all {A = ℕ} n i 0)
 
 -- ---- the steps
 
-pub none-emptied : (n : ℕ) (w w' : List ℕ) → Sized n w → w' ≡ replicate (length w) 0 → Says n w' (emptied 0)
-none-emptied n w w' s e =
+pub none_emptied : (n : ℕ) (w w' : List ℕ) → Sized n w → w' ≡ replicate (length w) 0 → Says n w' (emptied 0)
+none_emptied n w w' s e =
     rw e (record {
       sized = record { size = length-replicate (length w) 0 ∙ s.size; small = s.small };
-      says = λ f i k. getD-all (length w) (at n f i) 0 ∙ emptied-none f i;
+      says = λ f i k. get_d_all (length w) (at n f i) 0 ∙ emptied_none f i;
     })
 
-pub more-emptied : {n : ℕ} {w w' : List ℕ} (h : ℕ) → Says n w (emptied h) → Changes n w (emptyHeap h) w'
+pub more_emptied : {n : ℕ} {w w' : List ℕ} (h : ℕ) → Says n w (emptied h) → Changes n w (empty_heap h) w'
     → Says n w' (emptied (h + 1))
-more-emptied {n} {w} {w'} h s c =
-    says-as n w' (emptyHeap h (emptied h)) (emptied (h + 1)) (c.says (emptied h) s) (λ f i _. emptied-more h f i)
+more_emptied {n} {w} {w'} h s c =
+    says_as n w' (empty_heap h (emptied h)) (emptied (h + 1)) (c.says (emptied h) s) (λ f i _. emptied_more h f i)
 
-eight-emptied : (n : ℕ) (w : List ℕ) → Says n w (emptied 8) → w ≡ encode (emptyQueues n)
-unfolding encodeIn
-eight-emptied n w s =
-    words-equal ByItem n (word (amountOf (emptyQueues n)) (empty n)) w s.sized.size
-    (λ f i k. s.says f i k ∙ emptied-all n f i k)
-    ∙ ap (λ k. words_of k (word (amountOf (emptyQueues n)) (empty n))) (sym (length-replicate n 0))
+eight_emptied : (n : ℕ) (w : List ℕ) → Says n w (emptied 8) → w ≡ encode (empty_queues n)
+unfolding encode_in
+eight_emptied n w s =
+    words_equal ByItem n (word (amount_of (empty_queues n)) (empty n)) w s.sized.size
+    (λ f i k. s.says f i k ∙ emptied_all n f i k)
+    ∙ ap (λ k. words_of k (word (amount_of (empty_queues n)) (empty n))) (sym (length-replicate n 0))
 
-pub all-emptied : (n : ℕ) (w : List ℕ) (h : ℕ) → h ≡ 8 → Says n w (emptied h) → w ≡ encode (emptyQueues n)
-all-emptied n w h e s = eight-emptied n w (subst (λ k. Says n w (emptied k)) e s)
+pub all_emptied : (n : ℕ) (w : List ℕ) (h : ℕ) → h ≡ 8 → Says n w (emptied h) → w ≡ encode (empty_queues n)
+all_emptied n w h e s = eight_emptied n w (subst (λ k. Says n w (emptied k)) e s)

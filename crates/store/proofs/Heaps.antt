@@ -36,19 +36,19 @@ module _ (n : ℕ) (v : Values) (amounts : ℕ → ℕ) (s : Forests) where
   Same f = Agree n v amounts s f
 
   -- Nothing else is said of a heap: these settle its words, and with the kinds of an item all words.
-  pub by-heaps : ((h : ℕ) → h < 8 → HeapWords h) → Same Key → Same Parent → Same FirstChild → Same LastChild
+  pub by_heaps : ((h : ℕ) → h < 8 → HeapWords h) → Same Key → Same Parent → Same FirstChild → Same LastChild
       → Same Next → Same Prev → Same Rank → Same State → (f : Field) → Same f
   unfolding word
-  by-heaps heap key parent first last next prev rank state FirstTree = λ h k. (heap h k).first
-  by-heaps heap key parent first last next prev rank state LastTree = λ h k. (heap h k).last
-  by-heaps heap key parent first last next prev rank state Minimum = λ h k. (heap h k).least
-  by-heaps heap key parent first last next prev rank state Count = λ h k. (heap h k).items
-  by-heaps heap key parent first last next prev rank state Amount = λ h k. (heap h k).amount
-  by-heaps heap key parent first last next prev rank state Key = key
-  by-heaps heap key parent first last next prev rank state Parent = parent
-  by-heaps heap key parent first last next prev rank state FirstChild = first
-  by-heaps heap key parent first last next prev rank state LastChild = last
-  by-heaps heap key parent first last next prev rank state Next = next
-  by-heaps heap key parent first last next prev rank state Prev = prev
-  by-heaps heap key parent first last next prev rank state Rank = rank
-  by-heaps heap key parent first last next prev rank state State = state
+  by_heaps heap key parent first last next prev rank state FirstTree = λ h k. (heap h k).first
+  by_heaps heap key parent first last next prev rank state LastTree = λ h k. (heap h k).last
+  by_heaps heap key parent first last next prev rank state Minimum = λ h k. (heap h k).least
+  by_heaps heap key parent first last next prev rank state Count = λ h k. (heap h k).items
+  by_heaps heap key parent first last next prev rank state Amount = λ h k. (heap h k).amount
+  by_heaps heap key parent first last next prev rank state Key = key
+  by_heaps heap key parent first last next prev rank state Parent = parent
+  by_heaps heap key parent first last next prev rank state FirstChild = first
+  by_heaps heap key parent first last next prev rank state LastChild = last
+  by_heaps heap key parent first last next prev rank state Next = next
+  by_heaps heap key parent first last next prev rank state Prev = prev
+  by_heaps heap key parent first last next prev rank state Rank = rank
+  by_heaps heap key parent first last next prev rank state State = state

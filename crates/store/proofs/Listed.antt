@@ -5,10 +5,10 @@ use mathlib.Core.Logic.{◌≢◌}
 use mathlib.Core.List.{List}
 use native.Mathlib.Omega.{arith}
 use Rattle.rules.specs.Lists.{occurs}
-use Rattle.rules.specs.Forests.{Forests, none, heapOf}
-use Rattle.rules.proofs.Members.{heap-in}
+use Rattle.rules.specs.Forests.{Forests, none, heap_of}
+use Rattle.rules.proofs.Members.{heap_in}
 use Rattle.store.specs.declared.Owner.{Owner}
-use Rattle.store.specs.Families.{list_of, ownerOf, Shape, Family}
+use Rattle.store.specs.Families.{list_of, owner_of, Shape, Family}
 use Rattle.store.specs.Siblings.{Link}
 
 -- who can't stand in a list does not
@@ -20,9 +20,9 @@ not_in y l f = go (occurs y l) f
     go (suc k) f = absurd (f (omega arith))
 
 -- who is `none` or stands in a list of items is in the table, or `none`
-pub link-in : (n : ℕ) (l : List ℕ) → ((y : ℕ) → 1 ≤ occurs y l → y < n) → (a : ℕ) → (a ≢ none → occurs a l ≡ 0 → ⊥)
+pub link_in : (n : ℕ) (l : List ℕ) → ((y : ℕ) → 1 ≤ occurs y l → y < n) → (a : ℕ) → (a ≢ none → occurs a l ≡ 0 → ⊥)
     → Link n a
-link-in n l f a g m = go (occurs a l) refl
+link_in n l f a g m = go (occurs a l) refl
   where
     go : (k : ℕ) → occurs a l ≡ k → a < n
     go zero e = absurd (g m e)
@@ -32,11 +32,11 @@ module _ (n : ℕ) (t : Forests) (o : Owner) where
   -- no member is `none`
   pub none_out : Shape n t → Family n t o → occurs none (list_of t o) ≡ 0
   none_out S F =
-      not_in none (list_of t o) (λ i. omega (arith, heap-in t none (F.owned none i).0, S.small, S.heapN))
+      not_in none (list_of t o) (λ i. omega (arith, heap_in t none (F.owned none i).0, S.small, S.heap_n))
 
   -- who has another owner is no member
-  pub absent : Family n t o → (j : ℕ) → (heapOf t j ≢ 0 → ownerOf t j ≡ o → ⊥) → occurs j (list_of t o) ≡ 0
+  pub absent : Family n t o → (j : ℕ) → (heap_of t j ≢ 0 → owner_of t j ≡ o → ⊥) → occurs j (list_of t o) ≡ 0
   absent F j m = not_in j (list_of t o) (λ i. let b = F.owned j i in m b.0 b.1)
 
-pub item-not-none : {n : ℕ} {t : Forests} → Shape n t → (j : ℕ) → j < n → j ≢ none
-item-not-none S j h e = omega (arith, e, S.small)
+pub item_not_none : {n : ℕ} {t : Forests} → Shape n t → (j : ℕ) → j < n → j ≢ none
+item_not_none S j h e = omega (arith, e, S.small)

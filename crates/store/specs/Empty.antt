@@ -16,19 +16,19 @@ use Rattle.rules.specs.declared.Field.TheVariants.{
   State,
 }
 use Rattle.rules.specs.Forests.{none}
-use Rattle.rules.specs.SetWord.{setWord}
+use Rattle.rules.specs.SetWord.{set_word}
 use Rattle.store.specs.Says.{Values}
 
-unfoldable pub emptyHeap : ℕ → Values → Values
-emptyHeap h v =
-    setWord Amount h 0
-    (setWord Count h 0 (setWord Minimum h none (setWord LastTree h none (setWord FirstTree h none v))))
+unfoldable pub empty_heap : ℕ → Values → Values
+empty_heap h v =
+    set_word Amount h 0
+    (set_word Count h 0 (set_word Minimum h none (set_word LastTree h none (set_word FirstTree h none v))))
 
 -- the amount of heap h, 0 if the heap is empty
-unfoldable pub amountSettled : ℕ → Values → Values
-amountSettled h v = setWord Amount h (cond (eqb (v Count h) 0) 0 (v Amount h)) v
+unfoldable pub amount_settled : ℕ → Values → Values
+amount_settled h v = set_word Amount h (cond (eqb (v Count h) 0) 0 (v Amount h)) v
 
-unfoldable pub freeItem : ℕ → Values → Values
-freeItem i v =
-    setWord State i 0 (setWord Rank i 0 (setWord Prev i 0 (setWord Next i 0
-    (setWord LastChild i 0 (setWord FirstChild i 0 (setWord Parent i 0 (setWord Key i 0 v)))))))
+unfoldable pub free_item : ℕ → Values → Values
+free_item i v =
+    set_word State i 0 (set_word Rank i 0 (set_word Prev i 0 (set_word Next i 0
+    (set_word LastChild i 0 (set_word FirstChild i 0 (set_word Parent i 0 (set_word Key i 0 v)))))))

@@ -12,7 +12,7 @@ use Rattle.rules.specs.declared.Field.TheVariants.{
   Rank,
 }
 use Rattle.rules.specs.Forests.{none}
-use Rattle.rules.specs.SetWord.{setWord}
+use Rattle.rules.specs.SetWord.{set_word}
 use Rattle.rules.specs.Words.{look}
 use Rattle.store.specs.declared.Owner.{Owner}
 use Rattle.store.specs.declared.Owner.TheVariants.{Row, Children}
@@ -41,34 +41,34 @@ unfoldable pub last_of : Owner → Values → ℕ
 last_of (Row h) v = v LastTree h
 last_of (Children p) v = v LastChild p
 
-unfoldable pub setFirst : Owner → ℕ → Values → Values
-setFirst (Row h) x = setWord FirstTree h x
-setFirst (Children p) x = setWord FirstChild p x
+unfoldable pub set_first : Owner → ℕ → Values → Values
+set_first (Row h) x = set_word FirstTree h x
+set_first (Children p) x = set_word FirstChild p x
 
-unfoldable pub setLast : Owner → ℕ → Values → Values
-setLast (Row h) x = setWord LastTree h x
-setLast (Children p) x = setWord LastChild p x
+unfoldable pub set_last : Owner → ℕ → Values → Values
+set_last (Row h) x = set_word LastTree h x
+set_last (Children p) x = set_word LastChild p x
 
 -- x follows a in the list, or is its first where a is none; x precedes b, or is its last where b is none. (There is no
 -- word of `none`.)
-unfoldable pub setNext : Owner → ℕ → ℕ → Values → Values
-setNext o a x v = setWord Next a x (setFirst o (cond (eqb a none) x (first_of o v)) v)
+unfoldable pub set_next : Owner → ℕ → ℕ → Values → Values
+set_next o a x v = set_word Next a x (set_first o (cond (eqb a none) x (first_of o v)) v)
 
-unfoldable pub setPrev : Owner → ℕ → ℕ → Values → Values
-setPrev o b x v = setWord Prev b x (setLast o (cond (eqb b none) x (last_of o v)) v)
+unfoldable pub set_prev : Owner → ℕ → ℕ → Values → Values
+set_prev o b x v = set_word Prev b x (set_last o (cond (eqb b none) x (last_of o v)) v)
 
 -- the rank of the owner, which only an item has
-unfoldable pub addRank : Owner → Values → Values
-addRank (Row h) v = v
-addRank (Children p) v = setWord Rank p (v Rank p + 1) v
+unfoldable pub add_rank : Owner → Values → Values
+add_rank (Row h) v = v
+add_rank (Children p) v = set_word Rank p (v Rank p + 1) v
 
-unfoldable pub dropRank : Owner → Values → Values
-dropRank (Row h) v = v
-dropRank (Children p) v = setWord Rank p (v Rank p - 1) v
+unfoldable pub drop_rank : Owner → Values → Values
+drop_rank (Row h) v = v
+drop_rank (Children p) v = set_word Rank p (v Rank p - 1) v
 
 -- The siblings from x to y, each linked to the next, are joined to the end of the list, whose last was l.
 unfoldable pub joined : Owner → ℕ → ℕ → ℕ → Values → Values
-joined o l x y v = setLast o y (setWord Prev x l (setNext o l x v))
+joined o l x y v = set_last o y (set_word Prev x l (set_next o l x v))
 
 -- The same where x may be none, and nothing is joined then. Links alone change: the parents and marks of the siblings
 -- and the rank of the owner stay.
@@ -78,11 +78,11 @@ concatenated o x y v = cond (eqb x none) v (joined o (last_of o v) x y v)
 -- The item i becomes the last of the list, with the owner as its parent.
 unfoldable pub appended : Owner → ℕ → Values → Values
 appended o i v =
-    joined o (last_of o v) i i (setWord Parent i (parent_in o) (setWord Next i none (addRank o v)))
+    joined o (last_of o v) i i (set_word Parent i (parent_in o) (set_word Next i none (add_rank o v)))
 
 -- The item i leaves the list. Its own links are left as they are.
 unfoldable pub removed : Owner → ℕ → Values → Values
-removed o i v = setPrev o (v Next i) (v Prev i) (setNext o (v Prev i) (v Next i) (dropRank o v))
+removed o i v = set_prev o (v Next i) (v Prev i) (set_next o (v Prev i) (v Next i) (drop_rank o v))
 
 -- ---- what the moves require of the words
 

@@ -1,10 +1,10 @@
 // Keys, and their words: the word of an item's key is the key less the amount of its heap, both wrapping at 32 bits.
 ghost use Rattle.std.specs.Prelude.{◌≡◌, ◌<◌};
 ghost use Rattle.rules.specs.declared.Field.TheVariants.{Key};
-ghost use Rattle.rules.specs.Queues.{keyFrom, keyWord};
-ghost use Rattle.rules.specs.Words.{lookIn, look};
-ghost use Rattle.store.specs.Empty.{amountSettled};
-ghost use Rattle.store.specs.ItemOrder.{itemKey, keyStored};
+ghost use Rattle.rules.specs.Queues.{key_from, key_word};
+ghost use Rattle.rules.specs.Words.{look_in, look};
+ghost use Rattle.store.specs.Empty.{amount_settled};
+ghost use Rattle.store.specs.ItemOrder.{item_key, key_stored};
 ghost use Rattle.store.specs.Says.{Sized, Within, Changes};
 
 use super::{get, get_in, put};
@@ -12,14 +12,14 @@ use rules::{Field, Layout};
 
 // The key that an amount and a key word make.
 pub fn key_from(amount: u32, word: u32) -> u32
-    ensures { result ≡ keyFrom amount word }
+    ensures { result ≡ key_from amount word }
 {
     (((word as u64) + (amount as u64)) % 4294967296) as u32
 }
 
 // The word of a key, by the amount of its heap.
 pub fn key_word(amount: u32, key: u32) -> u32
-    ensures { result ≡ keyWord amount key }
+    ensures { result ≡ key_word amount key }
 {
     (((key as u64) + (4294967296 - (amount as u64))) % 4294967296) as u32
 }
@@ -28,7 +28,7 @@ pub fn key_word(amount: u32, key: u32) -> u32
 pub fn key_in(s: &[u32], layout: Layout, n: usize, h: u32, i: u32) -> u32
     requires within { Within n s.now Key i }
     requires h_bound { h < 8 }
-    ensures { result ≡ itemKey h (lookIn layout n s.now) i }
+    ensures { result ≡ item_key h (look_in layout n s.now) i }
 {
     let amount = get_in(s, layout, n, Field::Amount, h);
     key_from(amount, get_in(s, layout, n, Field::Key, i))
@@ -38,7 +38,7 @@ pub fn key_in(s: &[u32], layout: Layout, n: usize, h: u32, i: u32) -> u32
 pub fn key_of(s: &[u32], n: usize, h: u32, i: u32) -> u32
     requires within { Within n s.now Key i }
     requires h_bound { h < 8 }
-    ensures { result ≡ itemKey h (look n s.now) i }
+    ensures { result ≡ item_key h (look n s.now) i }
 {
     key_in(s, Layout::ByItem, n, h, i)
 }
@@ -47,7 +47,7 @@ pub fn key_of(s: &[u32], n: usize, h: u32, i: u32) -> u32
 pub fn put_key(s: &mut [u32], n: usize, h: u32, i: u32, k: u32)
     requires within { Within n s.old Key i }
     requires h_bound { h < 8 }
-    ensures { Changes n s.old (keyStored h i k) s.new }
+    ensures { Changes n s.old (key_stored h i k) s.new }
 {
     let amount = get(s, n, Field::Amount, h);
     put(s, n, Field::Key, i, key_word(amount, k));
@@ -57,7 +57,7 @@ pub fn put_key(s: &mut [u32], n: usize, h: u32, i: u32, k: u32)
 pub fn settle_amount(s: &mut [u32], n: usize, h: u32)
     requires sized { Sized n s.old }
     requires h_bound { h < 8 }
-    ensures { Changes n s.old (amountSettled h) s.new }
+    ensures { Changes n s.old (amount_settled h) s.new }
 {
     if get(s, n, Field::Count, h) == 0 {
         put(s, n, Field::Amount, h, 0);

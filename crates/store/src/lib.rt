@@ -1,21 +1,21 @@
 // The words of a store for n items: the only code that knows how many there are and where each lies.
 // Nothing above this crate computes a size or indexes a store, but for `worked`, which prints words as they lie.
 ghost use Rattle.std.specs.Prelude.{◌≡◌, ◌<◌, ◌≤◌, length, replicate};
-ghost use Rattle.rules.specs.Queues.{emptyQueues};
-ghost use Rattle.rules.specs.SetWord.{fieldNumber, setWord};
+ghost use Rattle.rules.specs.Queues.{empty_queues};
+ghost use Rattle.rules.specs.SetWord.{field_number, set_word};
 ghost use Rattle.rules.specs.declared.Layout.TheVariants.{ByKind};
-ghost use Rattle.rules.specs.Words.{storeSize, items_in, is_store, place_in, lookIn, look, encode};
+ghost use Rattle.rules.specs.Words.{store_size, items_in, is_store, place_in, look_in, look, encode};
 ghost use Rattle.store.specs.Says.{IsPlace, Sized, Within, Changes};
-ghost use Rattle.store.specs.Empty.{emptyHeap, freeItem};
+ghost use Rattle.store.specs.Empty.{empty_heap, free_item};
 ghost use Rattle.store.specs.Siblings.{
   parent_in,
   last_of,
-  setFirst,
-  setLast,
-  setNext,
-  setPrev,
-  addRank,
-  dropRank,
+  set_first,
+  set_last,
+  set_next,
+  set_prev,
+  add_rank,
+  drop_rank,
   joined,
   concatenated,
   appended,
@@ -57,7 +57,7 @@ pub const ITEM_WORDS: usize = 8;
 // The words of a store for n items.
 pub fn size_for(n: usize) -> usize
     requires { n ≤ 4096 }
-    ensures { result ≡ storeSize n }
+    ensures { result ≡ store_size n }
 {
     HEAP_WORDS + ITEM_WORDS * n
 }
@@ -86,7 +86,7 @@ pub fn is_store(s: &[u32]) -> bool
 
 // The number of a kind: five of a heap, then eight of an item, in the sequence in which they lie.
 fn kind_number(f: Field) -> usize
-    ensures { result ≡ fieldNumber f }
+    ensures { result ≡ field_number f }
 {
     match f {
         Field::FirstTree => 0,
@@ -144,7 +144,7 @@ pub fn get(s: &[u32], n: usize, f: Field, i: u32) -> u32
 // The same in an old store.
 fn get_old(s: &[u32], n: usize, f: Field, i: u32) -> u32
     requires { Within n s.now f i }
-    ensures { result ≡ lookIn ByKind n s.now f i }
+    ensures { result ≡ look_in ByKind n s.now f i }
 {
     let at = old_place(n, f, i as usize);
     s[at]
@@ -153,7 +153,7 @@ fn get_old(s: &[u32], n: usize, f: Field, i: u32) -> u32
 // The same in either order. The word is read in each case, so that a loop that reads words is compiled for each order.
 pub fn get_in(s: &[u32], layout: Layout, n: usize, f: Field, i: u32) -> u32
     requires { Within n s.now f i }
-    ensures { result ≡ lookIn layout n s.now f i }
+    ensures { result ≡ look_in layout n s.now f i }
 {
     match layout {
         Layout::ByItem => get(s, n, f, i),
@@ -164,7 +164,7 @@ pub fn get_in(s: &[u32], layout: Layout, n: usize, f: Field, i: u32) -> u32
 // Word i of a kind stored.
 pub fn put(s: &mut [u32], n: usize, f: Field, i: u32, x: u32)
     requires { Within n s.old f i }
-    ensures { Changes n s.old (setWord f i x) s.new }
+    ensures { Changes n s.old (set_word f i x) s.new }
 {
     let at = place(f, i as usize);
     s[at] = x;
@@ -185,7 +185,7 @@ fn fill(s: &mut [u32])
 pub fn empty_heap(s: &mut [u32], n: usize, h: u32)
     requires sized { Sized n s.old }
     requires h_bound { h < 8 }
-    ensures { Changes n s.old (emptyHeap h) s.new }
+    ensures { Changes n s.old (empty_heap h) s.new }
 {
     put(s, n, Field::FirstTree, h, NONE);
     put(s, n, Field::LastTree, h, NONE);
@@ -198,7 +198,7 @@ pub fn empty_heap(s: &mut [u32], n: usize, h: u32)
 pub fn free_item(s: &mut [u32], n: usize, i: u32)
     requires sized { Sized n s.old }
     requires i_lt_n { i < n }
-    ensures { Changes n s.old (freeItem i) s.new }
+    ensures { Changes n s.old (free_item i) s.new }
 {
     put(s, n, Field::Key, i, 0);
     put(s, n, Field::Parent, i, 0);
@@ -213,7 +213,7 @@ pub fn free_item(s: &mut [u32], n: usize, i: u32)
 // The words of eight empty heaps over free items.
 pub fn make_empty(s: &mut [u32], n: usize)
     requires { Sized n s.old }
-    ensures { s.new ≡ encode (emptyQueues n) }
+    ensures { s.new ≡ encode (empty_queues n) }
 {
     fill(s);
     for h in 0..8 {
@@ -237,7 +237,7 @@ pub fn last(s: &[u32], n: usize, o: Owner) -> u32
 // The first of a list stored.
 fn put_first(s: &mut [u32], n: usize, o: Owner, x: u32)
     requires { OwnerReady n s.old o }
-    ensures { Changes n s.old (setFirst o x) s.new }
+    ensures { Changes n s.old (set_first o x) s.new }
 {
     match o {
         Owner::Row(h) => put(s, n, Field::FirstTree, h, x),
@@ -248,7 +248,7 @@ fn put_first(s: &mut [u32], n: usize, o: Owner, x: u32)
 // The last of a list stored.
 fn put_last(s: &mut [u32], n: usize, o: Owner, x: u32)
     requires { OwnerReady n s.old o }
-    ensures { Changes n s.old (setLast o x) s.new }
+    ensures { Changes n s.old (set_last o x) s.new }
 {
     match o {
         Owner::Row(h) => put(s, n, Field::LastTree, h, x),
@@ -259,7 +259,7 @@ fn put_last(s: &mut [u32], n: usize, o: Owner, x: u32)
 // x follows a, or is the first of the list where a is NONE.
 fn put_next(s: &mut [u32], n: usize, o: Owner, a: u32, x: u32)
     requires { LinkReady n s.old o a }
-    ensures { Changes n s.old (setNext o a x) s.new }
+    ensures { Changes n s.old (set_next o a x) s.new }
 {
     if a == NONE {
         put_first(s, n, o, x);
@@ -271,7 +271,7 @@ fn put_next(s: &mut [u32], n: usize, o: Owner, a: u32, x: u32)
 // x precedes b, or is the last of the list where b is NONE.
 fn put_prev(s: &mut [u32], n: usize, o: Owner, b: u32, x: u32)
     requires { LinkReady n s.old o b }
-    ensures { Changes n s.old (setPrev o b x) s.new }
+    ensures { Changes n s.old (set_prev o b x) s.new }
 {
     if b == NONE {
         put_last(s, n, o, x);
@@ -294,7 +294,7 @@ fn parent_in(o: Owner) -> u32
 fn add_rank(s: &mut [u32], n: usize, o: Owner)
     requires owner_ready { OwnerReady n s.old o }
     requires rank_rises { RankRises o (look n s.old) }
-    ensures { Changes n s.old (addRank o) s.new }
+    ensures { Changes n s.old (add_rank o) s.new }
 {
     match o {
         Owner::Row(_) => {}
@@ -309,7 +309,7 @@ fn add_rank(s: &mut [u32], n: usize, o: Owner)
 fn drop_rank(s: &mut [u32], n: usize, o: Owner)
     requires owner_ready { OwnerReady n s.old o }
     requires rank_falls { RankFalls o (look n s.old) }
-    ensures { Changes n s.old (dropRank o) s.new }
+    ensures { Changes n s.old (drop_rank o) s.new }
 {
     match o {
         Owner::Row(_) => {}

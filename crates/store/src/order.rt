@@ -1,9 +1,9 @@
 // The order of items of one heap, on the words of a store.
 ghost use Rattle.std.specs.Prelude.{◌≡◌, ◌+◌, ◌*◌, ◌<◌};
 ghost use Rattle.rules.specs.declared.Field.TheVariants.{Key};
-ghost use Rattle.rules.specs.Order.{comesBefore, lesser};
-ghost use Rattle.rules.specs.Words.{lookIn, look};
-ghost use Rattle.store.specs.ItemOrder.{itemKey, TwoItems};
+ghost use Rattle.rules.specs.Order.{comes_before, lesser};
+ghost use Rattle.rules.specs.Words.{look_in, look};
+ghost use Rattle.store.specs.ItemOrder.{item_key, TwoItems};
 ghost use Rattle.store.specs.Says.{Within};
 
 use super::NONE;
@@ -22,7 +22,7 @@ pub fn precedes_in(s: &[u32], layout: Layout, n: usize, h: u32, a: u32, b: u32) 
     requires h_bound { h < 8 }
     requires within { Within n s.now Key a }
     requires within_2 { Within n s.now Key b }
-    ensures { result ≡ comesBefore (itemKey h (lookIn layout n s.now)) a b }
+    ensures { result ≡ comes_before (item_key h (look_in layout n s.now)) a b }
 {
     let x = key_in(s, layout, n, h, a);
     let y = key_in(s, layout, n, h, b);
@@ -34,7 +34,7 @@ pub fn precedes(s: &[u32], n: usize, h: u32, a: u32, b: u32) -> bool
     requires h_bound { h < 8 }
     requires within { Within n s.now Key a }
     requires within_2 { Within n s.now Key b }
-    ensures { result ≡ comesBefore (itemKey h (look n s.now)) a b }
+    ensures { result ≡ comes_before (item_key h (look n s.now)) a b }
 {
     precedes_in(s, Layout::ByItem, n, h, a, b)
 }
@@ -43,7 +43,7 @@ pub fn precedes(s: &[u32], n: usize, h: u32, a: u32, b: u32) -> bool
 pub fn lesser_in(s: &[u32], layout: Layout, n: usize, h: u32, a: u32, b: u32) -> u32
     requires h_bound { h < 8 }
     requires two_items { TwoItems n s.now a b }
-    ensures { result ≡ lesser (itemKey h (lookIn layout n s.now)) a b }
+    ensures { result ≡ lesser (item_key h (look_in layout n s.now)) a b }
 {
     if a == NONE {
         return b;
@@ -62,7 +62,7 @@ pub fn lesser_in(s: &[u32], layout: Layout, n: usize, h: u32, a: u32, b: u32) ->
 pub fn lesser_of(s: &[u32], n: usize, h: u32, a: u32, b: u32) -> u32
     requires h_bound { h < 8 }
     requires two_items { TwoItems n s.now a b }
-    ensures { result ≡ lesser (itemKey h (look n s.now)) a b }
+    ensures { result ≡ lesser (item_key h (look n s.now)) a b }
 {
     lesser_in(s, Layout::ByItem, n, h, a, b)
 }

@@ -1,55 +1,55 @@
 -- The lines of a text: those from a position on, and those of a text after a closed one.
 use Rattle.std.proofs.Common.{◌≡◌, ℕ, suc, ◌+◌, ◌-◌, ◌<◌, ◌≤◌, Bool, true, false, cond, eqb, ◌⊎◌, List, [], ◌∷◌, ◌++◌, length, take, drop, sym, refl, ap, ◌∙◌, inl, inr, ⊎_elim, arith, length-drop, drop_of_length-le, drop-drop}
 use lib.Dec.{eqb-suc-zero}
-use Rattle.text.specs.Lines.{lineFeed, ahead, lines, lineLength, lineEnd, closed}
+use Rattle.text.specs.Lines.{line_feed, ahead, lines, line_length, line_end, closed}
 use Rattle.text.specs.Laws.{LinesAppend}
 
 -- a text is empty, or it has a first line and the lines after that
 abbrev FirstLine : List ℕ → Type 0
-FirstLine l = (l ≡ []) ⊎ (lines l ≡ take (lineLength l) l ∷ lines (drop (suc (lineLength l)) l))
+FirstLine l = (l ≡ []) ⊎ (lines l ≡ take (line_length l) l ∷ lines (drop (suc (line_length l)) l))
 
-first-cond : (t : Bool) (b : ℕ) (bs : List ℕ) → FirstLine bs
+first_cond : (t : Bool) (b : ℕ) (bs : List ℕ) → FirstLine bs
     → cond t ([] ∷ lines bs) (ahead b (lines bs))
-    ≡ take (cond t 0 (suc (lineLength bs))) (b ∷ bs) ∷ lines (drop (suc (cond t 0 (suc (lineLength bs)))) (b ∷ bs))
-unfolding ahead lines lineLength
-first-cond true b bs w = refl
-first-cond false b bs (inl e) = rw e
-first-cond false b bs (inr e) = rw e
+    ≡ take (cond t 0 (suc (line_length bs))) (b ∷ bs) ∷ lines (drop (suc (cond t 0 (suc (line_length bs)))) (b ∷ bs))
+unfolding ahead lines line_length
+first_cond true b bs w = refl
+first_cond false b bs (inl e) = rw e
+first_cond false b bs (inr e) = rw e
 
-first-line : (l : List ℕ) → FirstLine l
-unfolding lines lineLength
-first-line [] = inl refl
-first-line (b ∷ bs) = inr (first-cond (eqb b lineFeed) b bs (first-line bs))
+first_line_lem : (l : List ℕ) → FirstLine l
+unfolding lines line_length
+first_line_lem [] = inl refl
+first_line_lem (b ∷ bs) = inr (first_cond (eqb b line_feed) b bs (first_line_lem bs))
 
--- the lines from a position on: the one that ends at `lineEnd`, and those after its LF
+-- the lines from a position on: the one that ends at `line_end`, and those after its LF
 pub lines_at :
     (s : List ℕ) (at : ℕ) → at < length s
-    → lines (drop at s) ≡ take (lineEnd s at - at) (drop at s) ∷ lines (drop (lineEnd s at + 1) s)
-unfolding lineEnd
+    → lines (drop at s) ≡ take (line_end s at - at) (drop at s) ∷ lines (drop (line_end s at + 1) s)
+unfolding line_end
 lines_at s at h =
-    let n : lineLength (drop at s) ≡ at + lineLength (drop at s) - at = omega arith in
-    let m : at + suc (lineLength (drop at s)) ≡ at + lineLength (drop at s) + 1 = omega arith in
+    let n : line_length (drop at s) ≡ at + line_length (drop at s) - at = omega arith in
+    let m : at + suc (line_length (drop at s)) ≡ at + line_length (drop at s) + 1 = omega arith in
     ⊎_elim
     (λ e. absurd (omega (arith, length-drop at s, ap length e)))
-    (λ e. e ∙ rw (← n, ← m, drop-drop (suc (lineLength (drop at s))) at s))
-    (first-line (drop at s))
+    (λ e. e ∙ rw (← n, ← m, drop-drop (suc (line_length (drop at s))) at s))
+    (first_line_lem (drop at s))
 
 pub lines_end : (s : List ℕ) (at : ℕ) → length s ≤ at → lines (drop at s) ≡ []
 unfolding lines
 lines_end s at h = rw (drop_of_length-le s h)
 
 -- a text with a byte has a line
-pub some-line : (b : ℕ) (bs : List ℕ) → lines (b ∷ bs) ≡ [] → ⊥
-some-line b bs e =
+pub some_line : (b : ℕ) (bs : List ℕ) → lines (b ∷ bs) ≡ [] → ⊥
+some_line b bs e =
     ⊎_elim
     (λ p. omega (arith, ap length p))
     (λ p. omega (arith, ap length (sym e ∙ p)))
-    (first-line (b ∷ bs))
+    (first_line_lem (b ∷ bs))
 
 -- whether a text is closed lies in its last byte
-pub closed-more : (a b : ℕ) (bs : List ℕ) → closed (a ∷ b ∷ bs) ≡ closed (b ∷ bs)
+pub closed_more : (a b : ℕ) (bs : List ℕ) → closed (a ∷ b ∷ bs) ≡ closed (b ∷ bs)
 unfolding closed
-closed-more a b bs =
+closed_more a b bs =
     let e : suc (suc (length bs)) - 1 ≡ suc (suc (length bs) - 1) = omega arith in
     rw (eqb-suc-zero, eqb-suc-zero, e)
 
@@ -65,5 +65,5 @@ unfolding lines closed
 lines-append [] b c = refl
 lines-append (x ∷ []) b c = rw c
 lines-append (x ∷ y ∷ a) b c =
-    append-cond (eqb x lineFeed) x (lines (y ∷ a ++ b)) (lines (y ∷ a)) (lines b)
-    (lines-append (y ∷ a) b (sym (closed-more x y a) ∙ c)) (some-line y a)
+    append-cond (eqb x line_feed) x (lines (y ∷ a ++ b)) (lines (y ∷ a)) (lines b)
+    (lines-append (y ∷ a) b (sym (closed_more x y a) ∙ c)) (some_line y a)

@@ -3,17 +3,17 @@ use Rattle.std.proofs.Common.{◌≡◌, ℕ, suc, ◌+◌, ◌≤◌, List, [],
 use lib.Seq.{sets, length-sets, set_comm}
 use Rattle.text.specs.Output.{Wrote}
 
-pub sets-append :
+pub sets_append :
     (l : List ℕ) (i : ℕ) (xs ys : List ℕ) → sets l i (xs ++ ys) ≡ sets (sets l i xs) (i + length xs) ys
-sets-append l i [] ys = rw (add-zero i)
-sets-append l i (x ∷ xs) ys = sets-append (set l i x) (suc i) xs ys ∙ rw (add-suc i (length xs), suc-add i (length xs))
+sets_append l i [] ys = rw (add-zero i)
+sets_append l i (x ∷ xs) ys = sets_append (set l i x) (suc i) xs ys ∙ rw (add-suc i (length xs), suc-add i (length xs))
 
 -- a store behind the bytes may as well be done before them
-pub sets-set :
+pub sets_set :
     (l : List ℕ) (i : ℕ) (xs : List ℕ) (k a : ℕ) → i + length xs ≤ k → set (sets l i xs) k a ≡ sets (set l k a) i xs
-sets-set l i [] k a h = refl
-sets-set l i (x ∷ xs) k a h =
-    sets-set (set l i x) (suc i) xs k a (omega arith)
+sets_set l i [] k a h = refl
+sets_set l i (x ∷ xs) k a h =
+    sets_set (set l i x) (suc i) xs k a (omega arith)
     ∙ ap (λ (m : List ℕ). sets m (suc i) xs) (set_comm l i k x a (λ e. omega arith))
 
 -- what two writings in a row leave
@@ -21,7 +21,7 @@ pub wrote_then :
     {l l' l'' : List ℕ} {a b c : ℕ} {xs ys : List ℕ} → Wrote l a xs l' b → Wrote l' b ys l'' c → Wrote l a (xs ++ ys) l'' c
 wrote_then {l} {l'} {l''} {a} {b} {c} {xs} {ys} v w =
     record {
-      left = w.left ∙ rw (v.left, v.next, sets-append l a xs ys);
+      left = w.left ∙ rw (v.left, v.next, sets_append l a xs ys);
       next = omega (arith, w.next, v.next, length-append xs ys);
     }
 
@@ -29,5 +29,5 @@ pub wrote_none : (l : List ℕ) (a : ℕ) → Wrote l a [] l a
 wrote_none l a = record { left = refl; next = omega arith }
 
 -- a writing keeps the length
-pub wrote-length : {l l' : List ℕ} {a b : ℕ} {xs : List ℕ} → Wrote l a xs l' b → length l' ≡ length l
-wrote-length {l} {l'} {a} {b} {xs} w = rw w.left (length-sets l a xs)
+pub wrote_length : {l l' : List ℕ} {a b : ℕ} {xs : List ℕ} → Wrote l a xs l' b → length l' ≡ length l
+wrote_length {l} {l'} {a} {b} {xs} w = rw w.left (length-sets l a xs)

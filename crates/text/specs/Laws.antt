@@ -1,14 +1,14 @@
 -- Statements about the text layer that its users rest on. Their proofs stand in proofs/ under the same words.
 use Rattle.std.specs.Prelude.{◌≡◌, ℕ, suc, ◌+◌, ◌^◌, ◌<◌, ◌≤◌, true, cond, List, [], ◌++◌, length, drop, slice_index}
-use Rattle.text.specs.Numbers.{largest, digitRun, number_at}
-use Rattle.text.specs.Lines.{lines, lineFeeds, closed}
+use Rattle.text.specs.Numbers.{largest, digit_run, number_at}
+use Rattle.text.specs.Lines.{lines, line_feeds, closed}
 use Rattle.text.specs.Decimal.{decimal}
 use Rattle.text.specs.declared.Number.TheVariants.{Value}
 
 -- a number that was written is read back, whatever stands after it but a digit
 abbrev pub ReadsBack : Type 0
 ReadsBack =
-    (s : List ℕ) (at n : ℕ) (rest : List ℕ) → n ≤ largest → digitRun rest ≡ [] → drop at s ≡ decimal n ++ rest
+    (s : List ℕ) (at n : ℕ) (rest : List ℕ) → n ≤ largest → digit_run rest ≡ [] → drop at s ≡ decimal n ++ rest
     → number_at s at ≡ Value n (at + length (decimal n))
 
 -- text after a closed text adds its lines to those before it
@@ -17,7 +17,7 @@ LinesAppend = (a b : List ℕ) → closed a ≡ true → lines (a ++ b) ≡ line
 
 -- the number of lines: that of LF, and one more where bytes stand after the last LF
 abbrev pub LineCount : Type 0
-LineCount = (s : List ℕ) → length (lines s) ≡ lineFeeds s + cond (closed s) 0 1
+LineCount = (s : List ℕ) → length (lines s) ≡ line_feeds s + cond (closed s) 0 1
 
 -- a number below 10 ^ (k + 1) has at most k + 1 digits
 abbrev pub DecimalShort : Type 0

@@ -1,9 +1,9 @@
 // Text as bytes: numbers, fields and lines are read here, numbers are written in `output`.
 ghost use Rattle.std.specs.Prelude.{◌≡◌, suc, ◌+◌, ◌≤◌, min, [], ◌∷◌, length};
-ghost use Rattle.text.specs.Numbers.{mostDigits, number_at, firstDigits, DigitsRead};
+ghost use Rattle.text.specs.Numbers.{most_digits, number_at, first_digits, DigitsRead};
 ghost use Rattle.text.specs.declared.Numbers.TheVariants.{Other};
-ghost use Rattle.text.specs.Fields.{field_at, ends_at, rowFrom, named, numbersFrom, FieldsRead, RowRead};
-ghost use Rattle.text.specs.Lines.{lines, lineEnd, lineFeeds};
+ghost use Rattle.text.specs.Fields.{field_at, ends_at, row_from, named, numbers_from, FieldsRead, RowRead};
+ghost use Rattle.text.specs.Lines.{lines, line_end, line_feeds};
 
 pub mod output;
 
@@ -25,7 +25,7 @@ struct DigitRun {
 
 // Where reading digits from `at` on ends at the latest: with the text, or after one digit too many.
 fn reading_end(s: &[u8], at: usize) -> usize
-    ensures { result ≡ min (length s.now) (at + suc mostDigits) }
+    ensures { result ≡ min (length s.now) (at + suc most_digits) }
 {
     let len = s.len();
     if len <= at {
@@ -39,7 +39,7 @@ fn reading_end(s: &[u8], at: usize) -> usize
 
 // Eleven digits are read at most, so their value fits.
 fn digits_at(s: &[u8], at: usize) -> DigitRun
-    ensures { DigitsRead (firstDigits s.now at) at result.end result.value }
+    ensures { DigitsRead (first_digits s.now at) at result.end result.value }
 {
     let stop = reading_end(s, at);
     let mut i = at;
@@ -126,7 +126,7 @@ fn no_fields() -> LineRead
 }
 
 fn three_from(s: &[u8], x: u32, y: u32, third: Number) -> LineRead
-    ensures { FieldsRead s.now third (named (rowFrom 1 s.now (x ∷ y ∷ []) third)) result }
+    ensures { FieldsRead s.now third (named (row_from 1 s.now (x ∷ y ∷ []) third)) result }
 {
     let Number::Value(z, at) = third else {
         return no_fields();
@@ -141,7 +141,7 @@ fn three_from(s: &[u8], x: u32, y: u32, third: Number) -> LineRead
 }
 
 fn two_from(s: &[u8], x: u32, second: Number) -> LineRead
-    ensures { FieldsRead s.now second (named (rowFrom 2 s.now (x ∷ []) second)) result }
+    ensures { FieldsRead s.now second (named (row_from 2 s.now (x ∷ []) second)) result }
 {
     let Number::Value(y, at) = second else {
         return no_fields();
@@ -158,7 +158,7 @@ fn two_from(s: &[u8], x: u32, second: Number) -> LineRead
 // One to three numbers up to the end of the first line of s, the first of which the caller has read. The text is
 // not searched for that end: it is where the numbers end.
 pub fn numbers_from(s: &[u8], first: Number) -> LineRead
-    ensures { FieldsRead s.now first (numbersFrom s.now first) result }
+    ensures { FieldsRead s.now first (numbers_from s.now first) result }
 {
     let Number::Value(x, at) = first else {
         return no_fields();
@@ -192,7 +192,7 @@ fn no_row() -> NumberRow
 
 // One to five numbers up to the end of the first line of s, the first of which the caller has read.
 pub fn row_from(s: &[u8], first: Number) -> NumberRow
-    ensures { RowRead (rowFrom 5 s.now [] first) result }
+    ensures { RowRead (row_from 5 s.now [] first) result }
 {
     let mut numbers: [u32; 5] = [0; 5];
     let mut count = 0;
@@ -218,7 +218,7 @@ pub fn row_from(s: &[u8], first: Number) -> NumberRow
 
 // Where the line at a position ends: at its LF, or at the end of the text.
 pub fn line_end(s: &[u8], at: usize) -> usize
-    ensures { result ≡ lineEnd s.now at }
+    ensures { result ≡ line_end s.now at }
 {
     let mut i = at;
     while i < s.len() {
@@ -233,7 +233,7 @@ pub fn line_end(s: &[u8], at: usize) -> usize
 // How many LF a short part of a text has. A byte counts them, so that many bytes are compared at a time.
 fn line_feeds_in(part: &[u8]) -> u8
     requires { length part.now ≤ 255 }
-    ensures { result ≡ lineFeeds part.now }
+    ensures { result ≡ line_feeds part.now }
 {
     let mut n: u8 = 0;
     let mut i = 0;
@@ -247,7 +247,7 @@ fn line_feeds_in(part: &[u8]) -> u8
 }
 
 fn line_feeds(s: &[u8]) -> usize
-    ensures { result ≡ lineFeeds s.now }
+    ensures { result ≡ line_feeds s.now }
 {
     let mut n = 0;
     let mut at = 0;

@@ -17,28 +17,28 @@ use Rattle.rules.specs.declared.Field.TheVariants.{
   Rank,
   State,
 }
-use Rattle.rules.specs.Kinds.{isOneOf}
-use Rattle.rules.specs.SetWord.{setWord}
+use Rattle.rules.specs.Kinds.{is_one_of}
+use Rattle.rules.specs.SetWord.{set_word}
 use Rattle.rules.specs.Words.{look}
 use Rattle.store.specs.Says.{Sized, Values}
 
 -- the kinds of a heap's words, and those of an item's
-abbrev pub heapKinds : List Field
-heapKinds = FirstTree ∷ LastTree ∷ Minimum ∷ Count ∷ Amount ∷ []
+abbrev pub heap_kinds : List Field
+heap_kinds = FirstTree ∷ LastTree ∷ Minimum ∷ Count ∷ Amount ∷ []
 
-abbrev pub itemKinds : List Field
-itemKinds = Key ∷ Parent ∷ FirstChild ∷ LastChild ∷ Next ∷ Prev ∷ Rank ∷ State ∷ []
+abbrev pub item_kinds : List Field
+item_kinds = Key ∷ Parent ∷ FirstChild ∷ LastChild ∷ Next ∷ Prev ∷ Rank ∷ State ∷ []
 
 -- word i of each of these kinds as v has it, every other word as u has it
-abbrev pub wordsFrom : List Field → Values → ℕ → Values → Values
-wordsFrom [] v i u = u
-wordsFrom (f ∷ fs) v i u = wordsFrom fs v i (setWord f i (v f i) u)
+abbrev pub words_from : List Field → Values → ℕ → Values → Values
+words_from [] v i u = u
+words_from (f ∷ fs) v i u = words_from fs v i (set_word f i (v f i) u)
 
 -- how many words of a kind are turned once those of so many heaps and so many items are
-abbrev pub turnedOf : ℕ → ℕ → Field → ℕ
-turnedOf heaps items f = cond (isOneOf heapKinds f) heaps items
+abbrev pub turned_of : ℕ → ℕ → Field → ℕ
+turned_of heaps items f = cond (is_one_of heap_kinds f) heaps items
 
 -- the words w say them as v does
 pub record TurnedTo (n : ℕ) (v : Values) (heaps items : ℕ) (w : List ℕ) : Type 0 where
   pub sized : Sized n w
-  pub each : (f : Field) (i : ℕ) → i < turnedOf heaps items f → look n w f i ≡ v f i
+  pub each : (f : Field) (i : ℕ) → i < turned_of heaps items f → look n w f i ≡ v f i

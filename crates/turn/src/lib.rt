@@ -1,13 +1,13 @@
 //! The turn of a store: the words of a sound store that stand by kind, put into the order in use in a second buffer.
 //! The old words are checked and read where they lie; nothing is copied beside the second buffer.
 ghost use Rattle.std.specs.Prelude.{◌≡◌, ◌<◌};
-ghost use Rattle.rules.specs.SetWord.{setWord};
+ghost use Rattle.rules.specs.SetWord.{set_word};
 ghost use Rattle.rules.specs.declared.Layout.TheVariants.{ByKind};
 ghost use Rattle.rules.specs.Turn.{turn};
-ghost use Rattle.rules.specs.Words.{lookIn};
+ghost use Rattle.rules.specs.Words.{look_in};
 ghost use Rattle.store.specs.Says.{Sized, Within, Changes};
-ghost use Rattle.turn.specs.Steps.{heapKinds, itemKinds, wordsFrom, TurnedTo};
-ghost use Rattle.turn.specs.TurnStore.{turnCode, turnedWords};
+ghost use Rattle.turn.specs.Steps.{heap_kinds, item_kinds, words_from, TurnedTo};
+ghost use Rattle.turn.specs.TurnStore.{turn_code, turned_words};
 
 use audit::sound_in;
 use rules::{Field, Layout};
@@ -17,7 +17,7 @@ use store::{get_in, is_store, items_of, put};
 fn turn_word(old: &[u32], turned: &mut [u32], n: usize, f: Field, i: u32)
     requires within { Within n old.now f i }
     requires sized { Sized n turned.old }
-    ensures { Changes n turned.old (setWord f i (lookIn ByKind n old.now f i))
+    ensures { Changes n turned.old (set_word f i (look_in ByKind n old.now f i))
         turned.new }
 {
     let x = get_in(old, Layout::ByKind, n, f, i);
@@ -29,7 +29,7 @@ fn turn_heap(old: &[u32], turned: &mut [u32], n: usize, h: u32)
     requires sized { Sized n old.now }
     requires sized_2 { Sized n turned.old }
     requires h_bound { h < 8 }
-    ensures { Changes n turned.old (wordsFrom heapKinds (lookIn ByKind n old.now) h)
+    ensures { Changes n turned.old (words_from heap_kinds (look_in ByKind n old.now) h)
         turned.new }
 {
     turn_word(old, turned, n, Field::FirstTree, h);
@@ -44,7 +44,7 @@ fn turn_item(old: &[u32], turned: &mut [u32], n: usize, i: u32)
     requires sized { Sized n old.now }
     requires sized_2 { Sized n turned.old }
     requires i_lt_n { i < n }
-    ensures { Changes n turned.old (wordsFrom itemKinds (lookIn ByKind n old.now) i)
+    ensures { Changes n turned.old (words_from item_kinds (look_in ByKind n old.now) i)
         turned.new }
 {
     turn_word(old, turned, n, Field::Key, i);
@@ -61,7 +61,7 @@ fn turn_item(old: &[u32], turned: &mut [u32], n: usize, i: u32)
 fn turn_heaps(old: &[u32], turned: &mut [u32], n: usize)
     requires sized { Sized n old.now }
     requires sized_2 { Sized n turned.old }
-    ensures { TurnedTo n (lookIn ByKind n old.now) 8 0 turned.new }
+    ensures { TurnedTo n (look_in ByKind n old.now) 8 0 turned.new }
 {
     for h in 0..8 {
         turn_heap(old, turned, n, h);
@@ -71,7 +71,7 @@ fn turn_heaps(old: &[u32], turned: &mut [u32], n: usize)
 // Then the words of all items.
 fn turn_items(old: &[u32], turned: &mut [u32], n: usize)
     requires sized { Sized n old.now }
-    requires turned_to { TurnedTo n (lookIn ByKind n old.now) 8 0 turned.old }
+    requires turned_to { TurnedTo n (look_in ByKind n old.now) 8 0 turned.old }
     ensures { turned.new ≡ turn old.now }
 {
     let m = n as u32;
@@ -85,8 +85,8 @@ fn turn_items(old: &[u32], turned: &mut [u32], n: usize)
 // Turns a sound old store, or refuses under 1 or 5 and leaves the second buffer as it was. Returns the code.
 #[unsafe(no_mangle)]
 pub extern "C" fn turn_store(old: &[u32], turned: &mut [u32]) -> u32
-    ensures { (result ≡ turnCode old.now turned.old)
-        × (turned.new ≡ turnedWords old.now turned.old) }
+    ensures { (result ≡ turn_code old.now turned.old)
+        × (turned.new ≡ turned_words old.now turned.old) }
 {
     if !is_store(old) {
         return 1;

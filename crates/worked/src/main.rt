@@ -1,7 +1,7 @@
 // The scope paper's runs (b) to (h) on the words of a store for nine items. Of each run: its name, the answers of its
 // lines, the row of heap 0, and all words as they lie: a line for each heap, then a line for each item.
 ghost use Rattle.std.specs.Prelude.{◌+◌, ◌≤◌};
-ghost use Rattle.rules.specs.Words.{storeSize};
+ghost use Rattle.rules.specs.Words.{store_size};
 ghost use Rattle.store.specs.Says.{Sized};
 
 use libc::STDOUT_FILENO;
@@ -37,7 +37,7 @@ fn show_row(s: &[u32])
 fn show_line(s: &[u32], from: usize, words: usize)
     requires sized { Sized 9 s.now }
     requires le_words { 1 ≤ words }
-    requires words_bound { from + words ≤ storeSize 9 }
+    requires words_bound { from + words ≤ store_size 9 }
 {
     let last = from + words - 1;
     let mut p = from;

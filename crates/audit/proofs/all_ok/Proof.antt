@@ -2,11 +2,11 @@
 use borrow.Author.Rules.{rules}
 use lib.Dec.{eqb}
 use native.Mathlib.Omega.{arith}
-use Rattle.rules.specs.Words.{lookIn}
-use Rattle.rules.proofs.Occurs.{and-false}
-use Rattle.audit.proofs.Results.{ok-zero, ok-more, states-low}
-use Rattle.audit.proofs.Totals.{indicators-bound}
-use Rattle.soundness.specs.Check.{allTo, heap_at, countAt, itemOk, heapOk, treesAt, ranksAt, allOk}
+use Rattle.rules.specs.Words.{look_in}
+use Rattle.rules.proofs.Occurs.{and_false}
+use Rattle.audit.proofs.Results.{ok_zero, ok_more, states_low}
+use Rattle.audit.proofs.Totals.{indicators_bound}
+use Rattle.soundness.specs.Check.{all_to, heap_at, count_at, item_ok, heap_ok, trees_at, ranks_at, all_ok}
 use Rattle.audit.proofs.all_ok.Statement.{statement}
 use Rattle.audit.proofs.all_ok.Tie as tie
 
@@ -14,35 +14,35 @@ ranks-requires : tie.Need-ranks-requires
 ranks-requires c κs = search rules
 
 returns : tie.Need-returns
-unfolding allOk
+unfolding all_ok
 returns c =
     let a = c.before.before.before.args in
-    let v = lookIn a.layout a.n a.store.now in
-    rw (ok-zero (allTo a.n (itemOk a.n v)) (ranksAt a.n v)
+    let v = look_in a.layout a.n a.store.now in
+    rw (ok_zero (all_to a.n (item_ok a.n v)) (ranks_at a.n v)
     c.before.ranks.result
     c.before.ranks.ensures.is c.if1.true)
 
 counts-requires : tie.Need-counts-requires
 counts-requires c κs =
     let a = c.before.before.before.args in
-    let v = lookIn a.layout a.n a.store.now in
+    let v = look_in a.layout a.n a.store.now in
     let r =
-    ok-more (allTo a.n (itemOk a.n v)) (ranksAt a.n v) c.before.ranks.result
+    ok_more (all_to a.n (item_ok a.n v)) (ranks_at a.n v) c.before.ranks.result
     c.before.ranks.ensures.is c.if1.false in
-    record { sized = c.before.before.before.requires; low = states-low a.n v r.0 }
+    record { sized = c.before.before.before.requires; low = states_low a.n v r.0 }
 
 trees-requires : tie.Need-trees-requires
 trees-requires c κs = search rules
 
 returns-2 : tie.Need-returns-2
-unfolding allOk
+unfolding all_ok
 returns-2 c =
     let a = c.before.before.before.before.before.before.args in
-    let v = lookIn a.layout a.n a.store.now in
+    let v = look_in a.layout a.n a.store.now in
     rw (
-      ok-zero (allTo 8 (heapOk a.n v)) (treesAt a.n v) c.before.trees.result
+      ok_zero (all_to 8 (heap_ok a.n v)) (trees_at a.n v) c.before.trees.result
           c.before.trees.ensures.is c.if2.true,
-      and-false,
+      and_false,
     )
 
 sub-result : tie.Need-overflow-sub-result
@@ -58,27 +58,27 @@ array-read-result : tie.Need-array-read-result
 array-read-result c = search rules
 
 add-result-2 : tie.Need-overflow-add-result-2
-unfolding countAt
+unfolding count_at
 add-result-2 c =
     let a = c.before.before.before.before.before.before.args in
-    let v = lookIn a.layout a.n a.store.now in
+    let v = look_in a.layout a.n a.store.now in
     omega (
       arith,
       c.before.before.counts.ensures.each 0 (omega arith),
-      indicators-bound a.n (λ i. eqb (heap_at a.n v i) 0),
+      indicators_bound a.n (λ i. eqb (heap_at a.n v i) 0),
     )
 
 returns-3 : tie.Need-returns-3
-unfolding allOk
+unfolding all_ok
 returns-3 c =
     let a = c.before.before.before.before.before.before.args in
-    let v = lookIn a.layout a.n a.store.now in
+    let v = look_in a.layout a.n a.store.now in
     let r =
-    ok-more (allTo a.n (itemOk a.n v)) (ranksAt a.n v)
+    ok_more (all_to a.n (item_ok a.n v)) (ranks_at a.n v)
     c.before.before.before.before.ranks.result
     c.before.before.before.before.ranks.ensures.is c.before.before.before.if1.false in
     let t =
-    ok-more (allTo 8 (heapOk a.n v)) (treesAt a.n v) c.before.trees.result
+    ok_more (all_to 8 (heap_ok a.n v)) (trees_at a.n v) c.before.trees.result
     c.before.trees.ensures.is c.if2.false in
     rw (r.0, t.0, r.1, t.1, c.before.before.counts.ensures.each 0 (omega arith))
 

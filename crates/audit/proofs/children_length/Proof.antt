@@ -1,8 +1,8 @@
 -- `audit::children_length` meets its contract.
 use borrow.Author.Rules.{rules}
 use native.Mathlib.Omega.{arith}
-use Rattle.rules.specs.Words.{lookIn}
-use Rattle.audit.proofs.Walks.{walk-empty}
+use Rattle.rules.specs.Words.{look_in}
+use Rattle.audit.proofs.Walks.{walk_empty}
 use Rattle.audit.proofs.children_length.Statement.{statement}
 use Rattle.audit.proofs.children_length.Tie as tie
 
@@ -10,7 +10,7 @@ returns : tie.Need-returns
 returns c =
     let a = c.before.before.before.before.args in
     record {
-      is = walk-empty a.n (lookIn a.layout a.n a.store.now) a.l c.if1.true;
+      is = walk_empty a.n (look_in a.layout a.n a.store.now) a.l c.if1.true;
       most = omega arith;
     }
 

@@ -1,5 +1,5 @@
 -- `audit::free_zero` meets its contract.
-use Rattle.soundness.specs.Check.{freeZero}
+use Rattle.soundness.specs.Check.{free_zero}
 use borrow.Author.Rules.{rules}
 use Rattle.audit.proofs.free_zero.Statement.{statement}
 use Rattle.audit.proofs.free_zero.Tie as tie
@@ -26,7 +26,7 @@ word-at-requires-7 : tie.Need-word-at-requires-7
 word-at-requires-7 c κs = search rules
 
 returns : tie.Need-returns
-unfolding freeZero
+unfolding free_zero
 returns c =
     rw (
       ← c.before.before.before.before.before.before.word_at.ensures.is,

@@ -4,11 +4,11 @@ use mathlib.Core.Path.{◌≡◌, ◌∙◌}
 use borrow.Author.Rules.{rules}
 use borrow.Author.Tests.{eq-eqb, ne_eqb, lt-leb}
 use native.Mathlib.Omega.{arith}
-use Rattle.rules.specs.Words.{lookIn, place_in}
+use Rattle.rules.specs.Words.{look_in, place_in}
 use Rattle.rules.specs.declared.Field.TheVariants.{Key, Rank}
-use Rattle.soundness.specs.Check.{heap_at, childrenAt, parentOk, memberOk, itemOk}
-use Rattle.audit.specs.Promises.{lengthIfOk}
-use Rattle.audit.proofs.Results.{children-tests, member-tests}
+use Rattle.soundness.specs.Check.{heap_at, children_at, parent_ok, member_ok, item_ok}
+use Rattle.audit.specs.Promises.{length_if_ok}
+use Rattle.audit.proofs.Results.{children_tests, member_tests}
 use Rattle.audit.proofs.item_ok.Statement.{statement}
 use Rattle.audit.proofs.item_ok.Tie as tie
 
@@ -19,11 +19,11 @@ free-zero-requires : tie.Need-free-zero-requires
 free-zero-requires c κs = search rules
 
 returns : tie.Need-returns
-unfolding itemOk
+unfolding item_ok
 returns c = rw (← c.before.before.word_at.ensures.is, eq-eqb _ _ c.before.if1.true) c.free-zero.ensures
 
 returns-2 : tie.Need-returns-2
-unfolding itemOk memberOk
+unfolding item_ok member_ok
 returns-2 c =
     rw (
       ← c.before.before.word_at.ensures.is,
@@ -61,8 +61,8 @@ returns-3 c =
     let s = p.before.before.before.before.before in
     let a = s.args in
     let n = a.n in
-    let v = lookIn a.layout n a.store.now in
-    let e : lists.children-length.result ≡ lengthIfOk n v (childrenAt n v a.i) =
+    let v = look_in a.layout n a.store.now in
+    let e : lists.children-length.result ≡ length_if_ok n v (children_at n v a.i) =
     rw (
       ← state.ensures.is,
       ← lists.before.before.before.heap_of.ensures.is,
@@ -72,8 +72,8 @@ returns-3 c =
     let k : v Key a.i ≤ 4294967295 =
     omega (arith, p.before.before.before.before.shared-slice-known.given (place_in a.layout n Key a.i)) in
     rw (e, p.parent-ok.ensures, c.word-at4.ensures.is)
-    (children-tests n v a.i (parentOk n v a.i) (v Rank a.i) s.requires.inside s.requires.sized.small
-    ∙ member-tests n v a.i (λ z. p.before.before.if1.false (state.ensures.is ∙ z))
+    (children_tests n v a.i (parent_ok n v a.i) (v Rank a.i) s.requires.inside s.requires.sized.small
+    ∙ member_tests n v a.i (λ z. p.before.before.if1.false (state.ensures.is ∙ z))
     (omega (arith, state.ensures.is, p.before.if2.false)) k)
 
 pub item-ok-spec : {M : Type 1} → statement M

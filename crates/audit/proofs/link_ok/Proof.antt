@@ -3,14 +3,14 @@ use Prim.Native.Nat.{◌<◌}
 use borrow.Author.Rules.{rules}
 use borrow.Author.Tests.{lt-ltb, le-ltb}
 use native.Mathlib.Omega.{arith}
-use Rattle.soundness.specs.Check.{heap_at, markAt, namesOwner, childRankOk}
-use Rattle.audit.specs.Promises.{linkOk}
-use Rattle.audit.proofs.Walks.{rank-test}
+use Rattle.soundness.specs.Check.{heap_at, mark_at, names_owner, child_rank_ok}
+use Rattle.audit.specs.Promises.{link_ok}
+use Rattle.audit.proofs.Walks.{rank_test}
 use Rattle.audit.proofs.link_ok.Statement.{statement}
 use Rattle.audit.proofs.link_ok.Tie as tie
 
 returns : tie.Need-returns
-unfolding linkOk namesOwner
+unfolding link_ok names_owner
 returns c = rw (le-ltb _ _ c.if1.true)
 
 word-at-requires : tie.Need-word-at-requires
@@ -38,7 +38,7 @@ add-result-2 : tie.Need-overflow-add-result-2
 add-result-2 c = search rules
 
 returns-2 : tie.Need-returns-2
-unfolding linkOk namesOwner childRankOk heap_at markAt
+unfolding link_ok names_owner child_rank_ok heap_at mark_at
 returns-2 c =
     let a = c.before.before.before.before.before.before.before.before.before.before.before.args in
     let h : a.x < a.n = omega arith in
@@ -50,7 +50,7 @@ returns-2 c =
       ← c.before.before.before.before.before.word-at4.ensures.is,
       ← c.before.before.before.before.heap_of.ensures.is,
       ← c.before.before.before.mark_of.ensures.is,
-      rank-test,
+      rank_test,
     )
 
 pub link-ok-spec : {M : Type 1} → statement M

@@ -3,13 +3,13 @@ use Prim.Native.Nat.{◌<◌}
 use borrow.Author.Rules.{rules}
 use borrow.Author.Tests.{lt-ltb, le-ltb, eq-eqb, ne_eqb}
 use native.Mathlib.Omega.{arith}
-use Rattle.soundness.specs.Check.{heap_at, markAt, rootUnmarked, parentInHeap, inHeapOrder, parentOk}
-use Rattle.soundness.proofs.States.{heap-range}
+use Rattle.soundness.specs.Check.{heap_at, mark_at, root_unmarked, parent_in_heap, in_heap_order, parent_ok}
+use Rattle.soundness.proofs.States.{heap_range}
 use Rattle.audit.proofs.parent_ok.Statement.{statement}
 use Rattle.audit.proofs.parent_ok.Tie as tie
 
 returns : tie.Need-returns
-unfolding parentOk rootUnmarked markAt
+unfolding parent_ok root_unmarked mark_at
 returns c =
     rw (
       ← c.before.before.word_at.ensures.is,
@@ -19,7 +19,7 @@ returns c =
     )
 
 returns-2 : tie.Need-returns-2
-unfolding parentOk parentInHeap
+unfolding parent_ok parent_in_heap
 returns-2 c =
     rw (
       ← c.before.before.word_at.ensures.is,
@@ -30,12 +30,12 @@ returns-2 c =
 sub-precedes-in : tie.Need-overflow-sub-precedes-in
 sub-precedes-in c =
     let s = c.before.before.before.before.before.before.before in
-    omega (arith, c.before.before.heap_of.ensures.is, (heap-range s.args.state s.requires.live s.requires.low).0)
+    omega (arith, c.before.before.heap_of.ensures.is, (heap_range s.args.state s.requires.live s.requires.low).0)
 
 precedes-in-requires : tie.Need-precedes-in-requires
 precedes-in-requires c κs =
     let s = c.before.before.before.before.before.before.before in
-    let r = heap-range s.args.state s.requires.live s.requires.low in (
+    let r = heap_range s.args.state s.requires.live s.requires.low in (
       omega (arith, c.before.before.heap_of.ensures.is, r.0, r.1),
       (
         record { sized = s.requires.item.sized; inside = c.before.before.before.if2.false },
@@ -44,7 +44,7 @@ precedes-in-requires c κs =
     )
 
 returns-3 : tie.Need-returns-3
-unfolding parentOk parentInHeap inHeapOrder heap_at
+unfolding parent_ok parent_in_heap in_heap_order heap_at
 returns-3 c =
     let parent = c.before.before.before.before.before.before.word_at in
     let s = c.before.before.before.before.before.before.before.before in

@@ -5,25 +5,25 @@ use mathlib.Core.Bool.{true}
 use mathlib.Core.Path.{◌≡◌, refl, sym, ap, ◌∙◌}
 use native.Mathlib.Omega.{arith}
 use Rattle.rules.specs.Lists.{sum_to}
-use Rattle.rules.specs.Words.{lookIn}
+use Rattle.rules.specs.Words.{look_in}
 use Rattle.rules.specs.declared.Field.TheVariants.{Rank}
-use Rattle.soundness.proofs.Booleans.{told-true, told-false}
-use Rattle.audit.proofs.Results.{ok-is, ok-not}
-use Rattle.audit.proofs.Totals.{sumTo-more, allTo-more, allTo-not}
-use Rattle.soundness.specs.Check.{allTo, itemOk, ranksAt}
+use Rattle.soundness.proofs.Booleans.{told_true, told_false}
+use Rattle.audit.proofs.Results.{ok_is, ok_not}
+use Rattle.audit.proofs.Totals.{sum_to_more, all_to_more, all_to_not}
+use Rattle.soundness.specs.Check.{all_to, item_ok, ranks_at}
 use Rattle.audit.proofs.ranks.Statement.{statement}
 use Rattle.audit.proofs.ranks.Tie as tie
 
 abbrev invariant-loop : tie.invariant-loop
 invariant-loop store layout n sum₀ i₀ sum i =
-    (i ≤ n) × (allTo i (itemOk n (lookIn layout n store)) ≡ true) × (sum ≡ sum_to i (λ j. lookIn layout n store Rank j))
+    (i ≤ n) × (all_to i (item_ok n (look_in layout n store)) ≡ true) × (sum ≡ sum_to i (λ j. look_in layout n store Rank j))
     × (sum ≤ 4294967295 * i)
 
 abbrev decreases-loop : tie.decreases-loop
 decreases-loop store layout n sum₀ i₀ sum i = n - i
 
 loop-holds : tie.Need-loop-init invariant-loop decreases-loop
-unfolding allTo sum_to
+unfolding all_to sum_to
 loop-holds c = (omega arith, refl, refl, omega arith)
 
 item-ok-requires : tie.Need-item-ok-requires invariant-loop decreases-loop
@@ -32,13 +32,13 @@ item-ok-requires c κs = search rules
 returns : tie.Need-returns invariant-loop decreases-loop
 returns c =
     let a = c.before.before.before.before.before.args in
-    let v = lookIn a.layout a.n a.store.now in
+    let v = look_in a.layout a.n a.store.now in
     record {
       is =
-          ok-not _ _
-          (allTo-not a.n (itemOk a.n v) c.before.before.before.loop.i
+          ok_not _ _
+          (all_to_not a.n (item_ok a.n v) c.before.before.before.loop.i
           c.before.before.loop-test.true
-          (told-false _ _ c.before.Item-ok.ensures c.if1.true));
+          (told_false _ _ c.before.Item-ok.ensures c.if1.true));
       most = omega arith;
     }
 
@@ -57,12 +57,12 @@ loop-less c = omega arith
 loop-again : tie.Need-loop-preserved invariant-loop decreases-loop
 loop-again c =
     let a = c.before.before.before.before.before.before.args in
-    let v = lookIn a.layout a.n a.store.now in
+    let v = look_in a.layout a.n a.store.now in
     let l = c.before.before.before.before.loop in (
       omega arith,
-      allTo-more l.i (itemOk a.n v) l.invariant.1
-          (told-true _ _ c.before.before.Item-ok.ensures c.before.if1.false),
-      rw (sumTo-more, ← l.invariant.2, ← c.word_at.ensures.is),
+      all_to_more l.i (item_ok a.n v) l.invariant.1
+          (told_true _ _ c.before.before.Item-ok.ensures c.before.if1.false),
+      rw (sum_to_more, ← l.invariant.2, ← c.word_at.ensures.is),
       omega arith,
     )
 
@@ -70,15 +70,15 @@ add-result : tie.Need-overflow-add-result invariant-loop decreases-loop
 add-result c = omega arith
 
 returns-2 : tie.Need-returns-2 invariant-loop decreases-loop
-unfolding ranksAt
+unfolding ranks_at
 returns-2 c =
     let a = c.before.before.before.args in
-    let v = lookIn a.layout a.n a.store.now in
+    let v = look_in a.layout a.n a.store.now in
     let l = c.before.loop in
     let e : l.i ≡ a.n = omega arith in
     record {
       is =
-          ok-is _ _ l.sum (ap (λ i. allTo i (itemOk a.n v)) (sym e) ∙ l.invariant.1)
+          ok_is _ _ l.sum (ap (λ i. all_to i (item_ok a.n v)) (sym e) ∙ l.invariant.1)
           (l.invariant.2 ∙ ap (λ i. sum_to i (λ j. v Rank j)) e);
       most = omega arith;
     }

@@ -10,33 +10,33 @@ use Rattle.rules.specs.Consolidate.{occupied}
 use Rattle.rules.specs.declared.Field.TheVariants.{Rank}
 use Rattle.rules.specs.Forests.{Forests, none}
 use Rattle.rules.specs.Words.{look}
-use Rattle.linking_places.specs.Places.{treesOf}
+use Rattle.linking_places.specs.Places.{trees_of}
 use Rattle.linking_places.specs.Taken.{taken_of}
-use Rattle.consolidate.specs.Consolidating.{Consolidating, Climbs, climbTree}
-use Rattle.consolidate.proofs.Climbing.{Climbing, climb-ends, climb-starts, rank-inside, tree-inside}
-use Rattle.consolidate.proofs.ClimbLink.{climb-step, links-fit}
-use Rattle.consolidate.proofs.ClimbMeeting.{holder-inside, link-ready}
+use Rattle.consolidate.specs.Consolidating.{Consolidating, Climbs, climb_tree}
+use Rattle.consolidate.proofs.Climbing.{Climbing, climb_ends, climb_starts, rank_inside, tree_inside}
+use Rattle.consolidate.proofs.ClimbLink.{climb-step, links_fit}
+use Rattle.consolidate.proofs.ClimbMeeting.{holder_inside, link_ready}
 use Rattle.consolidate.proofs.ClimbPlaces.{
   OnTheWay,
   apart_by,
   equal_by,
-  holder-here,
-  holder-leaves,
+  holder_here,
+  holder_leaves,
   next_way,
-  place-taken,
-  was-false,
-  was-true,
+  place_taken,
+  was_false,
+  was_true,
 }
 use Rattle.consolidate.proofs.climb.Statement.{statement}
 use Rattle.consolidate.proofs.climb.Tie as tie
 
 abbrev invariant-loop : tie.invariant-loop
 invariant-loop s₀ n h held-taken tree made held places₀ taken₀ x₀ links₀ r₀ s places taken x links r =
-    (length s ≡ length s₀) × OnTheWay (treesOf held) (treesOf places) taken r ×
+    (length s ≡ length s₀) × OnTheWay (trees_of held) (trees_of places) taken r ×
     ((base k : ℕ) (amounts : ℕ → ℕ) (u : Forests) (rest : List ℕ)
-    → Consolidating n h s₀ (treesOf held) (tree ∷ rest) rest amounts u → made ≡ base + k
-    → made + length (occupied (treesOf held)) ≤ 4096
-    → Climbing n h base rest amounts (climbTree (treesOf held) k u tree) s (treesOf places) x r links)
+    → Consolidating n h s₀ (trees_of held) (tree ∷ rest) rest amounts u → made ≡ base + k
+    → made + length (occupied (trees_of held)) ≤ 4096
+    → Climbing n h base rest amounts (climb_tree (trees_of held) k u tree) s (trees_of places) x r links)
 
 abbrev decreases-loop : tie.decreases-loop
 decreases-loop s₀ n h held-taken tree made held places₀ taken₀ x₀ links₀ r₀ s places taken x links r = 17 - r
@@ -45,8 +45,8 @@ decreases-loop s₀ n h held-taken tree made held places₀ taken₀ x₀ links�
 here : (c : tie.At-loop invariant-loop decreases-loop) →
     let a = c.before.before.before.before.args in
     let p = c.before.before.before.before.requires.0 in
-    Climbing a.n a.h 0 p.rest p.amounts (climbTree (treesOf a.t4) a.made p.forests a.tree)
-    c.loop.s (treesOf c.loop.places) c.loop.x c.loop.r c.loop.links
+    Climbing a.n a.h 0 p.rest p.amounts (climb_tree (trees_of a.t4) a.made p.forests a.tree)
+    c.loop.s (trees_of c.loop.places) c.loop.x c.loop.r c.loop.links
 here c =
     let p = c.before.before.before.before.requires.0 in
     c.loop.invariant.2 0 _ p.amounts p.forests p.rest p.state (omega arith) p.fits
@@ -56,50 +56,50 @@ start : (c : tie.After-get-arg invariant-loop decreases-loop) (r : ℕ) →
     let a = c.before.before.args in
     let p = c.before.before.requires.0 in
     r ≡ look a.n a.s.now Rank a.tree
-    → Climbing a.n a.h 0 p.rest p.amounts (climbTree (treesOf a.t4) a.made p.forests a.tree)
-    a.s.now (treesOf a.t4) a.tree r a.made
+    → Climbing a.n a.h 0 p.rest p.amounts (climb_tree (trees_of a.t4) a.made p.forests a.tree)
+    a.s.now (trees_of a.t4) a.tree r a.made
 start c r e =
     let p = c.before.before.requires.0 in
-    climb-starts _ _ 0 _ p.rest _ _ p.amounts p.forests _ _ r p.state (omega arith) p.fits e
+    climb_starts _ _ 0 _ p.rest _ _ p.amounts p.forests _ _ r p.state (omega arith) p.fits e
 
 get-requires : tie.Need-get-requires invariant-loop decreases-loop
 get-requires c κs =
-    record { sized = c.before.before.requires.0.state.says.sized; inside = tree-inside (start c _ refl) }
+    record { sized = c.before.before.requires.0.state.says.sized; inside = tree_inside (start c _ refl) }
 
 cast-r : tie.Need-overflow-cast-r invariant-loop decreases-loop
-cast-r c = record { fits = omega (arith, rank-inside (start c.before _ c.get.ensures)) }
+cast-r c = record { fits = omega (arith, rank_inside (start c.before _ c.get.ensures)) }
 
 loop-holds : tie.Need-loop-init invariant-loop decreases-loop
 loop-holds c = (
   refl,
   record { number = c.before.before.before.requires.1; above = λ i k. refl },
-  λ base k a u rest C e f. climb-starts _ _ base k rest _ _ a u _ _ _ C e f c.get.ensures,
+  λ base k a u rest C e f. climb_starts _ _ base k rest _ _ a u _ _ _ C e f c.get.ensures,
 )
 
 is-taken-requires : tie.Need-is-taken-requires invariant-loop decreases-loop
-is-taken-requires c κs = rank-inside (here c)
+is-taken-requires c κs = rank_inside (here c)
 
 -- the place is taken
 stands : (c : tie.Else1 invariant-loop decreases-loop)
-    → get_or (treesOf c.before.before.loop.places) c.before.before.loop.r 0 ≢ none
+    → get_or (trees_of c.before.before.loop.places) c.before.before.loop.r 0 ≢ none
 stands c =
     let l = c.before.before in
-    apart_by (c.before.is-taken.ensures _ (place-taken (here l) l.loop.invariant.1)) (was-true _ c.if1.false)
+    apart_by (c.before.is-taken.ensures _ (place_taken (here l) l.loop.invariant.1)) (was_true _ c.if1.false)
 
 holder-requires : tie.Need-holder-requires invariant-loop decreases-loop
 holder-requires c κs =
     let c1 = c.before in
     let c3 = c1.before.before in
-    (rank-inside (here c3), λ e. stands c1 (c3.loop.invariant.1.above _ (omega arith) ∙ e))
+    (rank_inside (here c3), λ e. stands c1 (c3.loop.invariant.1.above _ (omega arith) ∙ e))
 
 -- the holder, as it is read
 met : (c : tie.After-holder invariant-loop decreases-loop) →
     let l = c.before.before.before.before in
-    c.holder.result ≡ get_or (treesOf l.loop.places) l.loop.r 0
+    c.holder.result ≡ get_or (trees_of l.loop.places) l.loop.r 0
 met c =
     let c2 = c.before.before in
     let c4 = c2.before.before in
-    holder-here (here c4) c4.loop.invariant.1 c.holder.ensures (stands c2)
+    holder_here (here c4) c4.loop.invariant.1 c.holder.ensures (stands c2)
 
 in-order-requires : tie.Need-in-order-requires invariant-loop decreases-loop
 in-order-requires c κs =
@@ -108,8 +108,8 @@ in-order-requires c κs =
     let g = here c3.before.before in (
       g.state.heap,
       (
-        record { sized = g.state.says.sized; inside = holder-inside g (met c1) (λ e. stands c3 (sym (met c1) ∙ e)) },
-        record { sized = g.state.says.sized; inside = tree-inside g },
+        record { sized = g.state.says.sized; inside = holder_inside g (met c1) (λ e. stands c3 (sym (met c1) ∙ e)) },
+        record { sized = g.state.says.sized; inside = tree_inside g },
       ),
     )
 
@@ -118,7 +118,7 @@ append-requires c κs =
     let c1 = c.before in
     let c3 = c1.before.before in
     let c5 = c3.before.before in
-    link-ready (here c5.before.before) (met c3) (λ e. stands c5 (sym (met c3) ∙ e)) c1.in_order.ensures.0
+    link_ready (here c5.before.before) (met c3) (λ e. stands c5 (sym (met c3) ∙ e)) c1.in_order.ensures.0
     c1.in_order.ensures.1
 
 leave-requires : tie.Need-leave-requires invariant-loop decreases-loop
@@ -126,14 +126,14 @@ leave-requires c κs =
     let c6 = c.before.before.before.before.before.before in
     let c8 = c6.before.before in
     let g = here c8.before.before in
-    let i = holder-inside g (met c6) (λ e. stands c8 (sym (met c6) ∙ e)) in
+    let i = holder_inside g (met c6) (λ e. stands c8 (sym (met c6) ∙ e)) in
     omega (arith, i, g.state.says.sized.small)
 
 free-place-requires : tie.Need-free-place-requires invariant-loop decreases-loop
 free-place-requires c κs =
     let c9 = c.before.before.before.before.before.before.before.before.before in
     let l = c9.before.before in
-    (rank-inside (here l), (_, place-taken (here l) l.loop.invariant.1, stands c9))
+    (rank_inside (here l), (_, place_taken (here l) l.loop.invariant.1, stands c9))
 
 -- the link is made
 module _ (c : tie.After-free-place invariant-loop decreases-loop) where
@@ -152,18 +152,18 @@ module _ (c : tie.After-free-place invariant-loop decreases-loop) where
   taken : c8.holder.result ≢ none
   taken e = stands c10 (sym (met c8) ∙ e)
 
-  left : treesOf c1.leave.result ≡ set (treesOf c12.loop.places) c12.loop.r none
+  left : trees_of c1.leave.result ≡ set (trees_of c12.loop.places) c12.loop.r none
   left =
-      holder-leaves (here c12) c12.loop.inv.1 c8.holder.ensures (stands c10) c1.leave.ensures
+      holder_leaves (here c12) c12.loop.inv.1 c8.holder.ensures (stands c10) c1.leave.ensures
 
 add-links : tie.Need-overflow-add-links invariant-loop decreases-loop
-add-links c = record { fits = omega (arith, links-fit (here (c12 c)) (met (c8 c)) (taken c)) }
+add-links c = record { fits = omega (arith, links_fit (here (c12 c)) (met (c8 c)) (taken c)) }
 
 add_r : tie.Need-overflow-add-r invariant-loop decreases-loop
-add_r c = record { fits = omega (arith, rank-inside (here (c12 c))) }
+add_r c = record { fits = omega (arith, rank_inside (here (c12 c))) }
 
 loop-less : tie.Need-loop-smaller invariant-loop decreases-loop
-loop-less c = omega (arith, rank-inside (here (c12 c)))
+loop-less c = omega (arith, rank_inside (here (c12 c)))
 
 loop-again : tie.Need-loop-preserved invariant-loop decreases-loop
 loop-again c =
@@ -172,7 +172,7 @@ loop-again c =
     let inv = (c12 c).loop.invariant in (
       omega (arith, c4.append.auto.0, inv.0),
       next_way (here (c12 c)) inv.1 (c8 c).holder.ensures (stands (c10 c)) (left c)
-          (c.free-place.ensures _ (place-taken (here (c12 c)) inv.1) (stands (c10 c))),
+          (c.free-place.ensures _ (place_taken (here (c12 c)) inv.1) (stands (c10 c))),
       λ base k a u rest C e f.
           climb-step (inv.2 base k a u rest C e f) (met (c8 c)) (taken c) c6.in_order.ensures.0
           c6.in_order.ensures.1 c4.append.ensures (left c) refl,
@@ -180,20 +180,20 @@ loop-again c =
 
 -- the place is free
 free-here : (c : tie.Then1 invariant-loop decreases-loop)
-    → get_or (treesOf c.before.before.loop.places) c.before.before.loop.r 0 ≡ none
+    → get_or (trees_of c.before.before.loop.places) c.before.before.loop.r 0 ≡ none
 free-here c =
     let l = c.before.before in
-    equal_by (c.before.is-taken.ensures _ (place-taken (here l) l.loop.invariant.1)) (was-false _ c.if1.true)
+    equal_by (c.before.is-taken.ensures _ (place_taken (here l) l.loop.invariant.1)) (was_false _ c.if1.true)
 
 take-place-requires : tie.Need-take-place-requires invariant-loop decreases-loop
 take-place-requires c κs =
     let l = c.before.before in
-    (rank-inside (here l), (_, place-taken (here l) l.loop.invariant.1, free-here c))
+    (rank_inside (here l), (_, place_taken (here l) l.loop.invariant.1, free-here c))
 
 hold-requires : tie.Need-hold-requires invariant-loop decreases-loop
 hold-requires c κs =
     let g = here c.before.before.before in
-    (rank-inside g, omega (arith, tree-inside g, g.state.says.sized.small))
+    (rank_inside g, omega (arith, tree_inside g, g.state.says.sized.small))
 
 returns : tie.Need-returns invariant-loop decreases-loop
 unfolding Climbs
@@ -203,9 +203,9 @@ returns c =
     let l = c2.before.before in
     let p = l.before.before.before.before.requires.0 in (
       λ base k a u rest C e.
-          rw c.hold.ensures (climb-ends (l.loop.invariant.2 base k a u rest C e p.fits) refl (free-here c2)),
-      c1.take-place.ensures _ _ (place-taken (here l) l.loop.invariant.1) (free-here c2)
-          (λ e. omega (arith, e, tree-inside (here l), (here l).state.says.sized.small))
+          rw c.hold.ensures (climb_ends (l.loop.invariant.2 base k a u rest C e p.fits) refl (free-here c2)),
+      c1.take-place.ensures _ _ (place_taken (here l) l.loop.invariant.1) (free-here c2)
+          (λ e. omega (arith, e, tree_inside (here l), (here l).state.says.sized.small))
           ∙ ap taken_of (sym c.hold.ensures),
     )
 

@@ -2,10 +2,10 @@
 use mathlib.Core.Path.{ap, ◌∙◌}
 use native.Mathlib.Omega.{arith}
 use borrow.Author.Rules.{rules}
-use Rattle.rules.specs.Consolidate.{consolidate, consolidateWithin, occupied}
+use Rattle.rules.specs.Consolidate.{consolidate, consolidate_within, occupied}
 use Rattle.rules.specs.Forests.{set_row}
-use Rattle.rules.specs.Words.{wordsWith}
-use Rattle.consolidate.specs.Consolidating.{Consolidates, LinksRow, WritesRow, linkRow}
+use Rattle.rules.specs.Words.{words_with}
+use Rattle.consolidate.specs.Consolidating.{Consolidates, LinksRow, WritesRow, link_row}
 use Rattle.consolidate.proofs.consolidate.Statement.{statement}
 use Rattle.consolidate.proofs.consolidate.Tie as tie
 
@@ -30,7 +30,7 @@ write-row-requires c κs =
     let c7 = c4.before.before.before in
     let p = c7.requires in
     let S = c4.Link-row.ensures.0 p.least p.amounts p.forests p.children p.gathered p.formed in (
-      record { amounts = p.amounts; forests = (linkRow c7.args.h p.forests).forests; state = S.state },
+      record { amounts = p.amounts; forests = (link_row c7.args.h p.forests).forests; state = S.state },
       c4.Link-row.ensures.1.1,
     )
 
@@ -40,17 +40,17 @@ link-requires c κs =
     omega (arith, c7.Link-row.ensures.1.0, c7.before.before.before.requires.fits)
 
 returns : tie.Need-returns
-unfolding LinksRow WritesRow Consolidates consolidate consolidateWithin linkRow
+unfolding LinksRow WritesRow Consolidates consolidate consolidate_within link_row
 returns c =
     let c3 = c.before.before.before in
     let c8 = c3.before.before.before.before.before in
     let c11 = c8.before.before.before in (
       λ m a t cs R W.
           let S = c8.Link-row.ensures.0 m a t cs R W in
-          let l = linkRow c11.args.h t in
+          let l = link_row c11.args.h t in
           record {
             words = c3.write-row.ensures a l.forests S.state
-                ∙ ap (λ q. wordsWith a (set_row c11.args.h (occupied q) l.forests)) S.places;
+                ∙ ap (λ q. words_with a (set_row c11.args.h (occupied q) l.forests)) S.places;
             tallied = omega (arith, c.link.ensures.0, S.tallied);
           },
       c.link.ensures.1,

@@ -6,7 +6,7 @@ use native.Mathlib.Omega.{arith}
 use borrow.Author.Rules.{rules}
 use lib.ListN.{length}
 use Rattle.consolidate.specs.Released.{ListFrom, Releases}
-use Rattle.consolidate.proofs.Releasing.{Releasing, child-inside, release-ends, release-starts, release-step}
+use Rattle.consolidate.proofs.Releasing.{Releasing, child_inside, release_ends, release_starts, release-step}
 use Rattle.consolidate.proofs.release.Statement.{statement}
 use Rattle.consolidate.proofs.release.Tie as tie
 
@@ -18,7 +18,7 @@ abbrev decreases-loop : tie.decreases-loop
 decreases-loop s₀ n h child count c₀ k₀ s c k = k
 
 loop-holds : tie.Need-loop-init invariant-loop decreases-loop
-loop-holds c = (refl, λ cs L. release-starts _ L)
+loop-holds c = (refl, λ cs L. release_starts _ L)
 
 -- the state at the loop's head, for the list that the caller has
 here : (c : tie.At-loop invariant-loop decreases-loop) →
@@ -30,14 +30,14 @@ release-tree-requires : tie.Need-release-tree-requires invariant-loop decreases-
 release-tree-requires c κs =
     let c2 = c.before.before in
     let g = here c2 in
-    let i = child-inside g c.before.loop-test.true in
+    let i = child_inside g c.before.loop-test.true in
     (c2.before.before.requires.heap, record { sized = g.listed.sized; inside = i })
 
 get-requires : tie.Need-get-requires invariant-loop decreases-loop
 get-requires c κs =
     let c3 = c.before.before.before in
     let c5 = c3.before.before in
-    let i = child-inside (here c5.before) c5.loop-test.true in
+    let i = child_inside (here c5.before) c5.loop-test.true in
     record { sized = c3.release-tree.ensures.sized; inside = i }
 
 sub-k : tie.Need-overflow-sub-k invariant-loop decreases-loop
@@ -61,7 +61,7 @@ same_length c = search rules
 
 returns : tie.Need-returns invariant-loop decreases-loop
 unfolding Releases
-returns c = λ cs L. release-ends (c.before.loop.invariant.1 cs L) (omega (arith, c.loop-test.false))
+returns c = λ cs L. release_ends (c.before.loop.invariant.1 cs L) (omega (arith, c.loop-test.false))
 
 pub release_spec : {M : Type 1} → statement M
 release_spec =

@@ -8,18 +8,18 @@ use lib.ListN.{length, drop, take}
 use Rattle.rules.specs.Consolidate.{occupied}
 use Rattle.rules.specs.Forests.{Forests, none, row_of, set_row}
 use Rattle.rules.specs.WellFormed.{Disjoint, KeysFit}
-use Rattle.linking_places.specs.Places.{treesOf}
+use Rattle.linking_places.specs.Places.{trees_of}
 use Rattle.consolidate.specs.Consolidating.{WritesRow}
 use Rattle.consolidate.specs.Writing.{WritingRow, WritesTree}
 use Rattle.consolidate.proofs.ClimbPlaces.{apart_by, equal_by}
 use Rattle.consolidate.proofs.RowWritten.{
   coming,
-  place-written,
-  places-formed,
+  place_written,
+  places_formed,
   places_row,
   row_written,
-  some-taken,
-  writing-starts,
+  some_taken,
+  writing_starts,
 }
 use Rattle.consolidate.proofs.write_row.Statement.{statement}
 use Rattle.consolidate.proofs.write_row.Tie as tie
@@ -27,8 +27,8 @@ use Rattle.consolidate.proofs.write_row.Tie as tie
 abbrev invariant-loop : tie.invariant-loop
 invariant-loop s₀ n h taken places m₀ r₀ s m r =
     (length s ≡ length s₀) × (r ≤ 17) ×
-    ((amounts : ℕ → ℕ) (t : Forests) → Disjoint t → KeysFit t → row_of t h ≡ occupied (treesOf places)
-    → WritingRow n h s₀ [] none amounts t → WritingRow n h s (occupied (take r (treesOf places))) m amounts t)
+    ((amounts : ℕ → ℕ) (t : Forests) → Disjoint t → KeysFit t → row_of t h ≡ occupied (trees_of places)
+    → WritingRow n h s₀ [] none amounts t → WritingRow n h s (occupied (take r (trees_of places))) m amounts t)
 
 abbrev decreases-loop : tie.decreases-loop
 decreases-loop s₀ n h taken places m₀ r₀ s m r = 17 - r
@@ -51,7 +51,7 @@ loop-holds c = (refl, omega arith, λ a t D K e W. W)
 -- the state at the loop's head, for the forests that the caller has
 here : (c : tie.At-loop invariant-loop decreases-loop) →
     let c10 = c.before.before.before.before.before.before.before.before.before.before in
-    let ps = treesOf c10.args.t4 in
+    let ps = trees_of c10.args.t4 in
     WritingRow c10.args.n c10.args.h c.loop.s (occupied (take c.loop.r ps)) c.loop.m
     c10.requires.0.amounts (set_row c10.args.h (occupied ps) c10.requires.0.forests)
 here c =
@@ -59,8 +59,8 @@ here c =
     let c7 = c3.before.before.before.before in
     let c10 = c7.before.before.before in
     let C = c10.requires.0.state in
-    c.loop.invariant.2 _ _ (places-formed C).disjoint (places-formed C).keys (places_row C)
-    (writing-starts C c7.put.ensures c3.put2.ensures)
+    c.loop.invariant.2 _ _ (places_formed C).disjoint (places_formed C).keys (places_row C)
+    (writing_starts C c7.put.ensures c3.put2.ensures)
 
 -- the place is one of the seventeen
 goes_on : (c : tie.Then1 invariant-loop decreases-loop) → c.before.before.loop.r < 17
@@ -68,7 +68,7 @@ goes_on c =
     let c1 = c.before in
     let c2 = c1.before in
     let c12 = c2.before.before.before.before.before.before.before.before.before.before in
-    let k = some-taken (treesOf c12.args.t4) c2.loop.r
+    let k = some_taken (trees_of c12.args.t4) c2.loop.r
     (apart_by (c1.any-from.ensures _ c12.requires.1) c.if1.true) in
     omega (arith, k, c12.requires.0.state.long)
 
@@ -79,7 +79,7 @@ write-tree-requires c κs =
     let c13 = c3.before.before.before.before.before.before.before.before.before.before in
     let p = c13.requires.0 in
     let C = p.state in
-    let ps = treesOf c13.args.t4 in
+    let ps = trees_of c13.args.t4 in
     let r = c3.loop.r in
     let t = set_row c13.args.h (occupied ps) p.forests in (
       record {
@@ -87,7 +87,7 @@ write-tree-requires c κs =
         forests = t;
         written = occupied (take r ps);
         rest = occupied (drop (r + 1) ps);
-        coming = coming c13.args.h ps r t (places-formed C).disjoint (places-formed C).keys C.heap
+        coming = coming c13.args.h ps r t (places_formed C).disjoint (places_formed C).keys C.heap
             (places_row C) C.long (goes_on c2) refl;
         state = here c3;
       },
@@ -112,12 +112,12 @@ loop-again c =
     let c16 = c6.before.before.before.before.before.before.before.before.before.before in
     let C = c16.requires.0.state in
     let h = c16.args.h in
-    let ps = treesOf c16.args.t4 in
+    let ps = trees_of c16.args.t4 in
     let r = c6.loop.r in (
       omega (arith, c2.write-tree.auto.0, c6.loop.invariant.0),
       omega (arith, goes_on c5),
       λ a t D K e W.
-          place-written h ps r t D K C.heap e C.long (goes_on c5) refl
+          place_written h ps r t D K C.heap e C.long (goes_on c5) refl
           (c2.write-tree.ensures _ _ a t
           (coming h ps r t D K C.heap e C.long (goes_on c5) refl) (c6.loop.invariant.2 a t D K e W)),
     )
@@ -146,11 +146,11 @@ returns c =
     let c12 = c8.before.before.before.before in
     let a = c12.before.before.before.args in
     λ am t C.
-    row_written a.h (treesOf a.t4) c5.loop.r _ (places-formed C).disjoint (places-formed C).keys C.heap
+    row_written a.h (trees_of a.t4) c5.loop.r _ (places_formed C).disjoint (places_formed C).keys C.heap
     (places_row C) C.long
     (equal_by (c4.before.any-from.ensures _ c12.before.before.before.requires.1) c4.if1.false)
-    (c5.loop.invariant.2 am _ (places-formed C).disjoint (places-formed C).keys (places_row C)
-    (writing-starts C c12.put.ensures c8.put2.ensures)) c2.put3.ensures
+    (c5.loop.invariant.2 am _ (places_formed C).disjoint (places_formed C).keys (places_row C)
+    (writing_starts C c12.put.ensures c8.put2.ensures)) c2.put3.ensures
 
 pub write-row-spec : {M : Type 1} → statement M
 write-row-spec =

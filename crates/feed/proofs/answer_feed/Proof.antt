@@ -1,9 +1,9 @@
 -- `answer_feed` meets its contract.
 use native.Mathlib.Omega.{arith}
-use Rattle.paths.specs.Map.{spanLists, windows, mapAt}
-use Rattle.paths.specs.Feed.{resultLists}
-use Rattle.feed.proofs.Fields.{field-11}
-use Rattle.feed.proofs.FeedShown.{shows-refused, table-ready, figures-room, shows-done}
+use Rattle.paths.specs.Map.{span_lists, windows, map_at}
+use Rattle.paths.specs.Feed.{result_lists}
+use Rattle.feed.proofs.Fields.{field_11}
+use Rattle.feed.proofs.FeedShown.{shows_refused, table_ready, figures_room, shows_done}
 use borrow.Author.Rules.{rules}
 use Rattle.feed.proofs.answer_feed.Statement.{statement}
 use Rattle.feed.proofs.answer_feed.Tie as tie
@@ -16,7 +16,7 @@ put-field-requires c κs =
     let at-feed = c.before.before.before.before.before.before.before.before.before.before in
     let start =
     at-feed.before.before.before.before.before.before.before.before.before.before.before.before.before.before.before in
-    omega (arith, field-11 at-feed.feed.result.code 10 (search rules), start.pre)
+    omega (arith, field_11 at-feed.feed.result.code 10 (search rules), start.pre)
 
 same_length : tie.Need-same-length
 same_length c = search rules
@@ -40,7 +40,7 @@ returns c =
     let at-feed = at-if1.before.before.before.before.before.before.before.before.before in
     let start =
     at-feed.before.before.before.before.before.before.before.before.before.before.before.before.before.before.before in
-    shows-refused (mapAt _ _ _ (spanLists _ _ _) (windows _ _)) (resultLists _ _ _ _) _ (resultLists _ _ _ _)
+    shows_refused (map_at _ _ _ (span_lists _ _ _) (windows _ _)) (result_lists _ _ _ _) _ (result_lists _ _ _ _)
     at-feed.feed.ensures
     at-if1.if1.true (search rules) _ start.pre _ _ at-put-field.put-field.ensures
 
@@ -50,7 +50,7 @@ put-table-requires c κs =
     let at-feed = at-if1.before.before.before.before.before.before.before.before.before in
     let start =
     at-feed.before.before.before.before.before.before.before.before.before.before.before.before.before.before.before in
-    table-ready (mapAt _ _ _ (spanLists _ _ _) (windows _ _)) (resultLists _ _ _ _) _ (resultLists _ _ _ _)
+    table_ready (map_at _ _ _ (span_lists _ _ _) (windows _ _)) (result_lists _ _ _ _) _ (result_lists _ _ _ _)
     at-feed.feed.ensures
     at-if1.if1.false (search rules) _ start.pre
 
@@ -61,7 +61,7 @@ put-figures-requires c κs =
     let at-feed = at-if1.before.before.before.before.before.before.before.before.before in
     let start =
     at-feed.before.before.before.before.before.before.before.before.before.before.before.before.before.before.before in
-    figures-room (mapAt _ _ _ (spanLists _ _ _) (windows _ _)) (resultLists _ _ _ _) _ (resultLists _ _ _ _)
+    figures_room (map_at _ _ _ (span_lists _ _ _) (windows _ _)) (result_lists _ _ _ _) _ (result_lists _ _ _ _)
     at-feed.feed.ensures
     at-if1.if1.false (search rules) _ start.pre _ _ at-put-table.put-table.ensures
 
@@ -88,7 +88,7 @@ returns-2 c =
     let at-feed = at-if1.before.before.before.before.before.before.before.before.before in
     let start =
     at-feed.before.before.before.before.before.before.before.before.before.before.before.before.before.before.before in
-    shows-done (mapAt _ _ _ (spanLists _ _ _) (windows _ _)) (resultLists _ _ _ _) _ (resultLists _ _ _ _)
+    shows_done (map_at _ _ _ (span_lists _ _ _) (windows _ _)) (result_lists _ _ _ _) _ (result_lists _ _ _ _)
     at-feed.feed.ensures
     at-if1.if1.false (search rules) _ start.pre _ _ at-put-table.put-table.ensures _ _
     at-put-figures.put-figures.ensures

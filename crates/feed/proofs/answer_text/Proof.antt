@@ -2,14 +2,14 @@
 use native.Mathlib.Omega.{arith}
 use mathlib.Core.Path.{sym}
 use lib.Seq.{length-take-le}
-use Rattle.rules.specs.Words.{storeSize}
-use Rattle.paths.specs.Map.{spanLists, windows}
-use Rattle.paths.specs.Feed.{resultLists}
-use Rattle.mapfile.specs.Read.{readMap}
+use Rattle.rules.specs.Words.{store_size}
+use Rattle.paths.specs.Map.{span_lists, windows}
+use Rattle.paths.specs.Feed.{result_lists}
+use Rattle.mapfile.specs.Read.{read_map}
 use Rattle.mapfile.proofs.Fits.{ReadFits}
-use Rattle.feed.specs.Shown.{ownSpans, ownWindows, ownResults}
-use Rattle.feed.proofs.Fields.{field-11}
-use Rattle.feed.proofs.MapShown.{spans-read, map-refused, map-many, map-fed}
+use Rattle.feed.specs.Shown.{own_spans, own_windows, own_results}
+use Rattle.feed.proofs.Fields.{field_11}
+use Rattle.feed.proofs.MapShown.{spans_read, map-refused, map_many, map-fed}
 use borrow.Author.Rules.{rules}
 use Rattle.feed.proofs.answer_text.Statement.{statement}
 use Rattle.feed.proofs.answer_text.Tie as tie
@@ -36,14 +36,14 @@ put-field-requires : tie.Need-put-field-requires
 put-field-requires c κs =
     let at_read = c.before.before.before.before.before.before.before in
     let start = at_read.before.before.before.before.before.before.before.before in
-    omega (arith, field-11 at_read.read.result.code 10 (search rules), start.requires)
+    omega (arith, field_11 at_read.read.result.code 10 (search rules), start.requires)
 
 same_length : tie.Need-same-length
 same_length c = search rules
 
 -- The table is printed. This return stands first: what it shows is false for lists of any other length.
 returns-3 : tie.Need-returns-3
-unfolding ownSpans ownWindows ownResults storeSize
+unfolding own_spans own_windows own_results store_size
 returns-3 c =
     let at-feed = c.before.before.before.before.before.before in
     let at_size = at-feed.before.before.before.before.before.before.before.before.before.before.before in
@@ -51,20 +51,20 @@ returns-3 c =
     let at-if1 = at-if2.before.before in
     let at_read = at-if1.before.before.before.before.before.before in
     let start = at_read.before.before.before.before.before.before.before.before in
-    map-fed (readMap _ (spanLists _ _ _) (windows _ _)) _ (spanLists _ _ _) (windows _ _) at_read.read.ensures
-    (resultLists _ _ _ _) _
+    map-fed (read_map _ (span_lists _ _ _) (windows _ _)) _ (span_lists _ _ _) (windows _ _) at_read.read.ensures
+    (result_lists _ _ _ _) _
     (omega (arith, start.requires)) at-if1.if1.false (omega (arith, at-if2.if2.false)) at_size.size_for_lem.ensures
     _ _ at-feed.answer-feed.ensures
 
 returns : tie.Need-returns
-unfolding ownSpans ownWindows ownResults storeSize
+unfolding own_spans own_windows own_results store_size
 returns c =
     let at-put-field = c.before.before in
     let at-if1 = at-put-field.before.before in
     let at_read = at-if1.before.before.before.before.before.before in
     let start = at_read.before.before.before.before.before.before.before.before in
-    map-refused (readMap _ (spanLists _ _ _) (windows _ _)) _ (spanLists _ _ _) (windows _ _)
-    at_read.read.ensures ownResults _
+    map-refused (read_map _ (span_lists _ _ _) (windows _ _)) _ (span_lists _ _ _) (windows _ _)
+    at_read.read.ensures own_results _
     (omega (arith, start.requires)) at-if1.if1.true (omega (arith, at_read.read.type-inv)) _ _
     at-put-field.put-field.ensures
 
@@ -75,21 +75,21 @@ put-field-requires-2 : tie.Need-put-field-requires-2
 put-field-requires-2 c κs =
     let at_read = c.before.before.before.before.before.before.before.before.before in
     let start = at_read.before.before.before.before.before.before.before.before in
-    omega (arith, field-11 14 10 (omega arith), start.requires)
+    omega (arith, field_11 14 10 (omega arith), start.requires)
 
 same-length-2 : tie.Need-same-length-2
 same-length-2 c = search rules
 
 returns-2 : tie.Need-returns-2
-unfolding ownSpans ownWindows ownResults storeSize
+unfolding own_spans own_windows own_results store_size
 returns-2 c =
     let at-put-field = c.before.before in
     let at-if2 = at-put-field.before.before in
     let at-if1 = at-if2.before.before in
     let at_read = at-if1.before.before.before.before.before.before in
     let start = at_read.before.before.before.before.before.before.before.before in
-    map-many (readMap _ (spanLists _ _ _) (windows _ _)) _ (spanLists _ _ _) (windows _ _)
-    at_read.read.ensures ownResults _
+    map_many (read_map _ (span_lists _ _ _) (windows _ _)) _ (span_lists _ _ _) (windows _ _)
+    at_read.read.ensures own_results _
     (omega (arith, start.requires)) at-if1.if1.false (omega (arith, at-if2.if2.true)) _ _
     at-put-field.put-field2.ensures
 
@@ -108,40 +108,40 @@ fit : (c : tie.After-size-for) →
     ReadFits
     (record {
       answer = (at_read c).read.result;
-      left = spanLists lists.1.0 lists.1.1.0 lists.1.1.1.0;
-      leftWindows = windows lists.1.1.1.1.0 lists.1.1.1.1.1.0;
+      left = span_lists lists.1.0 lists.1.1.0 lists.1.1.1.0;
+      left_windows = windows lists.1.1.1.1.0 lists.1.1.1.1.1.0;
     })
-fit c = spans-read _ (spanLists _ _ _) (windows _ _) (at_read c).read.ensures
+fit c = spans_read _ (span_lists _ _ _) (windows _ _) (at_read c).read.ensures
 
 array-share-prefix-from : tie.Need-array-share-prefix-from
-array-share-prefix-from c = (fit c).inFrom
+array-share-prefix-from c = (fit c).in_from
 
 slice-aggregate-answer-feed : tie.Need-slice-aggregate-answer-feed
-slice-aggregate-answer-feed c = sym (length-take-le _ _ (fit c.before).inFrom)
+slice-aggregate-answer-feed c = sym (length-take-le _ _ (fit c.before).in_from)
 
 array-share-prefix-to : tie.Need-array-share-prefix-to
-array-share-prefix-to c = (fit c.before).inTo
+array-share-prefix-to c = (fit c.before).in_to
 
 slice-aggregate-answer-feed-2 : tie.Need-slice-aggregate-answer-feed-2
-slice-aggregate-answer-feed-2 c = sym (length-take-le _ _ (fit c.before.before).inTo)
+slice-aggregate-answer-feed-2 c = sym (length-take-le _ _ (fit c.before.before).in_to)
 
 array-share-prefix-loss : tie.Need-array-share-prefix-loss
-array-share-prefix-loss c = (fit c.before.before).inLoss
+array-share-prefix-loss c = (fit c.before.before).in_loss
 
 slice-aggregate-answer-feed-3 : tie.Need-slice-aggregate-answer-feed-3
-slice-aggregate-answer-feed-3 c = sym (length-take-le _ _ (fit c.before.before.before).inLoss)
+slice-aggregate-answer-feed-3 c = sym (length-take-le _ _ (fit c.before.before.before).in_loss)
 
 array-share-prefix-opens : tie.Need-array-share-prefix-opens
-array-share-prefix-opens c = (fit c.before.before.before).inOpens
+array-share-prefix-opens c = (fit c.before.before.before).in_opens
 
 slice-aggregate-answer-feed-4 : tie.Need-slice-aggregate-answer-feed-4
-slice-aggregate-answer-feed-4 c = sym (length-take-le _ _ (fit c.before.before.before.before).inOpens)
+slice-aggregate-answer-feed-4 c = sym (length-take-le _ _ (fit c.before.before.before.before).in_opens)
 
 array-share-prefix-closes : tie.Need-array-share-prefix-closes
-array-share-prefix-closes c = (fit c.before.before.before.before).inCloses
+array-share-prefix-closes c = (fit c.before.before.before.before).in_closes
 
 slice-aggregate-answer-feed-5 : tie.Need-slice-aggregate-answer-feed-5
-slice-aggregate-answer-feed-5 c = sym (length-take-le _ _ (fit c.before.before.before.before.before).inCloses)
+slice-aggregate-answer-feed-5 c = sym (length-take-le _ _ (fit c.before.before.before.before.before).in_closes)
 
 array-borrow-prefix-best : tie.Need-array-borrow-prefix-best
 array-borrow-prefix-best c = search rules
@@ -168,13 +168,13 @@ slice-aggregate-answer-feed-8 c =
     sym (length-take-le _ _ (omega (arith, at_size.before.before.if2.false)))
 
 array-borrow-prefix-store : tie.Need-array-borrow-prefix-store
-unfolding storeSize
+unfolding store_size
 array-borrow-prefix-store c =
     let at_size = c.before.before.before.before.before.before.before.before in
     omega (arith, at_size.size_for_lem.ensures, at_size.before.before.if2.false)
 
 slice-aggregate-answer-feed-9 : tie.Need-slice-aggregate-answer-feed-9
-unfolding storeSize
+unfolding store_size
 slice-aggregate-answer-feed-9 c =
     let at_size = c.before.before.before.before.before.before.before.before.before in
     sym (length-take-le _ _ (omega (arith, at_size.size_for_lem.ensures, at_size.before.before.if2.false)))

@@ -1,13 +1,13 @@
 -- `put_entry` meets its contract.
 use native.Mathlib.Omega.{arith}
-use Rattle.feed.proofs.Fields.{field-11, after-field, after-word, wrote-entry}
+use Rattle.feed.proofs.Fields.{field_11, after-field, after-word, wrote_entry}
 use borrow.Author.Rules.{rules}
 use Rattle.feed.proofs.put_entry.Statement.{statement}
 use Rattle.feed.proofs.put_entry.Tie as tie
 
 put-field-requires : tie.Need-put-field-requires
 put-field-requires c κs =
-    omega (arith, field-11 c.before.before.args.place 44 (search rules), c.before.before.requires)
+    omega (arith, field_11 c.before.before.args.place 44 (search rules), c.before.before.requires)
 
 put-word-requires : tie.Need-put-word-requires
 put-word-requires c κs =
@@ -47,7 +47,7 @@ returns c =
     let fourth = end.before.before.before.before in
     let third = fourth.before.before.before.before in
     let second = third.before.before.before.before in
-    wrote-entry _ _ _ _ (search rules) (search rules) (search rules) (search rules) second.put-field.ensures
+    wrote_entry _ _ _ _ (search rules) (search rules) (search rules) (search rules) second.put-field.ensures
     third.put_word.ensures fourth.put-word2.ensures end.put-word3.ensures
 
 pub put-entry-spec : {M : Type 1} → statement M

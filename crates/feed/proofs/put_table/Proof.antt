@@ -4,7 +4,7 @@ use mathlib.Core.Path.{◌≡◌, refl}
 use native.Mathlib.Omega.{arith}
 use borrow.Author.Rules.{rules}
 use lib.ListN.{length}
-use Rattle.feed.proofs.TableRows.{Rows, no_rows, row_room, more_rows, all-rows}
+use Rattle.feed.proofs.TableRows.{Rows, no_rows, row_room, more_rows, all_rows}
 use Rattle.feed.proofs.put_table.Statement.{statement}
 use Rattle.feed.proofs.put_table.Tie as tie
 
@@ -40,7 +40,7 @@ shared-slice-read-put-entry-2 : tie.Need-shared-slice-read-put-entry-2 invariant
 shared-slice-read-put-entry-2 c =
     let test = c.before.before.before in
     let ready = test.before.before.before.before.before.before.requires in
-    omega (arith, ready.lastN, ready.jointsN, test.loop-test.true)
+    omega (arith, ready.last_n, ready.joints_n, test.loop-test.true)
 
 mul-put-entry-3 : tie.Need-overflow-mul-put-entry-3 invariant-loop decreases-loop
 mul-put-entry-3 c =
@@ -51,7 +51,7 @@ shared-slice-read-put-entry-3 : tie.Need-shared-slice-read-put-entry-3 invariant
 shared-slice-read-put-entry-3 c =
     let test = c.before.before.before.before in
     let ready = test.before.before.before.before.before.before.requires in
-    omega (arith, ready.lastN, ready.jointsN, test.loop-test.true)
+    omega (arith, ready.last_n, ready.joints_n, test.loop-test.true)
 
 put-entry-requires : tie.Need-put-entry-requires invariant-loop decreases-loop
 put-entry-requires c κs =
@@ -79,7 +79,7 @@ same_length : tie.Need-same-length invariant-loop decreases-loop
 same_length c = c.before.loop.invariant.1
 
 returns : tie.Need-returns invariant-loop decreases-loop
-returns c = all-rows _ _ _ _ _ _ _ c.before.loop.invariant.0 c.loop-test.false
+returns c = all_rows _ _ _ _ _ _ _ c.before.loop.invariant.0 c.loop-test.false
 
 pub put-table-spec : {M : Type 1} → statement M
 put-table-spec =

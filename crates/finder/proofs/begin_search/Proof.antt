@@ -1,5 +1,5 @@
 -- `finder::begin_search` meets its contract.
-use Rattle.paths.specs.Feed.{resultLists}
+use Rattle.paths.specs.Feed.{result_lists}
 use Rattle.finder.proofs.Beginning.{begin-allowed, begun}
 use borrow.Author.Rules.{rules}
 use Rattle.finder.proofs.begin_search.Statement.{statement}
@@ -22,7 +22,7 @@ insert-requires c κs =
     let at-make-empty = c.before.before.before in
     let at-fill2 = at-make-empty.before.before.before.before.before.before.before.before in
     let start = at-fill2.before.before.before.before.before.before.before.before.before.before in
-    begin-allowed _ _ (resultLists _ _ _ _) start.requires _ at-make-empty.make-empty.ensures
+    begin-allowed _ _ (result_lists _ _ _ _) start.requires _ at-make-empty.make-empty.ensures
 
 mul-best : tie.Need-overflow-mul-best
 mul-best c = search rules
@@ -56,7 +56,7 @@ returns c =
     let at-fill2 = at-fill3.before.before.before.before in
     let at_fill_lem = at-fill2.before.before.before.before in
     let start = at_fill_lem.before.before.before.before.before.before in
-    begun _ _ (resultLists _ _ _ _) start.requires _ at-make-empty.make-empty.ensures _ _ _ at_fill_lem.fill.ensures
+    begun _ _ (result_lists _ _ _ _) start.requires _ at-make-empty.make-empty.ensures _ _ _ at_fill_lem.fill.ensures
     at-fill2.fill2.ensures at-fill3.fill3.ensures _ at-insert.insert.ensures
 
 pub begin-search-spec : {M : Type 1} → statement M

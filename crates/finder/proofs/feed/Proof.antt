@@ -1,9 +1,9 @@
 -- `finder::feed` meets its contract.
-use Rattle.paths.specs.Map.{spanLists, windows, mapAt}
+use Rattle.paths.specs.Map.{span_lists, windows, map_at}
 use Rattle.paths.specs.Search.{never}
-use Rattle.paths.specs.Feed.{resultLists}
-use Rattle.finder.proofs.Beginning.{begun-stands}
-use Rattle.finder.proofs.Feeding.{code_fits, begins, feeds-refused, feeds-done}
+use Rattle.paths.specs.Feed.{result_lists}
+use Rattle.finder.proofs.Beginning.{begun_stands}
+use Rattle.finder.proofs.Feeding.{code_fits, begins, feeds_refused, feeds_done}
 use borrow.Author.Rules.{rules}
 use Rattle.finder.proofs.feed.Statement.{statement}
 use Rattle.finder.proofs.feed.Tie as tie
@@ -18,13 +18,13 @@ returns : tie.Need-returns
 returns c =
     let i = c.before in
     rw c.refused.ensures
-    (feeds-refused (mapAt _ _ _ (spanLists _ _ _) (windows _ _)) (resultLists _ _ _ _) _ i.before.feed-code.ensures
+    (feeds_refused (map_at _ _ _ (span_lists _ _ _) (windows _ _)) (result_lists _ _ _ _) _ i.before.feed_code.ensures
     i.if1.true)
 
 begin-search-requires : tie.Need-begin-search-requires
 begin-search-requires c κs =
     let i = c.before.before.before.before in
-    begins (mapAt _ _ _ (spanLists _ _ _) (windows _ _)) (resultLists _ _ _ _) _ _ i.before.feed-code.ensures
+    begins (map_at _ _ _ (span_lists _ _ _) (windows _ _)) (result_lists _ _ _ _) _ _ i.before.feed_code.ensures
     i.if1.false
 
 search-requires : tie.Need-search-requires
@@ -32,9 +32,9 @@ search-requires c κs =
     let b = c.before.before.before.before.before.before.before.before.before.before.before.before in
     let i = b.before.before.before.before.before in
     let F =
-    code_fits (mapAt _ _ _ (spanLists _ _ _) (windows _ _)) _ _ _ _ _ _ i.before.feed-code.ensures
+    code_fits (map_at _ _ _ (span_lists _ _ _) (windows _ _)) _ _ _ _ _ _ i.before.feed_code.ensures
     i.if1.false in
-    (_, begun-stands never F.accepted {l = resultLists _ _ _ _} b.begin-search.ensures)
+    (_, begun_stands never F.accepted {l = result_lists _ _ _ _} b.begin-search.ensures)
 
 done-requires : tie.Need-done-requires
 done-requires c κs = search rules
@@ -56,12 +56,12 @@ returns-2 c =
     let s = c.before.before.before.before.before.before.before.before.before in
     let b = s.before.before.before.before.before.before.before.before.before.before.before.before.before in
     let i = b.before.before.before.before.before in
-    let is = i.before.feed-code.ensures in
-    let F = code_fits (mapAt _ _ _ (spanLists _ _ _) (windows _ _)) _ _ _ _ _ _ is i.if1.false in
+    let is = i.before.feed_code.ensures in
+    let F = code_fits (map_at _ _ _ (span_lists _ _ _) (windows _ _)) _ _ _ _ _ _ is i.if1.false in
     rw c.done.ensures
-    (feeds-done (mapAt _ _ _ (spanLists _ _ _) (windows _ _)) (resultLists _ _ _ _) _ is i.if1.false
-    (resultLists _ _ _ _) _
-    (s.search.ensures _ (begun-stands never F.accepted {l = resultLists _ _ _ _} b.begin-search.ensures)))
+    (feeds_done (map_at _ _ _ (span_lists _ _ _) (windows _ _)) (result_lists _ _ _ _) _ is i.if1.false
+    (result_lists _ _ _ _) _
+    (s.search.ensures _ (begun_stands never F.accepted {l = result_lists _ _ _ _} b.begin-search.ensures)))
 
 pub feed-spec : {M : Type 1} → statement M
 feed-spec =

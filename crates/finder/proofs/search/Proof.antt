@@ -3,23 +3,23 @@ use Prim.Native.Nat.{ℕ, ◌-◌}
 use mathlib.Core.Path.{◌≡◌, refl, ◌∙◌}
 use native.Mathlib.Omega.{arith}
 use lib.ListN.{length}
-use Rattle.paths.specs.Map.{spanLists, windows, mapAt}
+use Rattle.paths.specs.Map.{span_lists, windows, map_at}
 use Rattle.paths.specs.Search.{never}
-use Rattle.paths.specs.Feed.{resultLists}
+use Rattle.paths.specs.Feed.{result_lists}
 use Rattle.finder.specs.SearchState.{Stands}
 use Rattle.finder.proofs.OwnSpans.{sorted}
-use Rattle.finder.proofs.FirstWaiting.{some-waits, none_left}
-use Rattle.finder.proofs.Searching.{stands-found, goes_on, goes-below}
+use Rattle.finder.proofs.FirstWaiting.{some_waits, none_left}
+use Rattle.finder.proofs.Searching.{stands_found, goes_on, goes_below}
 use Rattle.finder.proofs.search.Statement.{statement}
 use Rattle.finder.proofs.search.Tie as tie
 
 abbrev invariant-loop : tie.invariant-loop
 invariant-loop places minute from to loss opens closes best₀ last₀ joints₀ store₀ index go₀ best last joints store go =
     ((start : ℕ)
-    → Stands never (mapAt places start minute (spanLists from to loss) (windows opens closes))
-    (resultLists best₀ last₀ joints₀ store₀) go₀
-    → Stands never (mapAt places start minute (spanLists from to loss) (windows opens closes))
-    (resultLists best last joints store) go)
+    → Stands never (map_at places start minute (span_lists from to loss) (windows opens closes))
+    (result_lists best₀ last₀ joints₀ store₀) go₀
+    → Stands never (map_at places start minute (span_lists from to loss) (windows opens closes))
+    (result_lists best last joints store) go)
     × (length best ≡ length best₀) × (length last ≡ length last₀) × (length joints ≡ length joints₀)
     × (length store ≡ length store₀)
 
@@ -31,7 +31,7 @@ index-spans-requires : tie.Need-index-spans-requires invariant-loop decreases-lo
 index-spans-requires c κs =
     let A = c.before.before.before.before.before.before.before.before.before.before.requires.1.accepted in
     record {
-      sorted = sorted (mapAt _ _ _ (spanLists _ _ _) (windows _ _)) A;
+      sorted = sorted (map_at _ _ _ (span_lists _ _ _) (windows _ _)) A;
       short = A.short;
       few = A.few;
       long = refl;
@@ -48,7 +48,7 @@ visit-next-requires c κs =
     let t = c.before.before.before.before.before in
     let l = t.before.before in
     let S = l.loop.invariant.0 _ (start l).requires.1 in
-    (_, _, goes_on l.before.index-spans.ensures S (some-waits S t.if1.true))
+    (_, _, goes_on l.before.index-spans.ensures S (some_waits S t.if1.true))
 
 loop-less : tie.Need-loop-smaller invariant-loop decreases-loop
 loop-less c =
@@ -56,8 +56,8 @@ loop-less c =
     let t = v.before.before.before.before.before.before in
     let l = t.before.before in
     let S = l.loop.invariant.0 _ (start l).requires.1 in
-    let G = goes_on l.before.index-spans.ensures S (some-waits S t.if1.true) in
-    omega (arith, (v.visit-next.ensures _ _ G).one_more, goes-below G)
+    let G = goes_on l.before.index-spans.ensures S (some_waits S t.if1.true) in
+    omega (arith, (v.visit-next.ensures _ _ G).one_more, goes_below G)
 
 loop-again : tie.Need-loop-preserved invariant-loop decreases-loop
 loop-again c =
@@ -67,7 +67,7 @@ loop-again c =
       λ s R.
           let S = l.loop.invariant.0 s R in
           (v.visit-next.ensures _ _
-          (goes_on l.before.index-spans.ensures S (some-waits S t.if1.true))).stands,
+          (goes_on l.before.index-spans.ensures S (some_waits S t.if1.true))).stands,
       c.before.before.before.before.before.before.before.best.given ∙ l.loop.invariant.1,
       c.before.before.before.before.before.last.given ∙ l.loop.invariant.2,
       c.before.before.before.joints.given ∙ l.loop.invariant.3,
@@ -87,7 +87,7 @@ same-length-4 : tie.Need-same-length-4 invariant-loop decreases-loop
 same-length-4 c = c.before.before.loop.invariant.4
 
 returns : tie.Need-returns invariant-loop decreases-loop
-returns c = λ start R. let S = c.before.before.loop.invariant.0 start R in stands-found S (none_left S c.if1.false)
+returns c = λ start R. let S = c.before.before.loop.invariant.0 start R in stands_found S (none_left S c.if1.false)
 
 pub search-spec : {M : Type 1} → statement M
 search-spec =

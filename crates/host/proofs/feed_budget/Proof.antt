@@ -1,6 +1,6 @@
 -- `feed_budget` meets its contract: it hands on what the finder answers.
 use borrow.Author.Rules.{rules}
-use Rattle.host.proofs.Returned.{budget-returns}
+use Rattle.host.proofs.Returned.{budget_returns}
 use Rattle.host.proofs.feed_budget.Statement.{statement}
 use Rattle.host.proofs.feed_budget.Tie as tie
 
@@ -25,7 +25,7 @@ same-length-5 c = search rules
 returns : tie.Need-returns
 returns c =
     let w = c.before.before.before.before.before.before.before.before.before.before.before.before in
-    budget-returns _ w.feed-within.ensures
+    budget_returns _ w.feed-within.ensures
 
 pub feed-budget-spec : {M : Type 1} → statement M
 feed-budget-spec =

@@ -1,7 +1,7 @@
 -- `read_map` meets its contract.
-use Rattle.paths.specs.Map.{spanLists, windows}
-use Rattle.mapfile.specs.Read.{readMap}
-use Rattle.host.proofs.Returned.{read-returns}
+use Rattle.paths.specs.Map.{span_lists, windows}
+use Rattle.mapfile.specs.Read.{read_map}
+use Rattle.host.proofs.Returned.{read_returns}
 use borrow.Author.Rules.{rules}
 use Rattle.host.proofs.read_map.Statement.{statement}
 use Rattle.host.proofs.read_map.Tie as tie
@@ -26,7 +26,7 @@ same-length-5 c = search rules
 
 returns : tie.Need-returns
 returns c =
-    read-returns (readMap _ (spanLists _ _ _) (windows _ _)) {left = spanLists _ _ _} {leftWindows = windows _ _}
+    read_returns (read_map _ (span_lists _ _ _) (windows _ _)) {left = span_lists _ _ _} {left_windows = windows _ _}
     c.before.before.before.before.before.before.before.before.before.before.before.read.ensures
 
 pub read-map-spec : {M : Type 1} → statement M

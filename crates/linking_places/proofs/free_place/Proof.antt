@@ -7,8 +7,8 @@ use native.Mathlib.Omega.{arith}
 use borrow.Author.Rules.{rules}
 use lib.ListN.{get_or, set}
 use Rattle.rules.specs.Forests.{none}
-use Rattle.linking_places.specs.Taken.{taken_of, treeBit, TakenAt}
-use Rattle.linking_places.proofs.Taken.{a-tree, bitWritten, no-tree, one_shifted}
+use Rattle.linking_places.specs.Taken.{taken_of, tree_bit, TakenAt}
+use Rattle.linking_places.proofs.Taken.{a_tree, bit_written, no_tree, one_shifted}
 use Rattle.linking_places.proofs.free_place.Statement.{statement}
 use Rattle.linking_places.proofs.free_place.Tie as tie
 
@@ -16,12 +16,12 @@ use Rattle.linking_places.proofs.free_place.Tie as tie
 freed : (ps : List ℕ) (taken r : ℕ) → TakenAt ps taken r → get_or ps r 0 ≢ none
     → taken ≡ taken_of (set ps r none) + 2 ^ r
 freed ps taken r T d =
-    let z = bitWritten ps r none T.inside in
+    let z = bit_written ps r none T.inside in
     omega (arith, cut z, T.number)
   where
-    cut : taken_of (set ps r none) + treeBit (get_or ps r 0) * 2 ^ r ≡ taken_of ps + treeBit none * 2 ^ r
+    cut : taken_of (set ps r none) + tree_bit (get_or ps r 0) * 2 ^ r ≡ taken_of ps + tree_bit none * 2 ^ r
         → taken_of (set ps r none) + 1 * 2 ^ r ≡ taken_of ps + 0 * 2 ^ r
-    cut z = rw (a-tree (get_or ps r 0) d, no-tree none refl) at z
+    cut z = rw (a_tree (get_or ps r 0) d, no_tree none refl) at z
 
 sub-result : tie.Need-overflow-sub-result
 sub-result c =

@@ -1,11 +1,11 @@
 -- `linking_places::free_places` meets its contract.
 use mathlib.Core.Path.{refl}
-use Rattle.linking_places.specs.Places.{tree_of, treesOf}
+use Rattle.linking_places.specs.Places.{tree_of, trees_of}
 use Rattle.linking_places.proofs.free_places.Statement.{statement}
 use Rattle.linking_places.proofs.free_places.Tie as tie
 
 returns : tie.Need-returns
-unfolding treesOf tree_of
+unfolding trees_of tree_of
 returns c = refl
 
 pub free-places-spec : {M : Type 1} → statement M

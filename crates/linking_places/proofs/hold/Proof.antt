@@ -3,9 +3,9 @@ use Prim.Native.Nat.{◌-◌}
 use mathlib.Core.Path.{◌≡◌, sym, ap, ◌∙◌}
 use native.Mathlib.Omega.{arith}
 use borrow.Author.Rules.{rules}
-use Rattle.linking_places.specs.Places.{treesOf}
-use Rattle.linking_places.proofs.Places.{tree-item, tree-put}
-use Rattle.linking_places.proofs.Written.{is_set, next-written, none_written, written}
+use Rattle.linking_places.specs.Places.{trees_of}
+use Rattle.linking_places.proofs.Places.{tree_item, tree_put}
+use Rattle.linking_places.proofs.Written.{is_set, next_written, none_written, written}
 use Rattle.linking_places.proofs.hold.Statement.{statement}
 use Rattle.linking_places.proofs.hold.Tie as tie
 
@@ -22,15 +22,15 @@ loop-again : tie.Need-loop-preserved invariant-loop decreases-loop
 loop-again c =
     let c2 = c.before.before in
     let a = c2.before.args in
-    rw (c.choose.ensures, c2.loop.invariant) (next-written a.held a.r _ c2.loop.i)
+    rw (c.choose.ensures, c2.loop.invariant) (next_written a.held a.r _ c2.loop.i)
 
 returns : tie.Need-returns invariant-loop decreases-loop
 returns c =
     let c1 = c.before in
     let a = c1.before.args in
-    ap treesOf (c1.loop.invariant ∙ is_set a.held a.r _ c1.loop.i
+    ap trees_of (c1.loop.invariant ∙ is_set a.held a.r _ c1.loop.i
     (omega (arith, c.loop-test.false, c1.before.requires.0)))
-    ∙ tree-put a.held a.r _ a.x (tree-item a.x c1.before.requires.1)
+    ∙ tree_put a.held a.r _ a.x (tree_item a.x c1.before.requires.1)
 
 pub hold-spec : {M : Type 1} → statement M
 hold-spec =

@@ -10,21 +10,21 @@ use borrow.Author.Tests.{ltb-true, ltb-false}
 use lib.Dec.{ltb}
 use lib.ListN.{get_or}
 use Rattle.rules.specs.Forests.{none}
-use Rattle.linking_places.specs.Places.{freePlace, tree_of, treesOf}
-use Rattle.linking_places.proofs.Places.{tree-item, tree-none, tree-read}
+use Rattle.linking_places.specs.Places.{free_place, tree_of, trees_of}
+use Rattle.linking_places.proofs.Places.{tree_item, tree_none, tree_read}
 use Rattle.linking_places.proofs.holder.Statement.{statement}
 use Rattle.linking_places.proofs.holder.Tie as tie
 
 -- what stands for a tree is below a free place's number
-is-item : (p : ℕ) → tree_of p ≢ none → p < freePlace
-is-item p d = go (ltb p freePlace) refl
+is-item : (p : ℕ) → tree_of p ≢ none → p < free_place
+is-item p d = go (ltb p free_place) refl
   where
-    go : (b : Bool) → ltb p freePlace ≡ b → p < freePlace
-    go true e = ltb-true p freePlace e
-    go false e = absurd (d (tree-none p (ltb-false p freePlace e)))
+    go : (b : Bool) → ltb p free_place ≡ b → p < free_place
+    go true e = ltb-true p free_place e
+    go false e = absurd (d (tree_none p (ltb-false p free_place e)))
 
-below : (ps : List ℕ) (r : ℕ) → get_or (treesOf ps) r 0 ≢ none → get_or ps r 0 < freePlace
-below ps r d = is-item (get_or ps r 0) (λ e. d (tree-read ps r ∙ e))
+below : (ps : List ℕ) (r : ℕ) → get_or (trees_of ps) r 0 ≢ none → get_or ps r 0 < free_place
+below ps r d = is-item (get_or ps r 0) (λ e. d (tree_read ps r ∙ e))
 
 cast-result : tie.Need-overflow-cast-result
 cast-result c =
@@ -34,7 +34,7 @@ cast-result c =
 returns : tie.Need-returns
 returns c =
     let a = c.before.args in
-    sym (tree-read a.places.now a.r ∙ tree-item _ (below a.places.now a.r c.before.requires.1))
+    sym (tree_read a.places.now a.r ∙ tree_item _ (below a.places.now a.r c.before.requires.1))
 
 pub holder-spec : {M : Type 1} → statement M
 holder-spec = tie.close (tie.spec (λ c. search rules) (λ c. search rules) cast-result returns)

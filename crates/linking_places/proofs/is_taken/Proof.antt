@@ -2,12 +2,12 @@
 use mathlib.Core.Path.{ap, ◌∙◌}
 use borrow.Author.Rules.{rules}
 use lib.Dec.{eqb}
-use Rattle.linking_places.proofs.Taken.{bitOfPlace, bit_test}
+use Rattle.linking_places.proofs.Taken.{bit_of_place, bit_test}
 use Rattle.linking_places.proofs.is_taken.Statement.{statement}
 use Rattle.linking_places.proofs.is_taken.Tie as tie
 
 returns : tie.Need-returns
-returns c = λ ps T. rw T.number (ap (λ b. eqb b 1) (bitOfPlace ps _ T.inside) ∙ bit_test _)
+returns c = λ ps T. rw T.number (ap (λ b. eqb b 1) (bit_of_place ps _ T.inside) ∙ bit_test _)
 
 pub is-taken-spec : {M : Type 1} → statement M
 is-taken-spec = tie.close (tie.spec (λ c. search rules) returns)

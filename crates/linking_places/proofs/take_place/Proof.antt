@@ -8,8 +8,8 @@ use borrow.Author.Rules.{rules}
 use lib.ListN.{length, get_or, set}
 use lib.Pow.{pow_mono}
 use Rattle.rules.specs.Forests.{none}
-use Rattle.linking_places.specs.Taken.{taken_of, treeBit, TakenAt}
-use Rattle.linking_places.proofs.Taken.{a-tree, bitWritten, no-tree, one_shifted, taken-low}
+use Rattle.linking_places.specs.Taken.{taken_of, tree_bit, TakenAt}
+use Rattle.linking_places.proofs.Taken.{a_tree, bit_written, no_tree, one_shifted, taken_low}
 use Rattle.linking_places.proofs.take_place.Statement.{statement}
 use Rattle.linking_places.proofs.take_place.Tie as tie
 
@@ -17,12 +17,12 @@ use Rattle.linking_places.proofs.take_place.Tie as tie
 taken_more : (ps : List ℕ) (taken r x : ℕ) → TakenAt ps taken r → get_or ps r 0 ≡ none → x ≢ none
     → taken + 2 ^ r ≡ taken_of (set ps r x)
 taken_more ps taken r x T e d =
-    let z = bitWritten ps r x T.inside in
+    let z = bit_written ps r x T.inside in
     omega (arith, cut z, T.number)
   where
-    cut : taken_of (set ps r x) + treeBit (get_or ps r 0) * 2 ^ r ≡ taken_of ps + treeBit x * 2 ^ r
+    cut : taken_of (set ps r x) + tree_bit (get_or ps r 0) * 2 ^ r ≡ taken_of ps + tree_bit x * 2 ^ r
         → taken_of (set ps r x) + 0 * 2 ^ r ≡ taken_of ps + 1 * 2 ^ r
-    cut z = rw (no-tree (get_or ps r 0) e, a-tree x d) at z
+    cut z = rw (no_tree (get_or ps r 0) e, a_tree x d) at z
 
 add-result : tie.Need-overflow-add-result
 add-result c =
@@ -30,7 +30,7 @@ add-result c =
     let T = p.1 in
     let k : 2 ^ length p.0 ≤ 2 ^ 17 = pow_mono T.places in
     let l : 2 ^ c.args.r ≤ 2 ^ 17 = pow_mono {j = 17} (omega (arith, c.requires.0)) in
-    record { fits = omega (arith, one_shifted c.args.r c.requires.0, taken-low p.0, T.number, k, l) }
+    record { fits = omega (arith, one_shifted c.args.r c.requires.0, taken_low p.0, T.number, k, l) }
 
 returns : tie.Need-returns
 returns c = λ ps x T e d. omega (arith, one_shifted c.args.r c.requires.0, taken_more ps _ _ x T e d)

@@ -3,8 +3,8 @@ use Prim.Native.Nat.{◌-◌}
 use native.Mathlib.Omega.{arith}
 use borrow.Author.Rules.{rules}
 use lib.ListN.{length}
-use Rattle.mapfile.proofs.LineAt.{line-within}
-use Rattle.mapfile.proofs.Filling.{Stored, none-stored, place_in, one-stored, all-spans, all-windows}
+use Rattle.mapfile.proofs.LineAt.{line_within}
+use Rattle.mapfile.proofs.Filling.{Stored, none_stored, place_in, one_stored, all_spans, all_windows}
 use Rattle.mapfile.proofs.fill.Statement.{statement}
 use Rattle.mapfile.proofs.fill.Tie as tie
 
@@ -19,24 +19,24 @@ decreases-loop text first from₀ to₀ loss₀ opens₀ closes₀ at₀ n₀ fr
 loop-holds : tie.Need-loop-init invariant-loop decreases-loop
 loop-holds c =
     let p = c.before.before.before.before.before.before.requires in (
-      none-stored _ _ _ _ p.inFrom,
-      none-stored _ _ _ _ p.inTo,
-      none-stored _ _ _ _ p.inLoss,
-      none-stored _ _ _ _ p.inOpens,
-      none-stored _ _ _ _ p.inCloses,
+      none_stored _ _ _ _ p.in_from,
+      none_stored _ _ _ _ p.in_to,
+      none_stored _ _ _ _ p.in_loss,
+      none_stored _ _ _ _ p.in_opens,
+      none_stored _ _ _ _ p.in_closes,
     )
 
 line-end-requires : tie.Need-line-end-requires invariant-loop decreases-loop
 line-end-requires c κs = search rules
 
 sub-line-numbers : tie.Need-overflow-sub-line-numbers invariant-loop decreases-loop
-sub-line-numbers c = let e = line-within _ _ _ c.line-end.ensures (omega arith) in search rules
+sub-line-numbers c = let e = line_within _ _ _ c.line-end.ensures (omega arith) in search rules
 
 part-line-numbers-start : tie.Need-slice-bounds-line-numbers-start invariant-loop decreases-loop
-part-line-numbers-start c = let e = line-within _ _ _ c.line-end.ensures (omega arith) in search rules
+part-line-numbers-start c = let e = line_within _ _ _ c.line-end.ensures (omega arith) in search rules
 
 part-line-numbers-end : tie.Need-slice-bounds-line-numbers-end invariant-loop decreases-loop
-part-line-numbers-end c = let e = line-within _ _ _ c.line-end.ensures (omega arith) in search rules
+part-line-numbers-end c = let e = line_within _ _ _ c.line-end.ensures (omega arith) in search rules
 
 line-numbers-requires : tie.Need-line-numbers-requires invariant-loop decreases-loop
 line-numbers-requires c κs = search rules
@@ -103,12 +103,12 @@ add-n c =
 
 add_at : tie.Need-overflow-add-at invariant-loop decreases-loop
 add_at c =
-    let e = line-within _ _ _ c.before.before.before.line-end.ensures (omega arith) in
+    let e = line_within _ _ _ c.before.before.before.line-end.ensures (omega arith) in
     search rules
 
 loop-less : tie.Need-loop-smaller invariant-loop decreases-loop
 loop-less c =
-    let e = line-within _ _ _ c.before.before.before.line-end.ensures (omega arith) in
+    let e = line_within _ _ _ c.before.before.before.line-end.ensures (omega arith) in
     search rules
 
 loop-again : tie.Need-loop-preserved invariant-loop decreases-loop
@@ -117,11 +117,11 @@ loop-again c =
     let i = w.before.before.loop.invariant in
     let q = w.line-end.ensures in
     let row = c.before.line-numbers.ensures in (
-      one-stored i.0 _ q (omega arith) row,
-      one-stored i.1 _ q (omega arith) row,
-      one-stored i.2 _ q (omega arith) row,
-      one-stored i.3 _ q (omega arith) row,
-      one-stored i.4 _ q (omega arith) row,
+      one_stored i.0 _ q (omega arith) row,
+      one_stored i.1 _ q (omega arith) row,
+      one_stored i.2 _ q (omega arith) row,
+      one_stored i.3 _ q (omega arith) row,
+      one_stored i.4 _ q (omega arith) row,
     )
 
 same_length : tie.Need-same-length invariant-loop decreases-loop
@@ -142,7 +142,7 @@ same-length-5 c = c.before.loop.invariant.4.same
 returns : tie.Need-returns invariant-loop decreases-loop
 returns c =
     let i = c.before.loop.invariant in
-    (all-spans i.0 i.1 i.2 (omega arith), all-windows i.3 i.4 (omega arith))
+    (all_spans i.0 i.1 i.2 (omega arith), all_windows i.3 i.4 (omega arith))
 
 pub fill_spec : {M : Type 1} → statement M
 fill_spec =

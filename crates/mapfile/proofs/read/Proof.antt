@@ -1,9 +1,9 @@
 -- `mapfile::read` meets its contract: one law for each way out.
 use native.Mathlib.Omega.{arith}
 use borrow.Author.Rules.{rules}
-use Rattle.paths.specs.Map.{spanLists, windows}
-use Rattle.mapfile.proofs.LineAt.{line-within}
-use Rattle.mapfile.proofs.Ways.{refuses, too_long, bad-head, good-head}
+use Rattle.paths.specs.Map.{span_lists, windows}
+use Rattle.mapfile.proofs.LineAt.{line_within}
+use Rattle.mapfile.proofs.Ways.{refuses, too_long, bad_head, good_head}
 use Rattle.mapfile.proofs.read.Statement.{statement}
 use Rattle.mapfile.proofs.read.Tie as tie
 
@@ -11,7 +11,7 @@ refuse-requires : tie.Need-refuse-requires
 refuse-requires c κs = search rules
 
 returns : tie.Need-returns
-returns c = refuses 21 (too_long _ (spanLists _ _ _) (windows _ _) (omega arith)) c.refuse.ensures
+returns c = refuses 21 (too_long _ (span_lists _ _ _) (windows _ _) (omega arith)) c.refuse.ensures
 
 line-end-requires : tie.Need-line-end-requires
 line-end-requires c κs = search rules
@@ -23,7 +23,7 @@ part-line-numbers-start : tie.Need-slice-bounds-line-numbers-start
 part-line-numbers-start c = search rules
 
 part-line-numbers-end : tie.Need-slice-bounds-line-numbers-end
-part-line-numbers-end c = let e = line-within _ _ _ c.line-end.ensures (omega arith) in search rules
+part-line-numbers-end c = let e = line_within _ _ _ c.line-end.ensures (omega arith) in search rules
 
 line-numbers-requires : tie.Need-line-numbers-requires
 line-numbers-requires c κs = search rules
@@ -36,7 +36,7 @@ returns-2 c =
     let row = c.before.before.before in
     let w = row.before.before in
     refuses 21
-    (bad-head _ (spanLists _ _ _) (windows _ _) _ w.line-end.ensures row.line-numbers.ensures
+    (bad_head _ (span_lists _ _ _) (windows _ _) _ w.line-end.ensures row.line-numbers.ensures
     c.before.if2.true)
     c.refuse2.ensures
 
@@ -52,7 +52,7 @@ array-read-minute c = search rules
 add-read-spans : tie.Need-overflow-add-read-spans
 add-read-spans c =
     let w = c.before.before.before.before.before in
-    let e = line-within _ _ _ w.line-end.ensures (omega arith) in
+    let e = line_within _ _ _ w.line-end.ensures (omega arith) in
     search rules
 
 read-spans-requires : tie.Need-read-spans-requires
@@ -60,7 +60,7 @@ read-spans-requires c κs =
     let branch = c.before.before.before.before.before.before in
     let row = branch.before.before in
     let w = row.before.before in
-    good-head _ (omega arith) _ w.line-end.ensures row.line-numbers.ensures branch.if2.false
+    good_head _ (omega arith) _ w.line-end.ensures row.line-numbers.ensures branch.if2.false
 
 same_length : tie.Need-same-length
 same_length c = search rules

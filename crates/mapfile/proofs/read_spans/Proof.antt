@@ -1,8 +1,8 @@
 -- `mapfile::read_spans` meets its contract: one law for each way out.
 use mathlib.Core.Path.{sym, ◌∙◌}
 use borrow.Author.Rules.{rules}
-use Rattle.paths.specs.Map.{spanLists, windows}
-use Rattle.mapfile.proofs.Ways.{refuses, bad-spans, no_room, has_room, all-filled}
+use Rattle.paths.specs.Map.{span_lists, windows}
+use Rattle.mapfile.proofs.Ways.{refuses, bad_spans, no_room, has_room, all_filled}
 use Rattle.mapfile.proofs.read_spans.Statement.{statement}
 use Rattle.mapfile.proofs.read_spans.Tie as tie
 
@@ -23,7 +23,7 @@ returns c =
     let w = c.before.before.before in
     let start = w.before.before.before.before.before.before.before in
     let told = sym c.before.enum_told.given.1 ∙ w.count-spans.ensures in
-    refuses 21 (bad-spans start.requires _ _ told) c.refuse.ensures
+    refuses 21 (bad_spans start.requires _ _ told) c.refuse.ensures
 
 run-out-requires : tie.Need-run-out-requires
 run-out-requires c κs = search rules
@@ -53,7 +53,7 @@ returns-2 c =
     let start = w.before.before.before.before.before.before.before.before.before in
     let n = sym w.spans.given.1 ∙ w.before.before.count-spans.ensures in
     refuses 16
-    (no_room start.requires (spanLists _ _ _) (windows _ _) _ n test.run_out.ensures c.before.if1.true)
+    (no_room start.requires (span_lists _ _ _) (windows _ _) _ n test.run_out.ensures c.before.if1.true)
     c.refuse2.ensures
 
 fill-requires : tie.Need-fill-requires
@@ -63,7 +63,7 @@ fill-requires c κs =
     let w = test.before.before.before.before.before.before.before in
     let start = w.before.before.before.before.before.before.before.before.before in
     let n = sym w.spans.given.1 ∙ w.before.before.count-spans.ensures in
-    has_room start.requires (spanLists _ _ _) (windows _ _) _ n test.run_out.ensures branch.if1.false
+    has_room start.requires (span_lists _ _ _) (windows _ _) _ n test.run_out.ensures branch.if1.false
 
 same-length-6 : tie.Need-same-length-6
 same-length-6 c = search rules
@@ -88,8 +88,8 @@ returns-3 c =
     let w = test.before.before.before.before.before.before.before in
     let start = w.before.before.before.before.before.before.before.before.before in
     let n = sym w.spans.given.1 ∙ w.before.before.count-spans.ensures in
-    all-filled start.requires (spanLists _ _ _) (windows _ _) _ n test.run_out.ensures branch.if1.false
-    (spanLists _ _ _) (windows _ _) f.fill.ensures.0 f.fill.ensures.1
+    all_filled start.requires (span_lists _ _ _) (windows _ _) _ n test.run_out.ensures branch.if1.false
+    (span_lists _ _ _) (windows _ _) f.fill.ensures.0 f.fill.ensures.1
 
 pub read-spans-spec : {M : Type 1} → statement M
 read-spans-spec =

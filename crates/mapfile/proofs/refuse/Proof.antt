@@ -1,11 +1,11 @@
 -- `mapfile::refuse` meets its contract.
 use mathlib.Core.Path.{refl}
-use Rattle.mapfile.specs.Read.{refusedAnswer}
+use Rattle.mapfile.specs.Read.{refused_answer}
 use Rattle.mapfile.proofs.refuse.Statement.{statement}
 use Rattle.mapfile.proofs.refuse.Tie as tie
 
 returns : tie.Need-returns
-unfolding refusedAnswer
+unfolding refused_answer
 returns c = refl
 
 pub refuse-spec : {M : Type 1} → statement M

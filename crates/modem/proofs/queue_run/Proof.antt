@@ -1,7 +1,7 @@
 -- `queue_run` meets its contract.
 use mathlib.Core.Path.{refl}
-use Rattle.rules.specs.Words.{storeSize}
-use Rattle.modem.proofs.Returned.{run-returned}
+use Rattle.rules.specs.Words.{store_size}
+use Rattle.modem.proofs.Returned.{run_returned}
 use borrow.Author.Rules.{rules}
 use Rattle.modem.proofs.queue_run.Statement.{statement}
 use Rattle.modem.proofs.queue_run.Tie as tie
@@ -19,9 +19,9 @@ same_length : tie.Need-same-length
 same_length c = search rules
 
 returns : tie.Need-returns
-unfolding storeSize
+unfolding store_size
 returns c =
-    run-returned _ _ _ c.before.before.before.before.run-fresh.ensures refl _ c.result-number.ensures
+    run_returned _ _ _ c.before.before.before.before.run-fresh.ensures refl _ c.result-number.ensures
 
 pub queue-run-spec : {M : Type 1} → statement M
 queue-run-spec =

@@ -1,7 +1,7 @@
 -- `answer_sheet` meets its contract.
 use mathlib.Core.Path.{refl}
-use Rattle.rules.specs.Words.{storeSize}
-use Rattle.queue.proofs.Printing.{answers-shown, code_fits, code-shown}
+use Rattle.rules.specs.Words.{store_size}
+use Rattle.queue.proofs.Printing.{answers_shown, code_fits, code_shown}
 use borrow.Author.Rules.{rules}
 use Rattle.queue.proofs.answer_sheet.Statement.{statement}
 use Rattle.queue.proofs.answer_sheet.Tie as tie
@@ -19,16 +19,16 @@ same_length : tie.Need-same-length
 same_length c = search rules
 
 returns : tie.Need-returns
-unfolding storeSize
+unfolding store_size
 returns c =
     let test = c.before in
-    answers-shown _ _ _ refl test.before.before.before.before.run-fresh.ensures test.if1.true
+    answers_shown _ _ _ refl test.before.before.before.before.run-fresh.ensures test.if1.true
 
 cast-put-field : tie.Need-overflow-cast-put-field
 cast-put-field c = search rules
 
 put-field-requires : tie.Need-put-field-requires
-unfolding storeSize
+unfolding store_size
 put-field-requires c κs =
     let ran = c.before.before.before.before.before in
     let start = ran.before.before.before.before.before in
@@ -38,13 +38,13 @@ same-length-2 : tie.Need-same-length-2
 same-length-2 c = search rules
 
 returns-2 : tie.Need-returns-2
-unfolding storeSize
+unfolding store_size
 returns-2 c =
     let put = c.before.before in
     let test = put.before.before in
     let ran = test.before.before.before.before in
     let start = ran.before.before.before.before.before in
-    code-shown _ _ _ refl ran.run-fresh.ensures start.requires test.if1.false put.put-field.ensures
+    code_shown _ _ _ refl ran.run-fresh.ensures start.requires test.if1.false put.put-field.ensures
 
 pub answer-sheet-spec : {M : Type 1} → statement M
 answer-sheet-spec =

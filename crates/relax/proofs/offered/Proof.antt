@@ -1,6 +1,6 @@
 -- `relax::offered` meets its contract: one law for each way out.
-use Rattle.paths.specs.Feed.{resultLists}
-use Rattle.relax.proofs.Relaxing.{offer-meets, offer-lowers, offer-larger, offer-kept, offer-ties}
+use Rattle.paths.specs.Feed.{result_lists}
+use Rattle.relax.proofs.Relaxing.{offer_meets, offer_lowers, offer_larger, offer_kept, offer_ties}
 use borrow.Author.Tests.{not-true, not-false}
 use borrow.Author.Rules.{rules}
 use Rattle.relax.proofs.offered.Statement.{statement}
@@ -32,7 +32,7 @@ returns c =
     let at_meet = c.before.before.before.before.before.before.before.before in
     let at-if1 = at_meet.before.before.before.before.before in
     let start = at-if1.before.before.before.before.before.before in
-    offer-meets _ _ _ _ (resultLists _ _ _ _) _ start.requires at-if1.if1.true {l' = resultLists _ _ _ _}
+    offer_meets _ _ _ _ (result_lists _ _ _ _) _ start.requires at-if1.if1.true {l' = result_lists _ _ _ _}
     at_meet.meet.ensures
 
 lower-requires : tie.Need-lower-requires
@@ -60,14 +60,14 @@ returns-2 c =
     let at-if2 = at-lower.before.before.before.before.before in
     let at-if1 = at-if2.before in
     let start = at-if1.before.before.before.before.before.before in
-    offer-lowers _ _ _ _ (resultLists _ _ _ _) _ start.requires at-if1.if1.false at-if2.if2.true
-    {l' = resultLists _ _ _ _} at-lower.lower.ensures
+    offer_lowers _ _ _ _ (result_lists _ _ _ _) _ start.requires at-if1.if1.false at-if2.if2.true
+    {l' = result_lists _ _ _ _} at-lower.lower.ensures
 
 returns-3 : tie.Need-returns-3
 returns-3 c =
     let at-if1 = c.before.before in
     let start = at-if1.before.before.before.before.before.before in
-    offer-larger _ _ _ _ (resultLists _ _ _ _) _ start.requires at-if1.if1.false c.before.if2.false
+    offer_larger _ _ _ _ (result_lists _ _ _ _) _ start.requires at-if1.if1.false c.before.if2.false
     c.if3.true
 
 mul-has-hops : tie.Need-overflow-mul-has-hops
@@ -89,8 +89,8 @@ returns-4 : tie.Need-returns-4
 returns-4 c =
     let at-if2 = c.before.before.before.before.before in
     let start = at-if2.before.before.before.before.before.before.before in
-    offer-kept _ _ _ _ (resultLists _ _ _ _) _ start.requires at-if2.before.if1.false at-if2.if2.false _
-    c.before.wins-tie.ensures (not-true _ c.if4.true)
+    offer_kept _ _ _ _ (result_lists _ _ _ _) _ start.requires at-if2.before.if1.false at-if2.if2.false _
+    c.before.wins_tie_lem.ensures (not-true _ c.if4.true)
 
 mul-joints : tie.Need-overflow-mul-joints
 mul-joints c = search rules
@@ -115,8 +115,8 @@ returns-5 c =
     let at-if3 = c.before.before.before.before in
     let at-if2 = at-if3.before in
     let start = at-if2.before.before.before.before.before.before.before in
-    offer-ties _ _ _ _ (resultLists _ _ _ _) _ start.requires at-if2.before.if1.false at-if2.if2.false _
-    c.before.wins-tie.ensures at-if3.if3.false (not-false _ c.if4.false)
+    offer_ties _ _ _ _ (result_lists _ _ _ _) _ start.requires at-if2.before.if1.false at-if2.if2.false _
+    c.before.wins_tie_lem.ensures at-if3.if3.false (not-false _ c.if4.false)
 
 pub offered-spec : {M : Type 1} → statement M
 offered-spec =

@@ -1,6 +1,6 @@
 -- `answer_line` meets its contract: code 6 where the line yields no call, else the reply of its call.
 use native.Mathlib.Omega.{arith}
-use Rattle.sheet.proofs.Answered.{short-fits, answered-none, call_fits, answered-call}
+use Rattle.sheet.proofs.Answered.{short_fits, answered_none, call_fits, answered_call}
 use borrow.Author.Rules.{rules}
 use Rattle.sheet.proofs.answer_line.Statement.{statement}
 use Rattle.sheet.proofs.answer_line.Tie as tie
@@ -13,7 +13,7 @@ enum_told c = search rules
 
 put-answer-requires : tie.Need-put-answer-requires
 put-answer-requires c κs =
-    short-fits c.before.before.before.before.before.requires _
+    short_fits c.before.before.before.before.before.requires _
     (record { code = omega arith; item = omega arith; key = omega arith; links = omega arith; cuts = omega arith })
 
 same_length : tie.Need-same-length
@@ -22,7 +22,7 @@ same_length c = search rules
 returns : tie.Need-returns
 returns c =
     let told = c.before.before.before.before in
-    answered-none told.before.before.before.before.requires told.enum_told.given.1
+    answered_none told.before.before.before.before.requires told.enum_told.given.1
     c.before.before.put-answer.ensures
 
 perform-requires : tie.Need-perform-requires
@@ -46,7 +46,7 @@ returns-2 c =
     let put = c.before.before in
     let performed = put.before.before.before.before.before in
     let yields = performed.before.before.before in
-    answered-call yields.before.before.before.before.requires yields.line.given.1 performed.perform.ensures
+    answered_call yields.before.before.before.before.requires yields.line.given.1 performed.perform.ensures
     put.put-answer2.ensures
 
 pub answer-line-spec : {M : Type 1} → statement M

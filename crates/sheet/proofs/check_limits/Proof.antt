@@ -1,7 +1,7 @@
 -- `check_limits` meets its contract: the conditions in the table's order.
 use native.Mathlib.Omega.{arith}
-use Rattle.soundness.proofs.Booleans.{told-false, told-true}
-use Rattle.sheet.proofs.Limits.{met, code-1, code-2, code-3, code-4, none-met}
+use Rattle.soundness.proofs.Booleans.{told_false, told_true}
+use Rattle.sheet.proofs.Limits.{met, code_1, code_2, code_3, code_4, none_met}
 use borrow.Author.Rules.{rules}
 use Rattle.sheet.proofs.check_limits.Statement.{statement}
 use Rattle.sheet.proofs.check_limits.Tie as tie
@@ -14,7 +14,7 @@ beyond-requires c κs = search rules
 
 returns : tie.Need-returns
 returns c =
-    met 0 (code-1 _ _ _ (told-false _ _ c.before.before.is-store.ensures c.before.if1.true))
+    met 0 (code_1 _ _ _ (told_false _ _ c.before.before.is_store_lem.ensures c.before.if1.true))
     c.beyond.ensures
 
 beyond-requires-2 : tie.Need-beyond-requires-2
@@ -23,7 +23,7 @@ beyond-requires-2 c κs = search rules
 returns-2 : tie.Need-returns-2
 returns-2 c =
     let test = c.before.before in
-    met 1 (code-2 _ _ _ (told-true _ _ test.before.is-store.ensures test.if1.false) c.before.if2.true)
+    met 1 (code_2 _ _ _ (told_true _ _ test.before.is_store_lem.ensures test.if1.false) c.before.if2.true)
     c.beyond2.ensures
 
 line-count-requires : tie.Need-line-count-requires
@@ -37,8 +37,8 @@ returns-3 c =
     let count = c.before.before in
     let test = count.before.before in
     met 2
-    (code-3 _ _ _ (told-true _ _ test.before.is-store.ensures test.if1.false) count.before.if2.false
-    count.line-count.ensures c.before.if3.true)
+    (code_3 _ _ _ (told_true _ _ test.before.is_store_lem.ensures test.if1.false) count.before.if2.false
+    count.line_count.ensures c.before.if3.true)
     c.beyond3.ensures
 
 mul-if4 : tie.Need-overflow-mul-if4
@@ -52,8 +52,8 @@ returns-4 c =
     let count = c.before.before.before in
     let test = count.before.before in
     met 3
-    (code-4 _ _ _ (told-true _ _ test.before.is-store.ensures test.if1.false) count.before.if2.false
-    count.line-count.ensures c.before.before.if3.false (omega (arith, c.before.if4.true)))
+    (code_4 _ _ _ (told_true _ _ test.before.is_store_lem.ensures test.if1.false) count.before.if2.false
+    count.line_count.ensures c.before.before.if3.false (omega (arith, c.before.if4.true)))
     c.beyond4.ensures
 
 items-of-requires : tie.Need-items-of-requires
@@ -67,8 +67,8 @@ returns-5 c =
     let room = c.before in
     let count = room.before.before in
     let test = count.before.before in
-    none-met _ _ _ (told-true _ _ test.before.is-store.ensures test.if1.false) count.before.if2.false
-    count.line-count.ensures room.before.if3.false room.if4.false c.items_of.ensures
+    none_met _ _ _ (told_true _ _ test.before.is_store_lem.ensures test.if1.false) count.before.if2.false
+    count.line_count.ensures room.before.if3.false room.if4.false c.items_of.ensures
 
 pub check-limits-spec : {M : Type 1} → statement M
 check-limits-spec =

@@ -1,6 +1,6 @@
 -- `run_fresh` meets its contract.
 use native.Mathlib.Omega.{arith}
-use Rattle.sheet.proofs.Leaves.{fresh-refused, sized, fresh-runnable, fresh-fits, fresh-ran}
+use Rattle.sheet.proofs.Leaves.{fresh_refused, sized, fresh_runnable, fresh_fits, fresh_ran}
 use borrow.Author.Rules.{rules}
 use Rattle.sheet.proofs.run_fresh.Statement.{statement}
 use Rattle.sheet.proofs.run_fresh.Tie as tie
@@ -18,7 +18,7 @@ same-length-2 : tie.Need-same-length-2
 same-length-2 c = search rules
 
 returns : tie.Need-returns
-returns c = fresh-refused c.before.before.check-limits.ensures c.before.if1.true c.refused-run.ensures
+returns c = fresh_refused c.before.before.check-limits.ensures c.before.if1.true c.refused-run.ensures
 
 make-empty-requires : tie.Need-make-empty-requires
 make-empty-requires c κs =
@@ -29,7 +29,7 @@ run-lines-requires : tie.Need-run-lines-requires
 run-lines-requires c κs =
     let made = c.before.before.before.before in
     let test = made.before.before in
-    fresh-runnable test.before.check-limits.ensures test.if1.false made.make-empty.ensures
+    fresh_runnable test.before.check-limits.ensures test.if1.false made.make-empty.ensures
 
 cast-t19 : tie.Need-overflow-cast-t19
 cast-t19 c =
@@ -38,7 +38,7 @@ cast-t19 c =
     let test = made.before.before in
     omega (
       arith,
-      fresh-fits test.before.check-limits.ensures test.if1.false made.make-empty.ensures
+      fresh_fits test.before.check-limits.ensures test.if1.false made.make-empty.ensures
           ran.run-lines.ensures,
     )
 
@@ -53,7 +53,7 @@ returns-2 c =
     let ran = c.before.before.before.before in
     let made = ran.before.before.before.before.before in
     let test = made.before.before in
-    fresh-ran test.before.check-limits.ensures test.if1.false made.make-empty.ensures
+    fresh_ran test.before.check-limits.ensures test.if1.false made.make-empty.ensures
     ran.run-lines.ensures
 
 pub run-fresh-spec : {M : Type 1} → statement M

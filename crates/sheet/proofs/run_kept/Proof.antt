@@ -1,7 +1,7 @@
 -- `run_kept` meets its contract.
 use native.Mathlib.Omega.{arith}
-use Rattle.soundness.proofs.Booleans.{told-false, told-true}
-use Rattle.sheet.proofs.Leaves.{kept-refused, unsound, kept-runnable, kept-fits, kept-ran}
+use Rattle.soundness.proofs.Booleans.{told_false, told_true}
+use Rattle.sheet.proofs.Leaves.{kept_refused, unsound, kept_runnable, kept_fits, kept_ran}
 use borrow.Author.Rules.{rules}
 use Rattle.sheet.proofs.run_kept.Statement.{statement}
 use Rattle.sheet.proofs.run_kept.Tie as tie
@@ -19,7 +19,7 @@ same-length-2 : tie.Need-same-length-2
 same-length-2 c = search rules
 
 returns : tie.Need-returns
-returns c = kept-refused c.before.before.check-limits.ensures c.before.if1.true c.refused-run.ensures
+returns c = kept_refused c.before.before.check-limits.ensures c.before.if1.true c.refused-run.ensures
 
 sound-requires : tie.Need-sound-requires
 sound-requires c κs = search rules
@@ -38,15 +38,15 @@ returns-2 c =
     let check = c.before.before in
     let test = check.before.before in
     unsound test.before.check-limits.ensures test.if1.false
-    (told-false _ _ check.sound.ensures c.before.if2.true) c.refused-run2.ensures
+    (told_false _ _ check.sound.ensures c.before.if2.true) c.refused-run2.ensures
 
 run-lines-requires : tie.Need-run-lines-requires
 run-lines-requires c κs =
     let passed = c.before.before in
     let check = passed.before in
     let test = check.before.before in
-    kept-runnable test.before.check-limits.ensures test.if1.false
-    (told-true _ _ check.sound.ensures passed.if2.false)
+    kept_runnable test.before.check-limits.ensures test.if1.false
+    (told_true _ _ check.sound.ensures passed.if2.false)
 
 cast-t19 : tie.Need-overflow-cast-t19
 cast-t19 c =
@@ -56,8 +56,8 @@ cast-t19 c =
     let test = check.before.before in
     omega (
       arith,
-      kept-fits test.before.check-limits.ensures test.if1.false
-          (told-true _ _ check.sound.ensures passed.if2.false) ran.run-lines.ensures,
+      kept_fits test.before.check-limits.ensures test.if1.false
+          (told_true _ _ check.sound.ensures passed.if2.false) ran.run-lines.ensures,
     )
 
 same-length-5 : tie.Need-same-length-5
@@ -72,8 +72,8 @@ returns-3 c =
     let passed = ran.before.before.before in
     let check = passed.before in
     let test = check.before.before in
-    kept-ran test.before.check-limits.ensures test.if1.false
-    (told-true _ _ check.sound.ensures passed.if2.false) ran.run-lines.ensures
+    kept_ran test.before.check-limits.ensures test.if1.false
+    (told_true _ _ check.sound.ensures passed.if2.false) ran.run-lines.ensures
 
 pub run-kept-spec : {M : Type 1} → statement M
 run-kept-spec =

@@ -3,7 +3,7 @@ use Prim.Native.Nat.{◌+◌, ◌-◌}
 use mathlib.Core.Path.{sym, ◌∙◌}
 use native.Mathlib.Omega.{arith}
 use lib.ListN.{length}
-use Rattle.text.proofs.Wrote.{wrote-length}
+use Rattle.text.proofs.Wrote.{wrote_length}
 use Rattle.lines.proofs.LineFound.{found}
 use Rattle.sheet.proofs.RanLines.{AnsweredTo, none_done, answerable, one_more, all_done}
 use borrow.Author.Rules.{rules}
@@ -56,7 +56,7 @@ same_length : tie.Need-same-length invariant-loop decreases-loop
 same_length c = c.before.before.before.loop.invariant.same_length
 
 same-length-2 : tie.Need-same-length-2 invariant-loop decreases-loop
-same-length-2 c = wrote-length c.before.before.before.loop.invariant.wrote
+same-length-2 c = wrote_length c.before.before.before.loop.invariant.wrote
 
 returns : tie.Need-returns invariant-loop decreases-loop
 returns c =

@@ -2,7 +2,7 @@
 use borrow.Author.Rules.{rules}
 use mathlib.Core.Path.{sym, subst}
 use Rattle.store.specs.Siblings.{Link}
-use Rattle.store.proofs.Moves.{append-changes}
+use Rattle.store.proofs.Moves.{append_changes}
 use Rattle.store.proofs.append.Statement.{statement}
 use Rattle.store.proofs.append.Tie as tie
 
@@ -25,7 +25,7 @@ returns c =
     let c14 = c10.before.before.before.before in
     let c16 = c14.before.before in
     let c17 = c16.before in
-    append-changes _ _ _ _ c17.before.before.before.requires.owner.inside c17.last.ensures
+    append_changes _ _ _ _ c17.before.before.before.requires.owner.inside c17.last.ensures
     c16.parent_in_lem.ensures
     c14.add-rank.ensures c10.put.ensures c6.put2.ensures c2.join.ensures
 

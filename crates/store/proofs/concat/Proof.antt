@@ -2,7 +2,7 @@
 use borrow.Author.Rules.{rules}
 use mathlib.Core.Path.{sym, subst}
 use Rattle.store.specs.Siblings.{Link}
-use Rattle.store.proofs.Moves.{concat-changes, concat-empty}
+use Rattle.store.proofs.Moves.{concat_changes, concat_empty}
 use Rattle.store.proofs.concat.Statement.{statement}
 use Rattle.store.proofs.concat.Tie as tie
 
@@ -21,7 +21,7 @@ returns c =
     let c2 = c.before.before in
     let c6 = c2.before.before.before.before in
     let c0 = c6.before.before in
-    concat-changes _ _ _ _ c6.if1.true c0.requires.owner.inside c2.before.before.last.ensures
+    concat_changes _ _ _ _ c6.if1.true c0.requires.owner.inside c2.before.before.last.ensures
     c2.join.ensures
 
 pub concat-spec : {M : Type 1} → statement M
@@ -32,4 +32,4 @@ concat-spec =
     join-requires
     (λ c. search rules)
     returns
-    (λ c. concat-empty _ _ _ c.if1.false c.before.before.requires.owner.sized))
+    (λ c. concat_empty _ _ _ c.if1.false c.before.before.requires.owner.sized))

@@ -1,11 +1,11 @@
 -- `store::empty_heap` meets its contract.
 use borrow.Author.Rules.{rules}
-use Rattle.store.specs.Empty.{emptyHeap}
+use Rattle.store.specs.Empty.{empty_heap}
 use Rattle.store.proofs.empty_heap.Statement.{statement}
 use Rattle.store.proofs.empty_heap.Tie as tie
 
 returns : tie.Need-returns
-unfolding emptyHeap
+unfolding empty_heap
 returns c =
     let c2 = c.before.before in
     let c6 = c2.before.before.before.before in

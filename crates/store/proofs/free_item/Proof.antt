@@ -1,7 +1,7 @@
 -- `store::free_item` meets its contract.
 use borrow.Author.Rules.{rules}
 use native.Mathlib.Omega.{arith}
-use Rattle.store.specs.Empty.{freeItem}
+use Rattle.store.specs.Empty.{free_item}
 use Rattle.store.proofs.free_item.Statement.{statement}
 use Rattle.store.proofs.free_item.Tie as tie
 
@@ -29,7 +29,7 @@ same_length c =
     omega (arith, c2.put8.ensures.sized.size, c0.pre.0.size)
 
 returns : tie.Need-returns
-unfolding freeItem
+unfolding free_item
 returns c =
     let c2 = c.before.before in
     let c6 = c2.before.before.before.before in

@@ -1,4 +1,4 @@
--- `store::kind_number` meets its contract: in each case the definition of `fieldNumber` computes.
+-- `store::kind_number` meets its contract: in each case the definition of `field_number` computes.
 use borrow.Author.Rules.{rules}
 use native.Mathlib.Omega.{arith}
 use Rattle.store.proofs.kind_number.Statement.{statement}

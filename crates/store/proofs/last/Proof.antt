@@ -3,7 +3,7 @@ use borrow.Author.Rules.{rules}
 use mathlib.Core.Path.{refl}
 use Rattle.rules.specs.declared.Field.TheVariants.{LastTree, LastChild}
 use Rattle.store.specs.Siblings.{last_of}
-use Rattle.store.proofs.Owners.{row_within, children-within}
+use Rattle.store.proofs.Owners.{row_within, children_within}
 use Rattle.store.proofs.last.Statement.{statement}
 use Rattle.store.proofs.last.Tie as tie
 
@@ -22,6 +22,6 @@ last-spec =
     (λ c. search rules)
     (λ c κs. row_within LastTree refl c.before.o.given.1 c.before.before.before.before.requires)
     (λ c. search rules)
-    (λ c κs. children-within LastChild refl c.before.o2.given.1 c.before.before.before.before.requires)
+    (λ c κs. children_within LastChild refl c.before.o2.given.1 c.before.before.before.before.requires)
     returns
     returns-2)

@@ -2,19 +2,19 @@
 use borrow.Author.Rules.{rules}
 use mathlib.Core.Path.{refl}
 use Rattle.rules.specs.declared.Field.TheVariants.{FirstTree, FirstChild}
-use Rattle.store.specs.Siblings.{setFirst}
-use Rattle.store.proofs.Owners.{row_within, children-within}
+use Rattle.store.specs.Siblings.{set_first}
+use Rattle.store.proofs.Owners.{row_within, children_within}
 use Rattle.store.proofs.put_first.Statement.{statement}
 use Rattle.store.proofs.put_first.Tie as tie
 
 returns : tie.Need-returns
-unfolding setFirst
+unfolding set_first
 returns c =
     let c2 = c.before.before in
     rw c2.before.before.before.o.given.1 c2.put.ensures
 
 returns-2 : tie.Need-returns-2
-unfolding setFirst
+unfolding set_first
 returns-2 c =
     let c2 = c.before.before in
     rw c2.before.before.before.o2.given.1 c2.put2.ensures
@@ -28,7 +28,7 @@ put-first-spec =
     row_within FirstTree refl c.before.before.o.given.1 c.before.before.before.before.before.requires)
     (λ c. search rules)
     (λ c κs.
-    children-within FirstChild refl c.before.before.o2.given.1
+    children_within FirstChild refl c.before.before.o2.given.1
     c.before.before.before.before.before.requires)
     (λ c. search rules)
     returns

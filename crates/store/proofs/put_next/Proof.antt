@@ -1,6 +1,6 @@
 -- `store::put_next` meets its contract.
 use borrow.Author.Rules.{rules}
-use Rattle.store.proofs.Owners.{next-first, next-item}
+use Rattle.store.proofs.Owners.{next_first, next_item}
 use Rattle.store.proofs.put_next.Statement.{statement}
 use Rattle.store.proofs.put_next.Tie as tie
 
@@ -12,12 +12,12 @@ put-requires c κs =
 returns : tie.Need-returns
 returns c =
     let c2 = c.before.before in
-    next-first _ _ _ c2.before.before.if1.true c2.put_first.ensures
+    next_first _ _ _ c2.before.before.if1.true c2.put_first.ensures
 
 returns-2 : tie.Need-returns-2
 returns-2 c =
     let c2 = c.before.before in
-    next-item _ _ _ c2.before.before.if1.false c2.put.ensures
+    next_item _ _ _ c2.before.before.if1.false c2.put.ensures
 
 pub put-next-spec : {M : Type 1} → statement M
 put-next-spec =

@@ -1,6 +1,6 @@
 -- `store::put_prev` meets its contract.
 use borrow.Author.Rules.{rules}
-use Rattle.store.proofs.Owners.{prev-last, prev-item}
+use Rattle.store.proofs.Owners.{prev_last, prev_item}
 use Rattle.store.proofs.put_prev.Statement.{statement}
 use Rattle.store.proofs.put_prev.Tie as tie
 
@@ -12,12 +12,12 @@ put-requires c κs =
 returns : tie.Need-returns
 returns c =
     let c2 = c.before.before in
-    prev-last _ _ _ c2.before.before.if1.true c2.put_last.ensures
+    prev_last _ _ _ c2.before.before.if1.true c2.put_last.ensures
 
 returns-2 : tie.Need-returns-2
 returns-2 c =
     let c2 = c.before.before in
-    prev-item _ _ _ c2.before.before.if1.false c2.put.ensures
+    prev_item _ _ _ c2.before.before.if1.false c2.put.ensures
 
 pub put-prev-spec : {M : Type 1} → statement M
 put-prev-spec =

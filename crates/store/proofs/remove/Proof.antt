@@ -2,7 +2,7 @@
 use borrow.Author.Rules.{rules}
 use mathlib.Core.Path.{sym, subst}
 use Rattle.store.specs.Siblings.{Link}
-use Rattle.store.proofs.Moves.{remove-changes}
+use Rattle.store.proofs.Moves.{remove_changes}
 use Rattle.store.proofs.remove.Statement.{statement}
 use Rattle.store.proofs.remove.Tie as tie
 
@@ -33,7 +33,7 @@ returns c =
     let c10 = c6.before.before.before.before in
     let c12 = c10.before.before in
     let c14 = c12.before.before in
-    remove-changes _ _ _ _ c14.before.before.before.requires.item c14.get.ensures c12.get2.ensures
+    remove_changes _ _ _ _ c14.before.before.before.requires.item c14.get.ensures c12.get2.ensures
     c10.drop-rank.ensures c6.put_next.ensures c2.put-prev.ensures
 
 pub remove-spec : {M : Type 1} → statement M

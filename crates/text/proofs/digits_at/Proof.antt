@@ -1,6 +1,6 @@
 -- `digits_at` meets its contract. The invariant: what is left to read ends where the whole does, with its value.
 use Rattle.std.proofs.Common.{◌-◌, arith, rules}
-use Rattle.text.proofs.Digits.{DigitsReadTo, none_read, value-fits, one-read, other-read, read-end}
+use Rattle.text.proofs.Digits.{DigitsReadTo, none_read, value_fits, one_read, other_read, read_end}
 use Rattle.text.proofs.digits_at.Statement.{statement}
 use Rattle.text.proofs.digits_at.Tie as tie
 
@@ -29,13 +29,13 @@ mul-v : tie.Need-overflow-mul-v invariant-loop decreases-loop
 mul-v c =
     let test = c.before.before.before in
     let more = rw test.before.before.reading-end.ensures at test.loop-test.true in
-    omega (arith, value-fits test.before.loop.invariant more)
+    omega (arith, value_fits test.before.loop.invariant more)
 
 add-v : tie.Need-overflow-add-v invariant-loop decreases-loop
 add-v c =
     let test = c.before.before.before in
     let more = rw test.before.before.reading-end.ensures at test.loop-test.true in
-    omega (arith, value-fits test.before.loop.invariant more, c.if1.false)
+    omega (arith, value_fits test.before.loop.invariant more, c.if1.false)
 
 add-i : tie.Need-overflow-add-i invariant-loop decreases-loop
 add-i c = search rules
@@ -47,16 +47,16 @@ loop-again : tie.Need-loop-preserved invariant-loop decreases-loop
 loop-again c =
     let test = c.before.before.before in
     let more = rw test.before.before.reading-end.ensures at test.loop-test.true in
-    one-read test.before.loop.invariant more c.before.wrapping-sub-u64.ensures c.if1.false
+    one_read test.before.loop.invariant more c.before.wrapping-sub-u64.ensures c.if1.false
 
 returns : tie.Need-returns invariant-loop decreases-loop
-returns c = read-end c.before.loop.invariant (rw c.before.before.reading-end.ensures at c.loop-test.false)
+returns c = read_end c.before.loop.invariant (rw c.before.before.reading-end.ensures at c.loop-test.false)
 
 returns-2 : tie.Need-returns-2 invariant-loop decreases-loop
 returns-2 c =
     let test = c.before.before.before in
     let more = rw test.before.before.reading-end.ensures at test.loop-test.true in
-    other-read test.before.loop.invariant more c.before.wrapping-sub-u64.ensures (omega arith) c.if1.true
+    other_read test.before.loop.invariant more c.before.wrapping-sub-u64.ensures (omega arith) c.if1.true
 
 pub digits-at-spec : {M : Type 1} → statement M
 digits-at-spec =

@@ -1,7 +1,7 @@
 -- `line_count` meets its contract: the LF, and one more for a rest.
 use Rattle.std.proofs.Common.{arith, rules}
-use Rattle.text.proofs.LineFeeds.{feeds-le}
-use Rattle.text.proofs.LineCount.{count-empty, count-closed, count-open}
+use Rattle.text.proofs.LineFeeds.{feeds_le}
+use Rattle.text.proofs.LineCount.{count-empty, count-closed, count_open}
 use Rattle.text.proofs.line_count.Statement.{statement}
 use Rattle.text.proofs.line_count.Tie as tie
 
@@ -24,11 +24,11 @@ returns-2 c =
 add-result : tie.Need-overflow-add-result
 add-result c =
     let start = c.before.before.before.before.before in
-    omega (arith, c.before.before.before.line-feeds.ensures, feeds-le start.args.s.now)
+    omega (arith, c.before.before.before.line-feeds.ensures, feeds_le start.args.s.now)
 
 returns-3 : tie.Need-returns-3
 returns-3 c =
-    count-open _ _ c.before.before.before.line-feeds.ensures c.before.before.if1.false c.if2.false
+    count_open _ _ c.before.before.before.line-feeds.ensures c.before.before.if1.false c.if2.false
 
 pub line-count-spec : {M : Type 1} → statement M
 line-count-spec =

@@ -1,6 +1,6 @@
 -- `line_end` meets its contract. The invariant: the rest of the line ends where the line ends.
 use Rattle.std.proofs.Common.{◌-◌, length, rules}
-use Rattle.text.proofs.LineEnd.{BytesPassed, none_passed, one-passed, all-passed, ends-feed, ends-text}
+use Rattle.text.proofs.LineEnd.{BytesPassed, none_passed, one_passed, all_passed, ends_feed, ends_text}
 use Rattle.text.proofs.line_end.Statement.{statement}
 use Rattle.text.proofs.line_end.Tie as tie
 
@@ -23,16 +23,16 @@ loop-less : tie.Need-loop-smaller invariant-loop decreases-loop
 loop-less c = search rules
 
 loop-again : tie.Need-loop-preserved invariant-loop decreases-loop
-loop-again c = one-passed c.before.before.before.loop.invariant c.before.before.loop-test.true c.if1.false
+loop-again c = one_passed c.before.before.before.loop.invariant c.before.before.loop-test.true c.if1.false
 
 returns : tie.Need-returns invariant-loop decreases-loop
-returns c = all-passed c.before.loop.invariant (ends-text _ _ c.loop-test.false)
+returns c = all_passed c.before.loop.invariant (ends_text _ _ c.loop-test.false)
 
 returns-2 : tie.Need-returns-2 invariant-loop decreases-loop
 returns-2 c =
-    all-passed
+    all_passed
     c.before.before.before.loop.invariant
-    (ends-feed _ _ c.before.before.loop-test.true c.if1.true)
+    (ends_feed _ _ c.before.before.loop-test.true c.if1.true)
 
 pub line-end-spec : {M : Type 1} → statement M
 line-end-spec =

@@ -1,6 +1,6 @@
 -- `line_feeds` meets its contract. The invariant: the LF counted and those to come are all.
 use Rattle.std.proofs.Common.{◌-◌, length, arith, rules}
-use Rattle.text.proofs.LineFeeds.{Counted, none-counted, part-counted, all-counted}
+use Rattle.text.proofs.LineFeeds.{Counted, none-counted, part_counted, all_counted}
 use Rattle.text.proofs.line_feeds.Statement.{statement}
 use Rattle.text.proofs.line_feeds.Tie as tie
 
@@ -42,7 +42,7 @@ loop-less c = search rules
 
 loop-again : tie.Need-loop-preserved invariant-loop decreases-loop
 loop-again c =
-    part-counted _ _ c.before.before.before.loop.invariant (omega arith) (omega arith) c.line-feeds-in.ensures
+    part_counted _ _ c.before.before.before.loop.invariant (omega arith) (omega arith) c.line-feeds-in.ensures
 
 sub-line-feeds-in-2 : tie.Need-overflow-sub-line-feeds-in-2 invariant-loop decreases-loop
 sub-line-feeds-in-2 c = search rules
@@ -64,8 +64,8 @@ add-result c = search rules
 
 returns : tie.Need-returns invariant-loop decreases-loop
 returns c =
-    all-counted
-    (part-counted _ _ c.before.before.before.loop.invariant (omega arith) (omega arith) c.line-feeds-in2.ensures)
+    all_counted
+    (part_counted _ _ c.before.before.before.loop.invariant (omega arith) (omega arith) c.line-feeds-in2.ensures)
     (omega arith)
 
 pub line-feeds-spec : {M : Type 1} → statement M

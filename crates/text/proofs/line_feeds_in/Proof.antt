@@ -1,6 +1,6 @@
 -- `line_feeds_in` meets its contract. The invariant: the LF counted and those to come are all.
 use Rattle.std.proofs.Common.{◌-◌, length, inl, inr, ⊎_elim, rules}
-use Rattle.text.proofs.LineFeeds.{Counted, none-counted, byte-counted, all-counted}
+use Rattle.text.proofs.LineFeeds.{Counted, none-counted, byte_counted, all_counted}
 use Rattle.text.proofs.line_feeds_in.Statement.{statement}
 use Rattle.text.proofs.line_feeds_in.Tie as tie
 
@@ -27,14 +27,14 @@ loop-less c = search rules
 
 loop-again : tie.Need-loop-preserved invariant-loop decreases-loop
 loop-again c =
-    byte-counted
+    byte_counted
     _
     c.before.before.before.loop.invariant
     c.before.before.loop-test.true
     (⊎_elim (λ w. inl (w.0.taken, w.1)) (λ w. inr (w.0.left, w.1)) c.if1.branch)
 
 returns : tie.Need-returns invariant-loop decreases-loop
-returns c = all-counted c.before.loop.invariant c.loop-test.false
+returns c = all_counted c.before.loop.invariant c.loop-test.false
 
 pub line-feeds-in-spec : {M : Type 1} → statement M
 line-feeds-in-spec =

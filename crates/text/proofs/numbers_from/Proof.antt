@@ -1,6 +1,6 @@
 -- `numbers_from` meets its contract.
 use Rattle.std.proofs.Common.{[], sym, refl, ◌∙◌, rules}
-use Rattle.text.specs.Fields.{named, numbersFrom}
+use Rattle.text.specs.Fields.{named, numbers_from}
 use Rattle.text.proofs.Fields.{none_read, end_read, on_read}
 use Rattle.text.proofs.numbers_from.Statement.{statement}
 use Rattle.text.proofs.numbers_from.Tie as tie
@@ -15,14 +15,14 @@ no-fields-requires : tie.Need-no-fields-requires
 no-fields-requires c κs = search rules
 
 returns : tie.Need-returns
-unfolding numbersFrom
+unfolding numbers_from
 returns c = none_read _ [] 3 c.before.enum_told.given.1 c.no_fields.ensures
 
 ends-at-requires : tie.Need-ends-at-requires
 ends-at-requires c κs = search rules
 
 returns-2 : tie.Need-returns-2
-unfolding numbersFrom named
+unfolding numbers_from named
 returns-2 c =
     end_read _ [] 2 c.before.before.before.first.given.1
     (sym c.before.ends_at.ensures ∙ c.if1.true) refl refl
@@ -34,7 +34,7 @@ two-from-requires : tie.Need-two-from-requires
 two-from-requires c κs = search rules
 
 returns-3 : tie.Need-returns-3
-unfolding numbersFrom
+unfolding numbers_from
 returns-3 c =
     let tested = c.before.before.before in
     on_read _ [] 2 tested.before.before.first.given.1

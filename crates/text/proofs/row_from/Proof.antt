@@ -1,6 +1,6 @@
 -- `row_from` meets its contract: one law for each way out of a turn.
 use Rattle.std.proofs.Common.{◌-◌, sym, ◌∙◌, arith, rules}
-use Rattle.text.proofs.ReadingRow.{ReadingRow, none_yet, row-fails, row-full, row_ends, row-goes-on}
+use Rattle.text.proofs.ReadingRow.{ReadingRow, none_yet, row_fails, row-full, row_ends, row_goes_on}
 use Rattle.text.proofs.row_from.Statement.{statement}
 use Rattle.text.proofs.row_from.Tie as tie
 
@@ -24,7 +24,7 @@ no-row-requires c κs = search rules
 
 returns : tie.Need-returns invariant-loop decreases-loop
 returns c =
-    row-fails c.before.before.before.before.loop.invariant c.before.enum_told.given.1 c.no_row.ensures
+    row_fails c.before.before.before.before.loop.invariant c.before.enum_told.given.1 c.no_row.ensures
 
 mul-numbers : tie.Need-overflow-mul-numbers invariant-loop decreases-loop
 mul-numbers c = search rules
@@ -56,7 +56,7 @@ loop-again c =
     let tested = c.before.before in
     let found = tested.before.before in
     rw c.field_at.ensures
-    (row-goes-on found.before.before.before.loop.invariant (omega arith) found.next.given.1
+    (row_goes_on found.before.before.before.loop.invariant (omega arith) found.next.given.1
     (sym tested.ends_at.ensures ∙ c.before.if1.false))
 
 no-row-requires-2 : tie.Need-no-row-requires-2 invariant-loop decreases-loop

@@ -1,7 +1,7 @@
 -- `three_from` meets its contract.
 use Rattle.std.proofs.Common.{[], ◌∷◌, sym, refl, ◌∙◌, rules}
 use Rattle.text.specs.Fields.{named}
-use Rattle.text.proofs.Fields.{none_read, end_read, full-read}
+use Rattle.text.proofs.Fields.{none_read, end_read, full_read}
 use Rattle.text.proofs.three_from.Statement.{statement}
 use Rattle.text.proofs.three_from.Tie as tie
 
@@ -32,7 +32,7 @@ no-fields-requires-2 c κs = search rules
 returns-3 : tie.Need-returns-3
 returns-3 c =
     let tested = c.before.before in
-    full-read _ (_ ∷ _ ∷ []) tested.before.before.third.given.1
+    full_read _ (_ ∷ _ ∷ []) tested.before.before.third.given.1
     (sym tested.ends_at.ensures ∙ c.before.if1.false)
     c.no-fields2.ensures
 

@@ -2,14 +2,14 @@
 use Prim.Native.Nat.{◌-◌, ◌≤◌}
 use native.Mathlib.Omega.{arith}
 use Rattle.rules.specs.declared.Layout.TheVariants.{ByKind}
-use Rattle.rules.specs.Words.{lookIn}
+use Rattle.rules.specs.Words.{look_in}
 use Rattle.turn.specs.Steps.{TurnedTo}
-use Rattle.turn.proofs.Turning.{item-more, all-turned}
+use Rattle.turn.proofs.Turning.{item_more, all_turned}
 use Rattle.turn.proofs.turn_items.Statement.{statement}
 use Rattle.turn.proofs.turn_items.Tie as tie
 
 abbrev invariant-loop : tie.invariant-loop
-invariant-loop old turned₀ n m i₀ turned i = TurnedTo n (lookIn ByKind n old) 8 i turned × (i ≤ n)
+invariant-loop old turned₀ n m i₀ turned i = TurnedTo n (look_in ByKind n old) 8 i turned × (i ≤ n)
 
 abbrev decreases-loop : tie.decreases-loop
 decreases-loop old turned₀ n m i₀ turned i = n - i
@@ -32,7 +32,7 @@ loop-again c =
     let l = turn.before.before.before.loop in
     let s = turn.before.before.before.before.before.before in
     let k = turn.before.before.loop-test.true in
-    (item-more _ l.i (omega (arith, k, s.requires.0.small)) l.invariant.0 turn.turn-item.ensures, omega arith)
+    (item_more _ l.i (omega (arith, k, s.requires.0.small)) l.invariant.0 turn.turn-item.ensures, omega arith)
 
 same_length : tie.Need-same-length invariant-loop decreases-loop
 same_length c =
@@ -43,7 +43,7 @@ returns : tie.Need-returns invariant-loop decreases-loop
 returns c =
     let l = c.before.loop in
     let s = c.before.before.before.before in
-    all-turned s.requires.0 l.i (omega (arith, c.loop-test.false, s.requires.0.small)) l.invariant.0
+    all_turned s.requires.0 l.i (omega (arith, c.loop-test.false, s.requires.0.small)) l.invariant.0
 
 pub turn-items-spec : {M : Type 1} → statement M
 turn-items-spec =

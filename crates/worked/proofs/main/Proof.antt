@@ -1,11 +1,11 @@
 -- `worked::main` meets its contract: the array is a store for nine items, and each run keeps its length.
 use borrow.Author.Rules.{rules}
-use Rattle.rules.specs.Words.{storeSize}
+use Rattle.rules.specs.Words.{store_size}
 use Rattle.worked.proofs.main.Statement.{statement}
 use Rattle.worked.proofs.main.Tie as tie
 
 pub main_spec : {M : Type 1} → statement M
-unfolding storeSize
+unfolding store_size
 main_spec =
     tie.close
     (tie.spec

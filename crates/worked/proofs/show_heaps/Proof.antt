@@ -2,7 +2,7 @@
 use Prim.Native.Nat.{◌-◌, ◌≤◌}
 use borrow.Author.Rules.{rules}
 use native.Mathlib.Omega.{arith}
-use Rattle.rules.specs.Words.{storeSize}
+use Rattle.rules.specs.Words.{store_size}
 use Rattle.worked.proofs.show_heaps.Statement.{statement}
 use Rattle.worked.proofs.show_heaps.Tie as tie
 
@@ -13,7 +13,7 @@ abbrev decreases-loop : tie.decreases-loop
 decreases-loop s h₀ h = 8 - h
 
 show-line-requires : tie.Need-show-line-requires invariant-loop decreases-loop
-unfolding storeSize
+unfolding store_size
 show-line-requires c κs = (c.before.before.before.requires, (omega arith, omega arith))
 
 pub show-heaps-spec : {M : Type 1} → statement M

@@ -2,7 +2,7 @@
 use Prim.Native.Nat.{◌-◌, ◌≤◌}
 use borrow.Author.Rules.{rules}
 use native.Mathlib.Omega.{arith}
-use Rattle.rules.specs.Words.{storeSize}
+use Rattle.rules.specs.Words.{store_size}
 use Rattle.worked.proofs.show_line.Statement.{statement}
 use Rattle.worked.proofs.show_line.Tie as tie
 
@@ -13,7 +13,7 @@ abbrev decreases-loop : tie.decreases-loop
 decreases-loop s from words last p₀ p = last - p
 
 pub show-line-spec : {M : Type 1} → statement M
-unfolding storeSize
+unfolding store_size
 show-line-spec =
     tie.close
     (tie.spec

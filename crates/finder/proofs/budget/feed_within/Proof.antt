@@ -1,10 +1,10 @@
 -- `finder::budget::feed_within` meets its contract.
 use mathlib.Core.Path.{◌∙◌}
 use borrow.Author.Rules.{rules}
-use Rattle.paths.specs.Map.{spanLists, windows, mapAt}
-use Rattle.paths.specs.Feed.{resultLists}
+use Rattle.paths.specs.Map.{span_lists, windows, map_at}
+use Rattle.paths.specs.Feed.{result_lists}
 use Rattle.finder.proofs.Feeding.{code_fits, begins}
-use Rattle.finder.proofs.FeedingWithin.{list-ready, hide-ready, empty-ready, within-refused, within-done}
+use Rattle.finder.proofs.FeedingWithin.{list_ready, hide_ready, empty_ready, within_refused, within_done}
 use Rattle.finder.proofs.budget.feed_within.Statement.{statement}
 use Rattle.finder.proofs.budget.feed_within.Tie as tie
 
@@ -34,13 +34,13 @@ returns : tie.Need-returns
 returns c =
     let i = c.before in
     rw c.refused.ensures
-    (within-refused _ (mapAt _ _ _ (spanLists _ _ _) (windows _ _)) (resultLists _ _ _ _) _ _
-    i.before.feed-code.ensures i.if1.true)
+    (within_refused _ (map_at _ _ _ (span_lists _ _ _) (windows _ _)) (result_lists _ _ _ _) _ _
+    i.before.feed_code.ensures i.if1.true)
 
 begin-search-requires : tie.Need-begin-search-requires
 begin-search-requires c κs =
     let i = c.before.before.before.before in
-    begins (mapAt _ _ _ (spanLists _ _ _) (windows _ _)) (resultLists _ _ _ _) _ _ i.before.feed-code.ensures
+    begins (map_at _ _ _ (span_lists _ _ _) (windows _ _)) (result_lists _ _ _ _) _ _ i.before.feed_code.ensures
     i.if1.false
 
 search-within-requires : tie.Need-search-within-requires
@@ -48,9 +48,9 @@ search-within-requires c κs =
     let b = begun c.before.before.before.before.before in
     let i = accepted b in
     let F =
-    code_fits (mapAt _ _ _ (spanLists _ _ _) (windows _ _)) _ _ _ _ _ _ i.before.feed-code.ensures
+    code_fits (map_at _ _ _ (span_lists _ _ _) (windows _ _)) _ _ _ _ _ _ i.before.feed_code.ensures
     i.if1.left in
-    (_, list-ready _ F {l = resultLists _ _ _ _} b.begin-search.ensures)
+    (_, list_ready _ F {l = result_lists _ _ _ _} b.begin-search.ensures)
 
 hide-beyond-requires : tie.Need-hide-beyond-requires
 hide-beyond-requires c κs =
@@ -58,10 +58,10 @@ hide-beyond-requires c κs =
     let b = begun (search-args s) in
     let i = accepted b in
     let F =
-    code_fits (mapAt _ _ _ (spanLists _ _ _) (windows _ _)) _ _ _ _ _ _ i.before.feed-code.ensures
+    code_fits (map_at _ _ _ (span_lists _ _ _) (windows _ _)) _ _ _ _ _ _ i.before.feed_code.ensures
     i.if1.left in
-    hide-ready {l = resultLists _ _ _ _} F.accepted
-    (s.search-within.ensures _ (list-ready _ F {l = resultLists _ _ _ _} b.begin-search.ensures))
+    hide_ready {l = result_lists _ _ _ _} F.accepted
+    (s.search-within.ensures _ (list_ready _ F {l = result_lists _ _ _ _} b.begin-search.ensures))
 
 make-empty-requires : tie.Need-make-empty-requires
 make-empty-requires c κs =
@@ -70,10 +70,10 @@ make-empty-requires c κs =
     let b = begun (search-args s) in
     let i = accepted b in
     let F =
-    code_fits (mapAt _ _ _ (spanLists _ _ _) (windows _ _)) _ _ _ _ _ _ i.before.feed-code.ensures
+    code_fits (map_at _ _ _ (span_lists _ _ _) (windows _ _)) _ _ _ _ _ _ i.before.feed_code.ensures
     i.if1.left in
-    empty-ready {l = resultLists _ _ _ _} F.accepted
-    (s.search-within.ensures _ (list-ready _ F {l = resultLists _ _ _ _} b.begin-search.ensures))
+    empty_ready {l = result_lists _ _ _ _} F.accepted
+    (s.search-within.ensures _ (list_ready _ F {l = result_lists _ _ _ _} b.begin-search.ensures))
 
 done-requires : tie.Need-done-requires
 done-requires c κs = search rules
@@ -120,13 +120,13 @@ returns-2 c =
     let s = searched (hide-args h) in
     let b = begun (search-args s) in
     let i = accepted b in
-    let is = i.before.feed-code.ensures in
-    let F = code_fits (mapAt _ _ _ (spanLists _ _ _) (windows _ _)) _ _ _ _ _ _ is i.if1.left in
+    let is = i.before.feed_code.ensures in
+    let F = code_fits (map_at _ _ _ (span_lists _ _ _) (windows _ _)) _ _ _ _ _ _ is i.if1.left in
     rw c.done.ensures
-    (within-done _ (mapAt _ _ _ (spanLists _ _ _) (windows _ _)) (resultLists _ _ _ _) _ _ is i.if1.left
-    (resultLists _ _ _ _) _ _
-    (s.search-within.ensures _ (list-ready _ F {l = resultLists _ _ _ _} b.begin-search.ensures))
-    (resultLists _ _ _ _) h.hide-beyond.ensures e.make-empty.ensures)
+    (within_done _ (map_at _ _ _ (span_lists _ _ _) (windows _ _)) (result_lists _ _ _ _) _ _ is i.if1.left
+    (result_lists _ _ _ _) _ _
+    (s.search-within.ensures _ (list_ready _ F {l = result_lists _ _ _ _} b.begin-search.ensures))
+    (result_lists _ _ _ _) h.hide-beyond.ensures e.make-empty.ensures)
 
 pub feed-within-spec : {M : Type 1} → statement M
 feed-within-spec =

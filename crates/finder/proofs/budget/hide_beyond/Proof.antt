@@ -5,7 +5,7 @@ use mathlib.Core.Path.{◌≡◌, refl, ◌∙◌}
 use native.Mathlib.Omega.{arith}
 use borrow.Author.Rules.{rules}
 use lib.ListN.{length, length-set}
-use Rattle.finder.proofs.HideBeyond.{written, hidden, hide-more, hide-all}
+use Rattle.finder.proofs.HideBeyond.{written, hidden, hide_more, hide_all}
 use Rattle.finder.proofs.budget.hide_beyond.Statement.{statement}
 use Rattle.finder.proofs.budget.hide_beyond.Tie as tie
 
@@ -29,9 +29,9 @@ loop-again c =
     let last₀ = start.args.last.now in
     let joints₀ = start.args.joints.now in
     let h : l.p < length best₀ = omega arith in (
-      hide-more _ best₀ best₀ l.p refl h l.invariant.0 l.invariant.0 w₁.word-within.ensures,
-      hide-more _ best₀ last₀ l.p start.requires.0 h l.invariant.0 l.invariant.1 w₂.word-within2.ensures,
-      hide-more _ best₀ joints₀ l.p start.requires.1 h l.invariant.0 l.invariant.2 c.word-within3.ensures,
+      hide_more _ best₀ best₀ l.p refl h l.invariant.0 l.invariant.0 w₁.word-within.ensures,
+      hide_more _ best₀ last₀ l.p start.requires.0 h l.invariant.0 l.invariant.1 w₂.word-within2.ensures,
+      hide_more _ best₀ joints₀ l.p start.requires.1 h l.invariant.0 l.invariant.2 c.word-within3.ensures,
       omega arith,
       length-set l.best l.p _ ∙ l.invariant.4,
       length-set l.last l.p _ ∙ l.invariant.5,
@@ -46,9 +46,9 @@ returns c =
     let last₀ = start.args.last.now in
     let joints₀ = start.args.joints.now in
     record {
-      best-is = l.invariant.0 ∙ hide-all _ best₀ best₀ l.p refl (omega arith);
-      last-is = l.invariant.1 ∙ hide-all _ best₀ last₀ l.p start.requires.0 (omega arith);
-      joints-is = l.invariant.2 ∙ hide-all _ best₀ joints₀ l.p start.requires.1 (omega arith);
+      best_is = l.invariant.0 ∙ hide_all _ best₀ best₀ l.p refl (omega arith);
+      last_is = l.invariant.1 ∙ hide_all _ best₀ last₀ l.p start.requires.0 (omega arith);
+      joints_is = l.invariant.2 ∙ hide_all _ best₀ joints₀ l.p start.requires.1 (omega arith);
     }
 
 pub hide-beyond-spec : {M : Type 1} → statement M

@@ -6,25 +6,25 @@ use native.Mathlib.Omega.{arith}
 use borrow.Author.Rules.{rules}
 use borrow.Author.Tests.{lt-ltb, le-ltb}
 use lib.ListN.{length}
-use Rattle.heap.proofs.Answered.{as-find}
-use Rattle.paths.specs.Map.{spanLists, windows, mapAt}
+use Rattle.heap.proofs.Answered.{as_find}
+use Rattle.paths.specs.Map.{span_lists, windows, map_at}
 use Rattle.paths.specs.Table.{up_to}
 use Rattle.paths.specs.Search.{beyond}
-use Rattle.paths.specs.Feed.{resultLists}
+use Rattle.paths.specs.Feed.{result_lists}
 use Rattle.finder.specs.SearchState.{ListReady}
 use Rattle.finder.proofs.OwnSpans.{sorted}
 use Rattle.finder.proofs.FirstWaiting.{
-  some-waits,
+  some_waits,
   none_halts,
-  items-are,
-  take-ready,
-  first-in,
+  items_are,
+  take_ready,
+  first_in,
   first_read,
   first_taken,
   first_stops,
 }
-use Rattle.finder.proofs.Searching.{first_goes, goes-below}
-use Rattle.finder.proofs.ListTaken.{ListsTaken, lists-begins, lists-more, lists-done}
+use Rattle.finder.proofs.Searching.{first_goes, goes_below}
+use Rattle.finder.proofs.ListTaken.{ListsTaken, lists_begins, lists_more, lists_done}
 use Rattle.finder.proofs.budget.search_within.Statement.{statement}
 use Rattle.finder.proofs.budget.search_within.Tie as tie
 
@@ -32,11 +32,11 @@ abbrev invariant-loop : tie.invariant-loop
 invariant-loop places minute from to loss opens closes budget best₀ last₀ joints₀ listed₀ store₀ index n go₀ best last joints
     listed store go =
     ((start : ℕ)
-    → ListReady budget (mapAt places start minute (spanLists from to loss) (windows opens closes))
-    (resultLists best₀ last₀ joints₀ store₀) listed₀ go₀
+    → ListReady budget (map_at places start minute (span_lists from to loss) (windows opens closes))
+    (result_lists best₀ last₀ joints₀ store₀) listed₀ go₀
     → ListsTaken (beyond (up_to budget))
-    (mapAt places start minute (spanLists from to loss) (windows opens closes)) listed₀
-    (resultLists best last joints store) listed go)
+    (map_at places start minute (span_lists from to loss) (windows opens closes)) listed₀
+    (result_lists best last joints store) listed go)
     × (length best ≡ length best₀) × (length last ≡ length last₀) × (length joints ≡ length joints₀)
     × (length listed ≡ length listed₀) × (length store ≡ length store₀)
 
@@ -50,14 +50,14 @@ index-spans-requires c κs =
     let start = c.before.before.before.before.before.before.before.before.before.before.before in
     let A = start.requires.1.stands.accepted in
     record {
-      sorted = sorted (mapAt _ _ _ (spanLists _ _ _) (windows _ _)) A;
+      sorted = sorted (map_at _ _ _ (span_lists _ _ _) (windows _ _)) A;
       short = A.short;
       few = A.few;
       long = refl;
     }
 
 loop-holds : tie.Need-loop-init invariant-loop decreases-loop
-loop-holds c = (λ start R. lists-begins _ R, refl, refl, refl, refl, refl)
+loop-holds c = (λ start R. lists_begins _ R, refl, refl, refl, refl, refl)
 
 abbrev start : tie.At-loop invariant-loop decreases-loop → tie.Start invariant-loop decreases-loop
 start c = c.before.before.before.before.before.before.before.before.before.before.before.before.before
@@ -67,7 +67,7 @@ find-min-requires c κs =
     let t = c.before in
     let l = t.before.before in
     let S = (l.loop.invariant.0 _ (start l).requires.1).stands in
-    as-find (take-ready S (some-waits S t.if1.true).1 (items-are S)).allowed
+    as_find (take_ready S (some_waits S t.if1.true).1 (items_are S)).allowed
 
 -- the place that the code reads
 first_small : (c : tie.After-find-min invariant-loop decreases-loop) → c.find-min.result < 4096
@@ -75,7 +75,7 @@ first_small c =
     let t = c.before.before in
     let l = t.before.before in
     let S = (l.loop.invariant.0 _ (start l).requires.1).stands in
-    omega (arith, first-in S (some-waits S t.if1.true).1 c.find-min.ensures, S.accepted.few)
+    omega (arith, first_in S (some_waits S t.if1.true).1 c.find-min.ensures, S.accepted.few)
 
 cast-if2 : tie.Need-overflow-cast-if2 invariant-loop decreases-loop
 cast-if2 c = omega (arith, first_small c)
@@ -89,7 +89,7 @@ slice-read-if2 c =
     let t = f.before.before in
     let l = t.before.before in
     let S = (l.loop.invariant.0 _ (start l).requires.1).stands in
-    first_read S (some-waits S t.if1.true).1 f.find-min.ensures
+    first_read S (some_waits S t.if1.true).1 f.find-min.ensures
 
 same_length : tie.Need-same-length invariant-loop decreases-loop
 same_length c = search rules
@@ -112,8 +112,8 @@ returns c =
     let t = f.before.before in
     λ s R.
     let L = t.before.before.loop.invariant.0 s R in
-    lists-done _ L
-    (first_stops L.stands (some-waits L.stands t.if1.true).1 f.find-min.ensures
+    lists_done _ L
+    (first_stops L.stands (some_waits L.stands t.if1.true).1 f.find-min.ensures
     (lt-ltb _ _ c.if2.true))
 
 -- a place within the budget is yet to be visited, so not all are
@@ -124,7 +124,7 @@ below c =
     let f = c.before.before in
     let t = f.before.before in
     let l = t.before.before in
-    goes-below
+    goes_below
     (first_goes l.before.index-spans.ensures (l.loop.invariant.0 _ (start l).requires.1).stands t.if1.true
     f.find-min.ensures (le-ltb _ _ c.if2.false))
 
@@ -175,9 +175,9 @@ loop-again c =
           let w = le-ltb _ _ i.if2.false in
           let G =
           first_goes l.before.index-spans.ensures L.stands t.if1.true f.find-min.ensures w in
-          lists-more L
-          (first_taken L.stands (some-waits L.stands t.if1.true).1 f.find-min.ensures w)
-          (goes-below G) {l' = resultLists _ _ _ _} (v.visit-next.ensures _ _ G),
+          lists_more L
+          (first_taken L.stands (some_waits L.stands t.if1.true).1 f.find-min.ensures w)
+          (goes_below G) {l' = result_lists _ _ _ _} (v.visit-next.ensures _ _ G),
       c.before.before.before.before.before.before.before.best.given ∙ l.loop.invariant.1,
       c.before.before.before.before.before.last.given ∙ l.loop.invariant.2,
       c.before.before.before.joints.given ∙ l.loop.invariant.3,
@@ -203,7 +203,7 @@ same-length-10 c = search rules
 returns-2 : tie.Need-returns-2 invariant-loop decreases-loop
 returns-2 c = λ s R.
     let L = c.before.before.loop.invariant.0 s R in
-    lists-done _ L (none_halts L.stands c.if1.false)
+    lists_done _ L (none_halts L.stands c.if1.false)
 
 pub search-within-spec : {M : Type 1} → statement M
 search-within-spec =

@@ -7,27 +7,27 @@ use borrow.Author.Rules.{rules}
 use lib.ListN.{length, get_or}
 use Rattle.paths.specs.Map.{Map}
 use Rattle.paths.specs.Queue.{Stop}
-use Rattle.paths.specs.Feed.{resultLists}
+use Rattle.paths.specs.Feed.{result_lists}
 use Rattle.finder.specs.SearchState.{Taken}
-use Rattle.finder.proofs.AtPlace.{place-small, in-joints, hops-small}
+use Rattle.finder.proofs.AtPlace.{place_small, in_joints, hops-small}
 use Rattle.finder.proofs.Walking.{
   Walking,
   first_small,
-  end-small,
-  walking-begins,
-  visited-small,
-  walking-ends,
+  end_small,
+  walking_begins,
+  visited_small,
+  walking_ends,
 }
 use Rattle.finder.proofs.Visiting.{
-  examined-small,
+  examined_small,
   span_small,
-  in-to,
-  in-loss,
+  in_to,
+  in_loss,
   in_opens,
-  in-closes,
-  loss-fits,
-  offer-ready,
-  walking-closed,
+  in_closes,
+  loss_fits,
+  offer_ready,
+  walking_closed,
   walking_on,
 }
 use Rattle.finder.proofs.visit.try_spans.Statement.{statement}
@@ -37,8 +37,8 @@ abbrev invariant-loop : tie.invariant-loop
 invariant-loop minute index to loss opens closes best₀ last₀ joints₀ store₀ u d i hops end e₀ go₀ best last joints store e
     go =
     ((stop : Stop) (m : Map)
-    → Taken stop m minute index to loss opens closes u d (resultLists best₀ last₀ joints₀ store₀) go₀
-    → Walking stop m go₀.visited u end e (resultLists best last joints store) go)
+    → Taken stop m minute index to loss opens closes u d (result_lists best₀ last₀ joints₀ store₀) go₀
+    → Walking stop m go₀.visited u end e (result_lists best last joints store) go)
     × (length best ≡ length best₀) × (length last ≡ length last₀) × (length joints ≡ length joints₀)
     × (length store ≡ length store₀)
 
@@ -53,51 +53,51 @@ start c = c.before.before.before.before.before.before.before.before.before.befor
 here : (c : tie.At-loop invariant-loop decreases-loop) →
     let a = (start c).args in
     Walking (start c).requires.0 (start c).requires.1 a.taken.visited a.u (get_or a.index.now (a.u + 1) 0)
-    c.loop.e (resultLists c.loop.best c.loop.last c.loop.joints c.loop.store) c.loop.go
+    c.loop.e (result_lists c.loop.best c.loop.last c.loop.joints c.loop.store) c.loop.go
 here c = c.loop.invariant.0 _ _ (start c).requires.2
 
 abbrev entry : tie.After-slice-known5 invariant-loop decreases-loop → tie.Start invariant-loop decreases-loop
 entry c = c.before.before.before.before.before.before.before.before.before
 
 mul-hops : tie.Need-overflow-mul-hops invariant-loop decreases-loop
-mul-hops c = omega (arith, place-small c.before.before.before.before.before.before.before.before.requires.2)
+mul-hops c = omega (arith, place_small c.before.before.before.before.before.before.before.before.requires.2)
 
 slice-read-hops : tie.Need-slice-read-hops invariant-loop decreases-loop
-slice-read-hops c = in-joints (entry c).requires.2
+slice-read-hops c = in_joints (entry c).requires.2
 
 add-hops : tie.Need-overflow-add-hops invariant-loop decreases-loop
 add-hops c = omega (arith, hops-small (entry c).requires.2)
 
 add-end : tie.Need-overflow-add-end invariant-loop decreases-loop
-add-end c = omega (arith, place-small (entry c).requires.2)
+add-end c = omega (arith, place_small (entry c).requires.2)
 
 mul-end : tie.Need-overflow-mul-end invariant-loop decreases-loop
-mul-end c = omega (arith, place-small (entry c).requires.2)
+mul-end c = omega (arith, place_small (entry c).requires.2)
 
 element-copy-out-end : tie.Need-element-copy-out-end invariant-loop decreases-loop
-element-copy-out-end c = omega (arith, place-small (entry c).requires.2)
+element-copy-out-end c = omega (arith, place_small (entry c).requires.2)
 
 cast-end : tie.Need-overflow-cast-end invariant-loop decreases-loop
-cast-end c = omega (arith, end-small (entry c.before).pre.2)
+cast-end c = omega (arith, end_small (entry c.before).pre.2)
 
 mul-e : tie.Need-overflow-mul-e invariant-loop decreases-loop
-mul-e c = omega (arith, place-small (entry c.before).pre.2)
+mul-e c = omega (arith, place_small (entry c.before).pre.2)
 
 element-copy-out-e : tie.Need-element-copy-out-e invariant-loop decreases-loop
-element-copy-out-e c = omega (arith, place-small (entry c.before).pre.2)
+element-copy-out-e c = omega (arith, place_small (entry c.before).pre.2)
 
 cast-e : tie.Need-overflow-cast-e invariant-loop decreases-loop
 cast-e c = omega (arith, first_small (entry c.before.before).pre.2)
 
 loop-holds : tie.Need-loop-init invariant-loop decreases-loop
-loop-holds c = (λ _ _ K. walking-begins K, refl, refl, refl, refl)
+loop-holds c = (λ _ _ K. walking_begins K, refl, refl, refl, refl)
 
 -- the number of a span is small
 small : (c : tie.In-loop invariant-loop decreases-loop) → c.before.loop.e < 16384
 small c = span_small (start c.before).pre.2 (here c.before) c.loop-test.true
 
 examine-requires : tie.Need-examine-requires invariant-loop decreases-loop
-examine-requires c κs = examined-small (start c.before).pre.2 (here c.before) c.loop-test.true
+examine-requires c κs = examined_small (start c.before).pre.2 (here c.before) c.loop-test.true
 
 -- a span that is looked at is in both window lists
 mul-usable-at : tie.Need-overflow-mul-usable-at invariant-loop decreases-loop
@@ -109,7 +109,7 @@ shared-slice-read-usable-at c =
     omega (
       arith,
       in_opens (start t.before).pre.2 (here t.before) t.loop-test.true,
-      in-closes (start t.before).pre.2 (here t.before) t.loop-test.true,
+      in_closes (start t.before).pre.2 (here t.before) t.loop-test.true,
     )
 
 mul-usable-at-2 : tie.Need-overflow-mul-usable-at-2 invariant-loop decreases-loop
@@ -121,7 +121,7 @@ shared-slice-read-usable-at-2 c =
     omega (
       arith,
       in_opens (start t.before).pre.2 (here t.before) t.loop-test.true,
-      in-closes (start t.before).pre.2 (here t.before) t.loop-test.true,
+      in_closes (start t.before).pre.2 (here t.before) t.loop-test.true,
     )
 
 usable-at-requires : tie.Need-usable-at-requires invariant-loop decreases-loop
@@ -137,12 +137,12 @@ mul-l c = omega (arith, small (tested c.before))
 shared-slice-read-l : tie.Need-shared-slice-read-l invariant-loop decreases-loop
 shared-slice-read-l c =
     let t = tested c.before.before in
-    in-loss (start t.before).pre.2 (here t.before) t.loop-test.taken
+    in_loss (start t.before).pre.2 (here t.before) t.loop-test.taken
 
 add-l : tie.Need-overflow-add-l invariant-loop decreases-loop
 add-l c =
     let t = tested c.before.before in
-    omega (arith, loss-fits (start t.before).pre.2 (here t.before) t.loop-test.taken)
+    omega (arith, loss_fits (start t.before).pre.2 (here t.before) t.loop-test.taken)
 
 mul-offered : tie.Need-overflow-mul-offered invariant-loop decreases-loop
 mul-offered c = omega (arith, small (tested c.before.before.before.before.before.before))
@@ -150,7 +150,7 @@ mul-offered c = omega (arith, small (tested c.before.before.before.before.before
 shared-slice-read-offered : tie.Need-shared-slice-read-offered invariant-loop decreases-loop
 shared-slice-read-offered c =
     let t = tested c.before.before.before.before.before.before.before in
-    in-to (start t.before).pre.2 (here t.before) t.loop-test.taken
+    in_to (start t.before).pre.2 (here t.before) t.loop-test.taken
 
 cast-offered : tie.Need-overflow-cast-offered invariant-loop decreases-loop
 cast-offered c = omega (arith, small (tested c.before.before.before.before.before.before.before))
@@ -160,7 +160,7 @@ offered-requires c κs =
     let u = c.before.before.before.before.before.before.before in
     let t = tested u in
     rw u.before.before.before.examine.ensures
-    (offer-ready (start t.before).pre.2 (here t.before) t.loop-test.taken)
+    (offer_ready (start t.before).pre.2 (here t.before) t.loop-test.taken)
 
 add-e : tie.Need-overflow-add-e invariant-loop decreases-loop
 add-e c = omega (arith, small (tested c.before))
@@ -188,7 +188,7 @@ loop-again c =
     (λ w. rw (w.1, w.2, w.3, w.4, w.5) (
       λ stop m K.
           rw x.examine.ensures
-          (walking-closed K (i.0 stop m K) t.loop-test.taken (sym u.Usable-at.ensures ∙ w.0.left)),
+          (walking_closed K (i.0 stop m K) t.loop-test.taken (sym u.Usable-at.ensures ∙ w.0.left)),
       i.1,
       i.2,
       i.3,
@@ -197,7 +197,7 @@ loop-again c =
     c.if1.branch
 
 visit-requires : tie.Need-visit-requires invariant-loop decreases-loop
-visit-requires c κs = visited-small (start c.before).pre.2 (here c.before)
+visit-requires c κs = visited_small (start c.before).pre.2 (here c.before)
 
 same_length : tie.Need-same-length invariant-loop decreases-loop
 same_length c = c.before.before.loop.invariant.1
@@ -213,7 +213,7 @@ same-length-4 c = c.before.before.loop.invariant.4
 
 returns : tie.Need-returns invariant-loop decreases-loop
 returns c = λ stop m K.
-    rw c.visit.ensures (walking-ends K (c.before.before.loop.invariant.0 stop m K) c.before.loop-test.false)
+    rw c.visit.ensures (walking_ends K (c.before.before.loop.invariant.0 stop m K) c.before.loop-test.false)
 
 pub try-spans-spec : {M : Type 1} → statement M
 try-spans-spec =

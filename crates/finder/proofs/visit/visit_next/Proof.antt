@@ -2,8 +2,8 @@
 use native.Mathlib.Omega.{arith}
 use Prim.Native.Nat.{◌<◌}
 use borrow.Author.Rules.{rules}
-use Rattle.heap.proofs.Answered.{as-find}
-use Rattle.finder.proofs.FirstWaiting.{take-ready, first-in, first_read}
+use Rattle.heap.proofs.Answered.{as_find}
+use Rattle.finder.proofs.FirstWaiting.{take_ready, first_in, first_read}
 use Rattle.finder.proofs.Searching.{goes_first, taken}
 use Rattle.finder.proofs.visit.visit_next.Statement.{statement}
 use Rattle.finder.proofs.visit.visit_next.Tie as tie
@@ -24,19 +24,19 @@ items-of-requires c κs = search rules
 find-min-requires : tie.Need-find-min-requires
 find-min-requires c κs =
     let G = (start c.before).requires.2 in
-    as-find (take-ready G.stands (goes_first G) c.before.items_of.ensures).allowed
+    as_find (take_ready G.stands (goes_first G) c.before.items_of.ensures).allowed
 
 -- the place that the code reads
-place-small : (c : tie.After-find-min) → c.find-min.result < 4096
-place-small c =
+place_small : (c : tie.After-find-min) → c.find-min.result < 4096
+place_small c =
     let G = (start (sized c)).requires.2 in
-    omega (arith, first-in G.stands (goes_first G) c.find-min.ensures, G.stands.accepted.few)
+    omega (arith, first_in G.stands (goes_first G) c.find-min.ensures, G.stands.accepted.few)
 
 cast-d : tie.Need-overflow-cast-d
-cast-d c = omega (arith, place-small c)
+cast-d c = omega (arith, place_small c)
 
 mul-d : tie.Need-overflow-mul-d
-mul-d c = omega (arith, place-small c)
+mul-d c = omega (arith, place_small c)
 
 slice-read-d : tie.Need-slice-read-d
 slice-read-d c =
@@ -47,7 +47,7 @@ extract-min-requires : tie.Need-extract-min-requires
 extract-min-requires c κs =
     let i = sized c.before.before.before in
     let G = (start i).pre.2 in
-    take-ready G.stands (goes_first G) i.items_of.ensures
+    take_ready G.stands (goes_first G) i.items_of.ensures
 
 try-spans-requires : tie.Need-try-spans-requires
 try-spans-requires c κs =

@@ -1,27 +1,27 @@
 -- `heap::decrease::decrease_key` meets its contract: the key, the cut, then the minimum.
 use Rattle.std.proofs.Common.{rules}
-use Rattle.heap.proofs.SoundStore.{sound-says}
-use Rattle.heap.proofs.ItemHeap.{heap-inside, item-inside}
+use Rattle.heap.proofs.SoundStore.{sound_says}
+use Rattle.heap.proofs.ItemHeap.{heap_inside, item_inside}
 use Rattle.heap.proofs.Decreasing.{
-  in-heap,
-  cut-ready,
+  in_heap_lem,
+  cut_ready,
   sized₂,
   two_ready,
-  decrease-moves,
-  room-cuts,
+  decrease_moves,
+  room_cuts,
 }
 use Rattle.heap.proofs.decrease.decrease_key.Statement.{statement}
 use Rattle.heap.proofs.decrease.decrease_key.Tie as tie
 
 heap-of-requires : tie.Need-heap-of-requires
-heap-of-requires c κs = in-heap c.before.before.requires
+heap-of-requires c κs = in_heap_lem c.before.before.requires
 
 put-key-requires : tie.Need-put-key-requires
 put-key-requires c κs =
     let c1 = c.before in
     let p = c1.before.before.before.requires in (
-      record { sized = (sound-says p.allowed.store).sized; inside = item-inside (in-heap p) },
-      rw c1.heap_of.ensures (heap-inside (in-heap p)),
+      record { sized = (sound_says p.allowed.store).sized; inside = item_inside (in_heap_lem p) },
+      rw c1.heap_of.ensures (heap_inside (in_heap_lem p)),
     )
 
 cut-if-before-requires : tie.Need-cut-if-before-requires
@@ -30,7 +30,7 @@ cut-if-before-requires c κs =
     let c5 = c3.before.before in
     let p = c5.before.before.before.requires in
     let e = c5.heap_of.ensures in
-    rw e (cut-ready p (rw e at c3.put-key.ensures))
+    rw e (cut_ready p (rw e at c3.put-key.ensures))
 
 get-requires : tie.Need-get-requires
 get-requires c κs =
@@ -41,7 +41,7 @@ get-requires c κs =
     let e = c9.heap_of.ensures in
     record {
       sized = sized₂ p (rw e at c7.put-key.ensures) (rw e at c3.cut-if-before.ensures);
-      inside = rw e (heap-inside (in-heap p));
+      inside = rw e (heap_inside (in_heap_lem p));
     }
 
 lesser-of-requires : tie.Need-lesser-of-requires
@@ -52,7 +52,7 @@ lesser-of-requires c κs =
     let c11 = c9.before.before in
     let p = c11.before.before.before.requires in
     let e = c11.heap_of.ensures in (
-      rw e (heap-inside (in-heap p)),
+      rw e (heap_inside (in_heap_lem p)),
       two_ready p (rw e at c9.put-key.ensures) (rw e at c5.cut-if-before.ensures)
           (rw e at c1.get.ensures),
     )
@@ -67,7 +67,7 @@ put-requires c κs =
     let e = c13.heap_of.ensures in
     record {
       sized = sized₂ p (rw e at c11.put-key.ensures) (rw e at c7.cut-if-before.ensures);
-      inside = rw e (heap-inside (in-heap p));
+      inside = rw e (heap_inside (in_heap_lem p));
     }
 
 cut-requires : tie.Need-cut-requires
@@ -78,7 +78,7 @@ cut-requires c κs =
     let c16 = c14.before.before in
     let p = c16.before.before.before.requires in
     let e = c16.heap_of.ensures in
-    room-cuts p (rw e at c14.put-key.ensures) (rw e at c10.cut-if-before.ensures)
+    room_cuts p (rw e at c14.put-key.ensures) (rw e at c10.cut-if-before.ensures)
 
 returns : tie.Need-returns
 returns c =
@@ -90,7 +90,7 @@ returns c =
     let c17 = c15.before.before in
     let p = c17.before.before.before.requires in
     let e = c17.heap_of.ensures in
-    decrease-moves p (rw e at c15.put-key.ensures) (rw e at c11.cut-if-before.ensures)
+    decrease_moves p (rw e at c15.put-key.ensures) (rw e at c11.cut-if-before.ensures)
     (rw e at c7.get.ensures)
     (rw e at c5.lesser-of.ensures) (rw e at c3.put.ensures) c.cut.ensures.0 c.cut.ensures.1
 

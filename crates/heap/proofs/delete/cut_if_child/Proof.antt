@@ -1,19 +1,19 @@
 -- `heap::delete::cut_if_child` meets its contract, by a law for each return.
 use Rattle.std.proofs.Common.{rules}
-use Rattle.cut.proofs.Cutting.{member-item}
-use Rattle.heap.proofs.CutIf.{child, child-cut, kept, no-parent}
+use Rattle.cut.proofs.Cutting.{member_item}
+use Rattle.heap.proofs.CutIf.{child, child_cut, kept, no_parent}
 use Rattle.heap.proofs.delete.cut_if_child.Statement.{statement}
 use Rattle.heap.proofs.delete.cut_if_child.Tie as tie
 
 get-requires : tie.Need-get-requires
 get-requires c κs =
     let p = c.before.before.requires in
-    record { sized = p.holds.says.sized; inside = member-item p.holds p.member }
+    record { sized = p.holds.says.sized; inside = member_item p.holds p.member }
 
 returns : tie.Need-returns
 returns c =
     let e = c.before.get.ensures in
-    record { gives = λ amounts counts minima t H K M. kept H M e (no-parent H M e c.if1.true) }
+    record { gives = λ amounts counts minima t H K M. kept H M e (no_parent H M e c.if1.true) }
 
 cut-out-requires : tie.Need-cut-out-requires
 cut-out-requires c κs =
@@ -35,7 +35,7 @@ returns-2 c =
     record {
       gives = λ amounts counts minima t H K M.
           let e = c4.before.get.ensures in
-          child-cut H M e c4.if1.false
+          child_cut H M e c4.if1.false
           (c2.cut_out.ensures amounts counts minima t H (child H M e c4.if1.false));
     }
 

@@ -1,11 +1,11 @@
 -- `heap::delete::extract_min` meets its contract.
 use Rattle.std.proofs.Common.{rules}
-use Rattle.heap.proofs.Extracting.{extract-ready, extract-moves}
+use Rattle.heap.proofs.Extracting.{extract_ready, extract-moves}
 use Rattle.heap.proofs.delete.extract_min.Statement.{statement}
 use Rattle.heap.proofs.delete.extract_min.Tie as tie
 
 extract-min-requires : tie.Need-extract-min-requires
-extract-min-requires c κs = extract-ready c.before.before.requires
+extract-min-requires c κs = extract_ready c.before.before.requires
 
 returns : tie.Need-returns
 returns c =

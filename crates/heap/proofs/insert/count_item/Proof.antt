@@ -1,7 +1,7 @@
 -- `heap::insert::count_item` meets its contract.
 use Rattle.std.proofs.Common.{sym, subst, arith, rules}
 use Rattle.store.specs.Siblings.{Link}
-use Rattle.heap.proofs.Entering.{count-item-changes}
+use Rattle.heap.proofs.Entering.{count_item_changes}
 use Rattle.heap.proofs.insert.count_item.Statement.{statement}
 use Rattle.heap.proofs.insert.count_item.Tie as tie
 
@@ -31,7 +31,7 @@ returns c =
     let c10 = c8.before.before in
     let c12 = c10.before.before in
     let c15 = c12.before.before.before in
-    count-item-changes c15.requires c12.get.ensures c10.get2.ensures c8.lesser-of.ensures c6.put.ensures
+    count_item_changes c15.requires c12.get.ensures c10.get2.ensures c8.lesser-of.ensures c6.put.ensures
     c2.put2.ensures
 
 pub count-item-spec : {M : Type 1} → statement M

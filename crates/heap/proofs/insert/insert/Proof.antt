@@ -1,6 +1,6 @@
 -- `heap::insert::insert` meets its contract.
 use Rattle.std.proofs.Common.{arith, rules}
-use Rattle.heap.proofs.InsertWords.{enter-ready, row-ready, count-item-ready, insert-words}
+use Rattle.heap.proofs.InsertWords.{enter_ready, row_ready, count_item_ready, insert_words}
 use Rattle.heap.proofs.insert.insert.Statement.{statement}
 use Rattle.heap.proofs.insert.insert.Tie as tie
 
@@ -8,14 +8,14 @@ append-requires : tie.Need-append-requires
 append-requires c κs =
     let c3 = c.before.before.before in
     let c6 = c3.before.before.before in
-    row-ready c6.requires c3.enter.ensures
+    row_ready c6.requires c3.enter.ensures
 
 count-item-requires : tie.Need-count-item-requires
 count-item-requires c κs =
     let c3 = c.before.before.before in
     let c7 = c3.before.before.before.before in
     let c10 = c7.before.before.before in
-    count-item-ready c10.requires c7.enter.ensures c3.append.ensures
+    count_item_ready c10.requires c7.enter.ensures c3.append.ensures
 
 returns : tie.Need-returns
 returns c =
@@ -23,13 +23,13 @@ returns c =
     let c6 = c2.before.before.before.before in
     let c10 = c6.before.before.before.before in
     let c13 = c10.before.before.before in
-    insert-words c13.requires c10.enter.ensures c6.append.ensures (omega arith) c2.count-item.ensures
+    insert_words c13.requires c10.enter.ensures c6.append.ensures (omega arith) c2.count-item.ensures
 
 pub insert-spec : {M : Type 1} → statement M
 insert-spec =
     tie.close
     (tie.spec
-    (λ c κs. enter-ready c.before.before.requires)
+    (λ c κs. enter_ready c.before.before.requires)
     append-requires
     count-item-requires
     (λ c. search rules)

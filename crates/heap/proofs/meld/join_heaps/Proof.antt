@@ -1,7 +1,7 @@
 -- `heap::meld::join_heaps` meets its contract.
 use Rattle.std.proofs.Common.{sym, subst, arith, rules}
 use Rattle.store.specs.Siblings.{Link}
-use Rattle.heap.proofs.JoiningHeaps.{join-heaps-changes}
+use Rattle.heap.proofs.JoiningHeaps.{join_heaps_changes}
 use Rattle.heap.proofs.meld.join_heaps.Statement.{statement}
 use Rattle.heap.proofs.meld.join_heaps.Tie as tie
 
@@ -44,7 +44,7 @@ returns c =
     let c18 = c16.before.before in
     let c20 = c18.before.before in
     let c23 = c20.before.before.before in
-    join-heaps-changes c23.requires c20.get.ensures c18.get2.ensures c16.get3.ensures c14.get4.ensures
+    join_heaps_changes c23.requires c20.get.ensures c18.get2.ensures c16.get3.ensures c14.get4.ensures
     c12.lesser-of.ensures c10.join-rows.ensures c6.put.ensures c2.put2.ensures
 
 pub join-heaps-spec : {M : Type 1} → statement M

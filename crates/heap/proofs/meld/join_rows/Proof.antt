@@ -1,7 +1,7 @@
 -- `heap::meld::join_rows` meets its contract.
 use Rattle.std.proofs.Common.{sym, subst, rules}
 use Rattle.store.specs.Siblings.{Link, last_of}
-use Rattle.heap.proofs.JoiningHeaps.{join-rows-changes}
+use Rattle.heap.proofs.JoiningHeaps.{join_rows_changes}
 use Rattle.heap.proofs.meld.join_rows.Statement.{statement}
 use Rattle.heap.proofs.meld.join_rows.Tie as tie
 
@@ -23,7 +23,7 @@ returns c =
     let c8 = c6.before.before in
     let c10 = c8.before.before in
     let c13 = c10.before.before.before in
-    join-rows-changes c13.requires.heaps c10.get.ensures c8.get2.ensures c6.concat.ensures
+    join_rows_changes c13.requires.heaps c10.get.ensures c8.get2.ensures c6.concat.ensures
     c2.empty-heap.ensures
 
 pub join_rows_spec : {M : Type 1} → statement M

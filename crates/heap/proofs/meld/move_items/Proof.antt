@@ -2,13 +2,13 @@
 -- before.
 use Rattle.std.proofs.Common.{◌-◌, ◌≤◌, arith, rules}
 use Rattle.store.specs.Says.{Changes}
-use Rattle.heap.specs.HeapsJoined.{itemsMoved, madeTo}
-use Rattle.heap.proofs.MovingItems.{move-items-none, move-items-more, move-items-all}
+use Rattle.heap.specs.HeapsJoined.{items_moved, made_to}
+use Rattle.heap.proofs.MovingItems.{move_items-none, move_items_more, move_items_all}
 use Rattle.heap.proofs.meld.move_items.Statement.{statement}
 use Rattle.heap.proofs.meld.move_items.Tie as tie
 
 abbrev invariant-loop : tie.invariant-loop
-invariant-loop s₀ n a b from to m i₀ s i = Changes n s₀ (madeTo i (itemsMoved a b)) s × (i ≤ n)
+invariant-loop s₀ n a b from to m i₀ s i = Changes n s₀ (made_to i (items_moved a b)) s × (i ≤ n)
 
 abbrev decreases-loop : tie.decreases-loop
 decreases-loop s₀ n a b from to m i₀ s i = m - i
@@ -46,7 +46,7 @@ loop-again c =
     let c18 = c15.before.before.before in
     let c21 = c18.before.before.before in
     let test = c14.loop-test.true in (
-      move-items-more _ c21.requires (omega (arith, test)) c18.get.ensures c15.before.get2.ensures
+      move_items_more _ c21.requires (omega (arith, test)) c18.get.ensures c15.before.get2.ensures
           c15.loop.invariant.0 c10.before.before.get3.ensures c10.get4.ensures c7.before.moved-key.ensures
           c2.before.moved-state.ensures c7.put.ensures c2.put2.ensures,
       omega (arith, test),
@@ -61,7 +61,7 @@ move-items-spec =
     (λ c κs. search rules)
     (λ c κs. search rules)
     (λ c. omega (arith, c.before.before.before.before.before.requires.sized.small))
-    (λ c. (move-items-none _ _ _ _ c.before.before.before.before.before.requires.sized, omega arith))
+    (λ c. (move_items-none _ _ _ _ c.before.before.before.before.before.requires.sized, omega arith))
     (λ c κs. record { sized = c.before.before.loop.invariant.0.sized; inside = omega arith })
     (λ c κs. record { sized = c.before.before.before.before.loop.invariant.0.sized; inside = omega arith })
     moved-key-requires
@@ -72,4 +72,4 @@ move-items-spec =
     (λ c. search rules)
     loop-again
     (λ c. search rules)
-    (λ c. move-items-all _ _ _ (omega arith) c.before.loop.invariant.0))
+    (λ c. move_items_all _ _ _ (omega arith) c.before.loop.invariant.0))

@@ -1,13 +1,13 @@
 -- `heap::meld::move_states` meets its contract. Invariant: the state words before i are changed, all others as before.
 use Rattle.std.proofs.Common.{◌-◌, ◌≤◌, arith, rules}
 use Rattle.store.specs.Says.{Changes}
-use Rattle.heap.specs.HeapsJoined.{madeTo, statesMoved}
-use Rattle.heap.proofs.MovingItems.{move-states-none, move-states-more, move-states-all}
+use Rattle.heap.specs.HeapsJoined.{made_to, states_moved}
+use Rattle.heap.proofs.MovingItems.{move_states_none, move_states_more, move_states_all}
 use Rattle.heap.proofs.meld.move_states.Statement.{statement}
 use Rattle.heap.proofs.meld.move_states.Tie as tie
 
 abbrev invariant-loop : tie.invariant-loop
-invariant-loop s₀ n a b m i₀ s i = Changes n s₀ (madeTo i (statesMoved a b)) s × (i ≤ n)
+invariant-loop s₀ n a b m i₀ s i = Changes n s₀ (made_to i (states_moved a b)) s × (i ≤ n)
 
 abbrev decreases-loop : tie.decreases-loop
 decreases-loop s₀ n a b m i₀ s i = m - i
@@ -29,7 +29,7 @@ loop-again c =
     let c3 = c2.before in
     let c5 = c3.before.before in
     let c8 = c5.before.before.before in (
-      move-states-more _ _ _ (omega arith) c8.loop.invariant.0 c5.get.ensures c3.moved-state.ensures
+      move_states_more _ _ _ (omega arith) c8.loop.invariant.0 c5.get.ensures c3.moved-state.ensures
           c2.put.ensures,
       omega arith,
     )
@@ -41,7 +41,7 @@ move-states-spec =
     invariant-loop
     decreases-loop
     (λ c. omega (arith, c.before.requires.sized.small))
-    (λ c. (move-states-none _ _ _ _ c.before.requires.sized, omega arith))
+    (λ c. (move_states_none _ _ _ _ c.before.requires.sized, omega arith))
     (λ c κs. record { sized = c.before.before.loop.invariant.0.sized; inside = omega arith })
     moved-state-requires
     put-requires
@@ -49,4 +49,4 @@ move-states-spec =
     (λ c. search rules)
     loop-again
     (λ c. search rules)
-    (λ c. move-states-all _ _ _ (omega arith) c.before.loop.invariant.0))
+    (λ c. move_states_all _ _ _ (omega arith) c.before.loop.invariant.0))

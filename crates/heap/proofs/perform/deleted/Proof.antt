@@ -1,20 +1,20 @@
 -- `heap::perform::deleted` meets its contract.
 use Rattle.std.proofs.Common.{rules}
-use Rattle.heap.proofs.SoundStore.{sound-says}
-use Rattle.heap.proofs.Answered.{deleted-item, deleted-performed}
-use Rattle.heap.proofs.Deleting.{deleted-in-heap}
-use Rattle.heap.proofs.ItemHeap.{heap-inside}
+use Rattle.heap.proofs.SoundStore.{sound_says}
+use Rattle.heap.proofs.Answered.{deleted_item, deleted_performed}
+use Rattle.heap.proofs.Deleting.{deleted_in_heap}
+use Rattle.heap.proofs.ItemHeap.{heap_inside}
 use Rattle.heap.proofs.perform.deleted.Statement.{statement}
 use Rattle.heap.proofs.perform.deleted.Tie as tie
 
 heap-of-requires : tie.Need-heap-of-requires
-heap-of-requires c κs = deleted-in-heap c.before.before.requires
+heap-of-requires c κs = deleted_in_heap c.before.before.requires
 
 key-of-requires : tie.Need-key-of-requires
 key-of-requires c κs =
     let p = c.before.before.before.requires in (
-      record { sized = (sound-says p.allowed.store).sized; inside = deleted-item p },
-      rw c.heap_of.ensures (heap-inside (deleted-in-heap p)),
+      record { sized = (sound_says p.allowed.store).sized; inside = deleted_item p },
+      rw c.heap_of.ensures (heap_inside (deleted_in_heap p)),
     )
 
 delete-requires : tie.Need-delete-requires
@@ -27,7 +27,7 @@ returns c =
     let c3 = c.before.before.before in
     let c5 = c3.before.before in
     let c6 = c5.before in
-    deleted-performed c6.before.before.before.requires c6.heap_of.ensures c5.key_of.ensures
+    deleted_performed c6.before.before.before.requires c6.heap_of.ensures c5.key_of.ensures
     c3.delete.ensures c.answer.ensures
 
 pub deleted-spec : {M : Type 1} → statement M

@@ -1,28 +1,28 @@
 -- `heap::perform::extracted` meets its contract.
 use Rattle.std.proofs.Common.{◌<◌, sym, ◌∙◌, subst, rules}
-use Rattle.heap.proofs.SoundStore.{minimum-at, sound-says}
-use Rattle.heap.proofs.RefusalWords.{find-heap}
-use Rattle.heap.proofs.Answered.{as-find, minimum-item, extracted-performed}
+use Rattle.heap.proofs.SoundStore.{minimum-at, sound_says}
+use Rattle.heap.proofs.RefusalWords.{find_heap}
+use Rattle.heap.proofs.Answered.{as_find, minimum_item, extracted_performed}
 use Rattle.heap.proofs.perform.extracted.Statement.{statement}
 use Rattle.heap.proofs.perform.extracted.Tie as tie
 
 get-requires : tie.Need-get-requires
 get-requires c κs =
     record {
-      sized = (sound-says c.before.before.requires.allowed.store).sized;
-      inside = find-heap (as-find c.before.before.requires.allowed);
+      sized = (sound_says c.before.before.requires.allowed.store).sized;
+      inside = find_heap (as_find c.before.before.requires.allowed);
     }
 
 key-of-requires : tie.Need-key-of-requires
 key-of-requires c κs =
     let c4 = c.before.before.before.before in
-    let A = as-find c4.requires.allowed in (
+    let A = as_find c4.requires.allowed in (
       record {
-        sized = (sound-says A.store).sized;
-        inside = subst (λ i. i < c4.args.n) (sym (c.before.get.ensures ∙ minimum-at A.store (find-heap A)))
-            (minimum-item A);
+        sized = (sound_says A.store).sized;
+        inside = subst (λ i. i < c4.args.n) (sym (c.before.get.ensures ∙ minimum-at A.store (find_heap A)))
+            (minimum_item A);
       },
-      find-heap A,
+      find_heap A,
     )
 
 extract-min-requires : tie.Need-extract-min-requires
@@ -36,8 +36,8 @@ returns c =
     let c5 = c3.before.before in
     let c7 = c5.before.before in
     let c10 = c7.before.before.before in
-    let A = as-find c10.requires.allowed in
-    extracted-performed c10.requires (c7.get.ensures ∙ minimum-at A.store (find-heap A)) c5.key_of.ensures
+    let A = as_find c10.requires.allowed in
+    extracted_performed c10.requires (c7.get.ensures ∙ minimum-at A.store (find_heap A)) c5.key_of.ensures
     c3.extract-min.ensures c.answer.ensures
 
 pub extracted-spec : {M : Type 1} → statement M

@@ -1,6 +1,6 @@
 -- `heap::perform::inserted` meets its contract.
 use Rattle.std.proofs.Common.{rules}
-use Rattle.heap.proofs.Answered.{inserted-performed}
+use Rattle.heap.proofs.Answered.{inserted_performed}
 use Rattle.heap.proofs.perform.inserted.Statement.{statement}
 use Rattle.heap.proofs.perform.inserted.Tie as tie
 
@@ -8,7 +8,7 @@ returns : tie.Need-returns
 returns c =
     let c3 = c.before.before.before in
     let c6 = c3.before.before.before in
-    inserted-performed c6.requires c3.insert.ensures c.answer.ensures
+    inserted_performed c6.requires c3.insert.ensures c.answer.ensures
 
 pub inserted-spec : {M : Type 1} → statement M
 inserted-spec =

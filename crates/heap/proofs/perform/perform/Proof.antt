@@ -1,6 +1,6 @@
 -- `heap::perform::perform` meets its contract.
 use Rattle.std.proofs.Common.{rules}
-use Rattle.heap.proofs.Answered.{may-move, refused-performed}
+use Rattle.heap.proofs.Answered.{may_move, refused_performed}
 use Rattle.heap.proofs.perform.perform.Statement.{statement}
 use Rattle.heap.proofs.perform.perform.Tie as tie
 
@@ -13,14 +13,14 @@ returns : tie.Need-returns
 returns c =
     let c2 = c.before.before in
     let c7 = c2.before.before.before.before.before in
-    refused-performed c7.requires c2.refusal.ensures c.before.if1.true c.answer.ensures
+    refused_performed c7.requires c2.refusal.ensures c.before.if1.true c.answer.ensures
 
 perform-allowed-requires : tie.Need-perform-allowed-requires
 perform-allowed-requires c κs =
     let c2 = c.before.before in
     let c4 = c2.before.before in
     let c7 = c4.before.before.before in
-    may-move c7.requires (record { sound = c7.requires.sound; items = c4.items_of.ensures }) c2.refusal.ensures
+    may_move c7.requires (record { sound = c7.requires.sound; items = c4.items_of.ensures }) c2.refusal.ensures
     c.before.if1.false
 
 pub perform-spec : {M : Type 1} → statement M

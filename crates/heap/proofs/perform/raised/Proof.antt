@@ -1,21 +1,21 @@
 -- `heap::perform::raised` meets its contract.
 use Rattle.std.proofs.Common.{rules}
-use Rattle.heap.proofs.SoundStore.{sound-says}
-use Rattle.heap.proofs.Answered.{raised-performed}
-use Rattle.heap.proofs.RaiseWords.{raise-heap}
+use Rattle.heap.proofs.SoundStore.{sound_says}
+use Rattle.heap.proofs.Answered.{raised_performed}
+use Rattle.heap.proofs.RaiseWords.{raise_heap}
 use Rattle.heap.proofs.perform.raised.Statement.{statement}
 use Rattle.heap.proofs.perform.raised.Tie as tie
 
 get-requires : tie.Need-get-requires
 get-requires c κs =
     let A = c.before.before.requires.allowed in
-    record { sized = (sound-says A.store).sized; inside = raise-heap A }
+    record { sized = (sound_says A.store).sized; inside = raise_heap A }
 
 returns : tie.Need-returns
 returns c =
     let c3 = c.before.before.before in
     let c5 = c3.before.before in
-    raised-performed c5.before.before.before.requires c5.get.ensures c3.raise.ensures c.answer.ensures
+    raised_performed c5.before.before.before.requires c5.get.ensures c3.raise.ensures c.answer.ensures
 
 pub raised-spec : {M : Type 1} → statement M
 raised-spec =

@@ -2,8 +2,8 @@
 use Rattle.std.proofs.Common.{le-ltb, lt-ltb, eq-eqb, ne_eqb, le-leb}
 use borrow.Author.Tests.{lt-leb}
 use Rattle.rules.specs.Answers.{refusal}
-use Rattle.heap.proofs.SoundStore.{sound-says}
-use Rattle.heap.proofs.RefusalWords.{table-le, table-lt, state-free, state-live}
+use Rattle.heap.proofs.SoundStore.{sound_says}
+use Rattle.heap.proofs.RefusalWords.{table_le, table_lt, state_free, state_live}
 use Rattle.heap.proofs.refusal.refuse_insert.Statement.{statement}
 use Rattle.heap.proofs.refusal.refuse_insert.Tie as tie
 
@@ -15,12 +15,12 @@ returns-2 : tie.Need-returns-2
 unfolding refusal
 returns-2 c =
     let c3 = c.before.before.before in
-    λ k. rw (le-ltb 7 _ c.before.if1.false, le-leb _ _ (table-le c3.requires c.if2.true))
+    λ k. rw (le-ltb 7 _ c.before.if1.false, le-leb _ _ (table_le c3.requires c.if2.true))
 
 get-requires : tie.Need-get-requires
 get-requires c κs =
     let c3 = c.before.before.before in
-    record { sized = (sound-says c3.requires).sized; inside = c.if2.false }
+    record { sized = (sound_says c3.requires).sized; inside = c.if2.false }
 
 returns-3 : tie.Need-returns-3
 unfolding refusal
@@ -29,8 +29,8 @@ returns-3 c =
     let c5 = c2.before.before.before in
     λ k. rw (
       le-ltb 7 _ c2.before.if1.false,
-      lt-leb _ _ (table-lt c5.requires c2.if2.false),
-      ne_eqb _ _ (state-live c5.requires c2.if2.false c.before.get.ensures c.if3.true),
+      lt-leb _ _ (table_lt c5.requires c2.if2.false),
+      ne_eqb _ _ (state_live c5.requires c2.if2.false c.before.get.ensures c.if3.true),
     )
 
 returns-4 : tie.Need-returns-4
@@ -40,8 +40,8 @@ returns-4 c =
     let c5 = c2.before.before.before in
     λ k. rw (
       le-ltb 7 _ c2.before.if1.false,
-      lt-leb _ _ (table-lt c5.requires c2.if2.false),
-      eq-eqb _ _ (state-free c5.requires c2.if2.false c.before.get.ensures c.if3.false),
+      lt-leb _ _ (table_lt c5.requires c2.if2.false),
+      eq-eqb _ _ (state_free c5.requires c2.if2.false c.before.get.ensures c.if3.false),
     )
 
 pub refuse-insert-spec : {M : Type 1} → statement M

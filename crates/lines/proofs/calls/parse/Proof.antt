@@ -1,7 +1,7 @@
 -- `parse` meets its contract.
 use mathlib.Core.Path.{refl, sym, ◌∙◌}
 use native.Mathlib.Omega.{arith}
-use Rattle.lines.proofs.Parsing.{parses-empty, parses-call, parses-no-call}
+use Rattle.lines.proofs.Parsing.{parses_empty, parses_call, parses_no_call}
 use borrow.Author.Rules.{rules}
 use Rattle.lines.proofs.calls.parse.Statement.{statement}
 use Rattle.lines.proofs.calls.parse.Tie as tie
@@ -10,7 +10,7 @@ no-call-requires : tie.Need-no-call-requires
 no-call-requires c κs = search rules
 
 returns : tie.Need-returns
-returns c = parses-empty c.no_call.ensures c.before.if1.true
+returns c = parses_empty c.no_call.ensures c.before.if1.true
 
 shared-slice-read-letter : tie.Need-shared-slice-read-letter
 shared-slice-read-letter c = search rules
@@ -37,7 +37,7 @@ returns-2 : tie.Need-returns-2
 returns-2 c =
     let called = c.before.before.before in
     let tested = called.before.before.before.before in
-    parses-no-call _ (omega (arith, tested.if1.false))
+    parses_no_call _ (omega (arith, tested.if1.false))
     called.before.before.field_at.ensures called.before.numbers-from.ensures
     (sym called.call-of.ensures ∙ c.before.enum_told.given.1) c.no-call2.ensures
 
@@ -45,7 +45,7 @@ returns-3 : tie.Need-returns-3
 returns-3 c =
     let called = c.before.before.before in
     let tested = called.before.before.before.before in
-    parses-call _ (omega (arith, tested.if1.false))
+    parses_call _ (omega (arith, tested.if1.false))
     called.before.before.field_at.ensures called.before.numbers-from.ensures
     (sym called.call-of.ensures ∙ c.before.call.given.1) refl refl
 

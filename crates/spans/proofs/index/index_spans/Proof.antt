@@ -5,7 +5,7 @@ use native.Mathlib.Omega.{arith}
 use borrow.Author.Rules.{rules}
 use lib.ListN.{length, length-set}
 use Rattle.spans.specs.Range.{FirstSpan, IsIndex}
-use Rattle.spans.proofs.Range.{first-none, index-none, index-more}
+use Rattle.spans.proofs.Range.{first_none, index_none, index_more}
 use Rattle.spans.proofs.index.index_spans.Statement.{statement}
 use Rattle.spans.proofs.index.index_spans.Tie as tie
 
@@ -24,8 +24,8 @@ loop-holds c =
     let p = c.before.requires in
     let a = c.before.args in (
       omega arith,
-      first-none a.from.now,
-      index-none a.from.now a.index.now (omega (arith, p.long)),
+      first_none a.from.now,
+      index_none a.from.now a.index.now (omega (arith, p.long)),
       simp length-set p.long,
     )
 
@@ -55,7 +55,7 @@ loop-again c =
     let l = c.before.before in
     let F = c.pass-spans.ensures in
     let h = l.loop.invariant.3 in
-    (omega arith, F, index-more l.loop.invariant.2 F (omega arith), simp length-set h)
+    (omega arith, F, index_more l.loop.invariant.2 F (omega arith), simp length-set h)
 
 returns : tie.Need-returns invariant-loop decreases-loop
 returns c =

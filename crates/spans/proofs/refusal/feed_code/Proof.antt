@@ -1,7 +1,7 @@
 -- `spans::refusal::feed_code` meets its contract.
-use Rattle.paths.specs.Map.{spanLists, windows}
-use Rattle.paths.specs.Codes.{windowListsFit}
-use Rattle.spans.proofs.FeedCodes.{few-places, one-length, code-early, code-late}
+use Rattle.paths.specs.Map.{span_lists, windows}
+use Rattle.paths.specs.Codes.{window_lists_fit}
+use Rattle.spans.proofs.FeedCodes.{few_places, one_length, code_early, code_late}
 use borrow.Author.Rules.{rules}
 use Rattle.spans.proofs.refusal.feed_code.Statement.{statement}
 use Rattle.spans.proofs.refusal.feed_code.Tie as tie
@@ -22,20 +22,20 @@ first-code-requires-2 : tie.Need-first-code-requires-2
 first-code-requires-2 c κs = search rules
 
 returns : tie.Need-returns
-unfolding windowListsFit
+unfolding window_lists_fit
 returns c =
     let e = c.before in
     let b = e.before in
     let l = b.before in
     let d = l.before in
-    code-early _ _ _ (spanLists _ _ _) (windows _ _) _ _ _ _ _ _ _ _ _ _ d.before.places-code.ensures
+    code_early _ _ _ (span_lists _ _ _) (windows _ _) _ _ _ _ _ _ _ _ _ _ d.before.places-code.ensures
     d.minute-code.ensures l.span-lists-code.ensures b.first_code.ensures e.first-code2.ensures
     c.if1.true
 
 result-lists-code-requires : tie.Need-result-lists-code-requires
 result-lists-code-requires c κs =
     let e = c.before in
-    few-places _ _ _ _ _ e.before.before.before.before.places-code.ensures e.first-code2.ensures
+    few_places _ _ _ _ _ e.before.before.before.before.places-code.ensures e.first-code2.ensures
     c.if1.false
 
 place-list-code-requires : tie.Need-place-list-code-requires
@@ -50,7 +50,7 @@ spans-code-requires c κs =
     let b = e.before in
     let l = b.before in
     let d = l.before in
-    one-length (spanLists _ _ _) (windows _ _) d.before.places-code.result d.minute-code.result _ _ _
+    one_length (span_lists _ _ _) (windows _ _) d.before.places-code.result d.minute-code.result _ _ _
     l.span-lists-code.ensures b.first_code.ensures e.first-code2.ensures
     c.before.before.before.if1.false
 
@@ -58,7 +58,7 @@ first-code-requires-4 : tie.Need-first-code-requires-4
 first-code-requires-4 c κs = search rules
 
 returns-2 : tie.Need-returns-2
-unfolding windowListsFit
+unfolding window_lists_fit
 returns-2 c =
     let s = c.before in
     let t = s.before in
@@ -69,7 +69,7 @@ returns-2 c =
     let b = e.before in
     let l = b.before in
     let d = l.before in
-    code-late _ _ _ (spanLists _ _ _) (windows _ _) _ _ _ _ _ _ _ _ _ _ d.before.places-code.ensures
+    code_late _ _ _ (span_lists _ _ _) (windows _ _) _ _ _ _ _ _ _ _ _ _ d.before.places-code.ensures
     d.minute-code.ensures l.span-lists-code.ensures b.first_code.ensures e.first-code2.ensures
     i.if1.false _ _ _ r.result-lists-code.ensures p.place-list-code.ensures t.first-code3.ensures _ _
     (s.spans-code.ensures _) c.first-code4.ensures

@@ -1,11 +1,11 @@
 -- `store::keys::key_from` meets its contract.
 use borrow.Author.Rules.{rules}
-use Rattle.rules.specs.Queues.{keyFrom}
+use Rattle.rules.specs.Queues.{key_from}
 use Rattle.store.proofs.keys.key_from.Statement.{statement}
 use Rattle.store.proofs.keys.key_from.Tie as tie
 
 returns : tie.Need-returns
-unfolding keyFrom
+unfolding key_from
 returns c = search rules
 
 pub key-from-spec : {M : Type 1} → statement M

@@ -1,6 +1,6 @@
 -- `store::keys::key_in` meets its contract.
 use borrow.Author.Rules.{rules}
-use Rattle.store.specs.ItemOrder.{itemKey}
+use Rattle.store.specs.ItemOrder.{item_key}
 use Rattle.store.proofs.keys.key_in.Statement.{statement}
 use Rattle.store.proofs.keys.key_in.Tie as tie
 
@@ -8,7 +8,7 @@ get-in-requires : tie.Need-get-in-requires
 get-in-requires c κs = let p = c.before.requires in record { sized = p.0.sized; inside = p.1 }
 
 returns : tie.Need-returns
-unfolding itemKey
+unfolding item_key
 returns c = rw (c.key-from.ensures, c.before.get-in2.ensures, c.before.before.get_in.ensures)
 
 pub key-in-spec : {M : Type 1} → statement M

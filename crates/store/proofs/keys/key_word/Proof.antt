@@ -1,12 +1,12 @@
 -- `store::keys::key_word` meets its contract.
 use native.Mathlib.Omega.{arith}
 use borrow.Author.Rules.{rules}
-use Rattle.rules.specs.Queues.{keyWord}
+use Rattle.rules.specs.Queues.{key_word}
 use Rattle.store.proofs.keys.key_word.Statement.{statement}
 use Rattle.store.proofs.keys.key_word.Tie as tie
 
 returns : tie.Need-returns
-unfolding keyWord
+unfolding key_word
 returns c = omega arith
 
 pub key-word-spec : {M : Type 1} → statement M

@@ -1,6 +1,6 @@
 -- `store::keys::put_key` meets its contract.
 use borrow.Author.Rules.{rules}
-use Rattle.store.proofs.KeyChanges.{key-changes}
+use Rattle.store.proofs.KeyChanges.{key_changes}
 use Rattle.store.proofs.keys.put_key.Statement.{statement}
 use Rattle.store.proofs.keys.put_key.Tie as tie
 
@@ -12,7 +12,7 @@ returns c =
     let c2 = c.before.before in
     let c3 = c2.before in
     let c5 = c3.before.before in
-    key-changes c5.before.before.before.requires.1 _ _ c5.get.ensures c3.key-word.ensures c2.put.ensures
+    key_changes c5.before.before.before.requires.1 _ _ c5.get.ensures c3.key_word_lem.ensures c2.put.ensures
 
 pub put-key-spec : {M : Type 1} → statement M
 put-key-spec =

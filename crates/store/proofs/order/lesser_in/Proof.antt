@@ -4,7 +4,7 @@ use native.Mathlib.Omega.{arith}
 use borrow.Author.Rules.{rules}
 use borrow.Author.Tests.{ne_eqb}
 use Rattle.rules.specs.Order.{lesser}
-use Rattle.store.proofs.ItemOrder.{lesser-number}
+use Rattle.store.proofs.ItemOrder.{lesser_number}
 use Rattle.store.proofs.order.lesser_in.Statement.{statement}
 use Rattle.store.proofs.order.lesser_in.Tie as tie
 
@@ -38,7 +38,7 @@ returns-3 c =
     let c6 = c5.before in
     let c7 = c6.before in
     let p = c7.before.before.requires in
-    lesser-number _ _ _ (omega (arith, p.1.one c7.if1.false)) (omega (arith, p.1.two c6.if2.false))
+    lesser_number _ _ _ (omega (arith, p.1.one c7.if1.false)) (omega (arith, p.1.two c6.if2.false))
     c5.key_in.ensures c3.key-in2.ensures c4.order-number.ensures c2.order-number2.ensures
     (⊎_elim (λ w. inl (w.0.taken, w.1)) (λ w. inr (w.0.left, w.1)) c1.if3.branch)
 

@@ -1,9 +1,9 @@
 -- `store::order::precedes_in` meets its contract.
 use borrow.Author.Rules.{rules}
 use native.Mathlib.Omega.{arith}
-use Rattle.rules.specs.Words.{lookIn}
-use Rattle.rules.proofs.Order.{before-number}
-use Rattle.store.specs.ItemOrder.{itemKey}
+use Rattle.rules.specs.Words.{look_in}
+use Rattle.rules.proofs.Order.{before_number}
+use Rattle.store.specs.ItemOrder.{item_key}
 use Rattle.store.proofs.order.precedes_in.Statement.{statement}
 use Rattle.store.proofs.order.precedes_in.Tie as tie
 
@@ -12,7 +12,7 @@ returns c =
     let c2 = c.before.before in
     let a = c2.before.before.before.args in
     rw (
-      before-number (itemKey a.h (lookIn a.layout a.n a.s.now)) a.a a.b (omega arith) (omega arith),
+      before_number (item_key a.h (look_in a.layout a.n a.s.now)) a.a a.b (omega arith) (omega arith),
       ← c2.before.key_in.ensures,
       ← c2.key-in2.ensures,
       ← c.before.order-number.ensures,

@@ -1,11 +1,11 @@
 -- `digit_count` meets its contract: the number lies between two powers of ten.
 use Rattle.std.proofs.Common.{sym, arith}
-use Rattle.text.proofs.Decimal.{digits_between, length-low}
+use Rattle.text.proofs.Decimal.{digits_between, length_low}
 use Rattle.text.proofs.output.digit_count.Statement.{statement}
 use Rattle.text.proofs.output.digit_count.Tie as tie
 
 returns : tie.Need-returns
-returns c = sym (length-low _ c.if3.true)
+returns c = sym (length_low _ c.if3.true)
 
 returns-2 : tie.Need-returns-2
 returns-2 c = digits_between 1 _ c.if3.false c.before.if2.true

@@ -1,6 +1,6 @@
 -- `put_field` meets its contract: two writings in a row.
 use Rattle.std.proofs.Common.{arith, rules}
-use Rattle.text.proofs.Row.{length-field, wrote-field}
+use Rattle.text.proofs.Row.{length-field, wrote_field}
 use Rattle.text.proofs.output.put_field.Statement.{statement}
 use Rattle.text.proofs.output.put_field.Tie as tie
 
@@ -18,7 +18,7 @@ same_length c = search rules
 
 returns : tie.Need-returns
 returns c =
-    wrote-field
+    wrote_field
     _
     c.before.before.before.before.before.before.put-number.ensures
     c.before.before.put_byte.ensures
