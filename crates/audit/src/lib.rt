@@ -1,5 +1,7 @@
 //! The check of a store: are its words, in the given order, those of well_formed queues? It reads words alone and keeps
 //! no list. Its time grows with the number of items: an item passes in one list only, the one that its own words name.
+#![tactic(auto)]
+
 ghost use Rattle.std.specs.Prelude.{◌≡◌, suc, ◌<◌};
 ghost use Rattle.rules.specs.Order.{minimum};
 ghost use Rattle.rules.specs.Words.{look_in, state_heap, state_mark, decode_forests};

@@ -1,4 +1,6 @@
 // Linking, and taking a heap's minimum, on a store for n items.
+#![tactic(auto)]
+
 ghost use Rattle.std.specs.Prelude.{◌≡◌, cond, ◌≤◌, ◌<◌, get_or};
 ghost use Rattle.rules.specs.declared.Field.TheVariants.{Key, Parent};
 ghost use Rattle.rules.specs.Order.{comes_before};

@@ -1,4 +1,6 @@
 // A cut, and the cuts that follow it, on a store for n items.
+#![tactic(auto)]
+
 ghost use Rattle.std.specs.Prelude.{ℕ, suc, ◌<◌};
 ghost use Rattle.rules.specs.Forests.{Forests, none};
 ghost use Rattle.rules.specs.Cut.{cut, node_kind, cascading_cut, cut_out};

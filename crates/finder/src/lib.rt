@@ -1,4 +1,6 @@
 // The feed finder: the least losses from a start (shortest paths), found over the queues.
+#![tactic(auto)]
+
 ghost use Rattle.std.specs.Prelude.{◌≡◌, ℕ, length, replicate};
 ghost use Rattle.paths.specs.Map.{span_lists, windows, map_at};
 ghost use Rattle.paths.specs.Search.{never};

@@ -1,4 +1,6 @@
 // The calls on the heaps whose words a store holds.
+#![tactic(auto)]
+
 pub mod decrease;
 pub mod delete;
 pub mod insert;

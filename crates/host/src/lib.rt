@@ -1,4 +1,6 @@
 // The entries for hosts in C, all but the modem's own run and the turn of a store.
+#![tactic(auto)]
+
 ghost use Rattle.std.specs.Prelude.{◌≡◌};
 ghost use Rattle.sheet.specs.Runs.{fresh_run, kept_run};
 ghost use Rattle.paths.specs.Map.{span_lists, windows, map_at};

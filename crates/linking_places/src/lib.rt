@@ -1,5 +1,7 @@
 // The seventeen places of linking, one to a rank (the array of roots by rank), and which of them are taken. Only this
 // crate knows what the 16 bits of a place stand for, and what the bits of the taken places do.
+#![tactic(auto)]
+
 ghost use Rattle.std.specs.Prelude.{◌≡◌, ◌≢◌, List, cond, not, ℕ, ◌≤◌, ◌<◌, eqb, drop, get_or, replicate, set};
 ghost use Rattle.rules.specs.Forests.{none};
 ghost use Rattle.linking_places.specs.Places.{free_place, trees_of, without};

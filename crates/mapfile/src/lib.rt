@@ -1,4 +1,6 @@
 // Map text to span and window lists.
+#![tactic(auto)]
+
 ghost use Rattle.std.specs.Prelude.{◌≡◌, ◌≤◌, length, drop};
 ghost use Rattle.text.specs.Fields.{RowRead};
 ghost use Rattle.text.specs.Lines.{lines};

@@ -1,4 +1,6 @@
 // The one run that the firmware's C side calls: a fresh run for 256 items, on words of its own.
+#![tactic(auto)]
+
 ghost use Rattle.std.specs.Prelude.{◌≡◌};
 ghost use Rattle.modem.specs.QueueRun.{Returns, result_number};
 

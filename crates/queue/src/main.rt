@@ -1,4 +1,6 @@
 // Prints what a fresh run answers to the sheet on standard input, or its code alone where it is refused.
+#![tactic(auto)]
+
 ghost use Rattle.std.specs.Prelude.{◌≤◌, length};
 ghost use Rattle.queue.specs.Shown.{Shows, program_run};
 

@@ -1,4 +1,6 @@
 // A span offers its end a loss, and the queue and the table follow (relaxation of an edge).
+#![tactic(auto)]
+
 ghost use Rattle.std.specs.Prelude.{◌≡◌, ◌≢◌, ◌+◌, ◌<◌, length, get_or, set};
 ghost use Rattle.rules.specs.declared.Call.TheVariants.{Insert, DecreaseKey};
 ghost use Rattle.rules.specs.Forests.{none};

@@ -1,4 +1,6 @@
 // The types that the rules, the code and the theorems share. The rules themselves are in specs/.
+#![tactic(auto)]
+
 ghost use Rattle.std.specs.Prelude.{◌≡◌, ◌+◌, ◌<◌, ◌≤◌};
 
 // A call on the queues: one of seven kinds, each with its own numbers.
@@ -50,7 +52,7 @@ pub enum Field {
 
 // The order of the items' words in a store: each item's eight side by side, or those of each kind, which is the order
 // of old stores.
-#[derive(Drop)]
+#[derive(Clone, Copy)]
 pub enum Layout {
     ByItem,
     ByKind,

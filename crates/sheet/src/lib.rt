@@ -1,4 +1,6 @@
 // Sheets of queue calls: each line is read and answered, in fresh and in kept runs.
+#![tactic(auto)]
+
 ghost use Rattle.std.specs.Prelude.{◌≡◌};
 ghost use Rattle.sheet.specs.Promises.{Answerable, Answered, Runnable, RanLines, Limited, Refuses};
 ghost use Rattle.sheet.specs.Runs.{fresh_run, kept_run, Leaves};

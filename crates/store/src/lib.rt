@@ -1,5 +1,7 @@
 // The words of a store for n items: the only code that knows how many there are and where each lies.
 // Nothing above this crate computes a size or indexes a store, but for `worked`, which prints words as they lie.
+#![tactic(auto)]
+
 ghost use Rattle.std.specs.Prelude.{◌≡◌, ◌<◌, ◌≤◌, length, replicate};
 ghost use Rattle.rules.specs.Queues.{empty_queues};
 ghost use Rattle.rules.specs.SetWord.{field_number, set_word};

@@ -1,4 +1,6 @@
 // Text as bytes: numbers, fields and lines are read here, numbers are written in `output`.
+#![tactic(auto)]
+
 ghost use Rattle.std.specs.Prelude.{◌≡◌, suc, ◌+◌, ◌≤◌, min, [], ◌∷◌, length};
 ghost use Rattle.text.specs.Numbers.{most_digits, number_at, first_digits, DigitsRead};
 ghost use Rattle.text.specs.declared.Numbers.TheVariants.{Other};

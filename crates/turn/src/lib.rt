@@ -1,5 +1,7 @@
 //! The turn of a store: the words of a sound store that stand by kind, put into the order in use in a second buffer.
 //! The old words are checked and read where they lie; nothing is copied beside the second buffer.
+#![tactic(auto)]
+
 ghost use Rattle.std.specs.Prelude.{◌≡◌, ◌<◌};
 ghost use Rattle.rules.specs.SetWord.{set_word};
 ghost use Rattle.rules.specs.declared.Layout.TheVariants.{ByKind};

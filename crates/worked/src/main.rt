@@ -1,5 +1,7 @@
 // The scope paper's runs (b) to (h) on the words of a store for nine items. Of each run: its name, the answers of its
 // lines, the row of heap 0, and all words as they lie: a line for each heap, then a line for each item.
+#![tactic(auto)]
+
 ghost use Rattle.std.specs.Prelude.{◌+◌, ◌≤◌};
 ghost use Rattle.rules.specs.Words.{store_size};
 ghost use Rattle.store.specs.Says.{Sized};
