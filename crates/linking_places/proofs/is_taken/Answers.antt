@@ -3,11 +3,7 @@ use mathlib.Core.Path.{ap, ◌∙◌}
 use borrow.Author.Rules.{rules}
 use lib.Dec.{eqb}
 use Rattle.linking_places.proofs.Taken.{bit_of_place, bit_test}
-use Rattle.linking_places.proofs.is_taken.Statement.{statement}
-use Rattle.linking_places.proofs.is_taken.Tie as tie
+use Rattle.linking_places.proofs.is_taken.Goals as goal
 
-returns : tie.Need-returns
+pub returns : goal.returns
 returns c = λ ps T. rw T.number (ap (λ b. eqb b 1) (bit_of_place ps _ T.inside) ∙ bit_test _)
-
-pub is-taken-spec : {M : Type 1} → statement M
-is-taken-spec = tie.close (tie.spec (λ c. search rules) returns)

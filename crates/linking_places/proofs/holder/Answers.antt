@@ -12,8 +12,7 @@ use lib.ListN.{get_or}
 use Rattle.rules.specs.Forests.{none}
 use Rattle.linking_places.specs.Places.{free_place, tree_of, trees_of}
 use Rattle.linking_places.proofs.Places.{tree_item, tree_none, tree_read}
-use Rattle.linking_places.proofs.holder.Statement.{statement}
-use Rattle.linking_places.proofs.holder.Tie as tie
+use Rattle.linking_places.proofs.holder.Goals as goal
 
 -- what stands for a tree is below a free place's number
 is-item : (p : ℕ) → tree_of p ≢ none → p < free_place
@@ -26,15 +25,12 @@ is-item p d = go (ltb p free_place) refl
 below : (ps : List ℕ) (r : ℕ) → get_or (trees_of ps) r 0 ≢ none → get_or ps r 0 < free_place
 below ps r d = is-item (get_or ps r 0) (λ e. d (tree_read ps r ∙ e))
 
-cast-result : tie.Need-overflow-cast-result
-cast-result c =
-    let a = c.before.args in
-    record { fits = omega (arith, below a.places.now a.r c.before.requires.1) }
+pub overflow_cast-result-2 : goal.overflow_cast-result-2
+overflow_cast-result-2 c =
+    let a = c.args in
+    record { fits = omega (arith, below a.places.now a.r c.requires.r_nonzero) }
 
-returns : tie.Need-returns
+pub returns : goal.returns
 returns c =
-    let a = c.before.args in
-    sym (tree_read a.places.now a.r ∙ tree_item _ (below a.places.now a.r c.before.requires.1))
-
-pub holder-spec : {M : Type 1} → statement M
-holder-spec = tie.close (tie.spec (λ c. search rules) (λ c. search rules) cast-result returns)
+    let a = c.args in
+    sym (tree_read a.places.now a.r ∙ tree_item _ (below a.places.now a.r c.requires.r_nonzero))

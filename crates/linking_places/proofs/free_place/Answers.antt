@@ -9,8 +9,7 @@ use lib.ListN.{get_or, set}
 use Rattle.rules.specs.Forests.{none}
 use Rattle.linking_places.specs.Taken.{taken_of, tree_bit, TakenAt}
 use Rattle.linking_places.proofs.Taken.{a_tree, bit_written, no_tree, one_shifted}
-use Rattle.linking_places.proofs.free_place.Statement.{statement}
-use Rattle.linking_places.proofs.free_place.Tie as tie
+use Rattle.linking_places.proofs.free_place.Goals as goal
 
 -- the number has the bit of the place, and is less by it then
 freed : (ps : List ℕ) (taken r : ℕ) → TakenAt ps taken r → get_or ps r 0 ≢ none
@@ -23,13 +22,10 @@ freed ps taken r T d =
         → taken_of (set ps r none) + 1 * 2 ^ r ≡ taken_of ps + 0 * 2 ^ r
     cut z = rw (a_tree (get_or ps r 0) d, no_tree none refl) at z
 
-sub-result : tie.Need-overflow-sub-result
-sub-result c =
-    let p = c.requires.1 in
-    omega (arith, one_shifted c.args.r c.requires.0, freed p.0 _ _ p.1 p.2)
+pub overflow_sub-result : goal.overflow_sub-result
+overflow_sub-result c =
+    let p = c.requires.by_index in
+    omega (arith, one_shifted c.args.r c.requires.r_bound, freed p.0 _ _ p.1 p.2)
 
-returns : tie.Need-returns
-returns c = λ ps T d. omega (arith, one_shifted c.args.r c.requires.0, freed ps _ _ T d)
-
-pub free-place-spec : {M : Type 1} → statement M
-free-place-spec = tie.close (tie.spec (λ c. search rules) sub-result returns)
+pub returns : goal.returns
+returns c = λ ps T d. omega (arith, one_shifted c.args.r c.requires.r_bound, freed ps _ _ T d)

@@ -4,11 +4,7 @@ use mathlib.Core.Bool.{not}
 use borrow.Author.Rules.{rules}
 use lib.Dec.{eqb}
 use Rattle.linking_places.proofs.Taken.{bits_from}
-use Rattle.linking_places.proofs.any_from.Statement.{statement}
-use Rattle.linking_places.proofs.any_from.Tie as tie
+use Rattle.linking_places.proofs.any_from.Goals as goal
 
-returns : tie.Need-returns
+pub returns : goal.returns
 returns c = λ ps e. rw e (ap (λ m. not (eqb m 0)) (bits_from ps _))
-
-pub any-from-spec : {M : Type 1} → statement M
-any-from-spec = tie.close (tie.spec (λ c. search rules) returns)
