@@ -43,7 +43,7 @@ use rules::{Field, Layout};
 pub const NONE: u32 = 4294967295;
 
 // Whose list of siblings: the row of a heap, or the children of an item.
-#[derive(Drop)]
+#[derive(Clone, Copy)]
 pub enum Owner {
     Row(u32),
     Children(u32),
