@@ -17,7 +17,7 @@ use Rattle.rules.specs.Cut.{
   node_kind,
   unmarked,
 }
-use Rattle.rules.specs.Forests.{Forests, heap_of, marks, none, parent_of, set_mark, table_size}
+use Rattle.rules.specs.Forests.{Forests, heap_of, none, parent_of, set_mark, table_size}
 use Rattle.rules.specs.WellFormed.{Disjoint}
 use Rattle.rules.proofs.Members.{heap_in}
 use Rattle.rules.proofs.SetAll.{keep}

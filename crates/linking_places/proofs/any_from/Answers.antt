@@ -1,7 +1,6 @@
 -- `linking_places::any_from` meets its contract.
 use mathlib.Core.Path.{ap}
 use mathlib.Core.Bool.{not}
-use borrow.Author.Rules.{rules}
 use lib.Dec.{eqb}
 use Rattle.linking_places.proofs.Taken.{bits_from}
 use Rattle.linking_places.proofs.any_from.Goals as goal

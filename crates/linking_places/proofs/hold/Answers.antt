@@ -1,11 +1,9 @@
 -- `linking_places::hold` meets its contract.
-use Prim.Native.Nat.{◌-◌}
-use mathlib.Core.Path.{◌≡◌, sym, ap, ◌∙◌}
+use mathlib.Core.Path.{sym, ap, ◌∙◌}
 use native.Mathlib.Omega.{arith}
-use borrow.Author.Rules.{rules}
 use Rattle.linking_places.specs.Places.{trees_of}
 use Rattle.linking_places.proofs.Places.{tree_item, tree_put}
-use Rattle.linking_places.proofs.Written.{is_set, next_written, none_written, written}
+use Rattle.linking_places.proofs.Written.{is_set, next_written, none_written}
 use Rattle.linking_places.proofs.hold.Goals as goal
 
 pub loop-i-init : goal.loop-i-init

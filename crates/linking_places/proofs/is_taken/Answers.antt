@@ -1,6 +1,5 @@
 -- `linking_places::is_taken` meets its contract.
 use mathlib.Core.Path.{ap, ◌∙◌}
-use borrow.Author.Rules.{rules}
 use lib.Dec.{eqb}
 use Rattle.linking_places.proofs.Taken.{bit_of_place, bit_test}
 use Rattle.linking_places.proofs.is_taken.Goals as goal

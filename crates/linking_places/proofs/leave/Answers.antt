@@ -1,9 +1,7 @@
 -- `linking_places::leave` meets its contract.
-use Prim.Native.Nat.{◌-◌}
-use mathlib.Core.Path.{◌≡◌, refl, ap, ◌∙◌}
+use mathlib.Core.Path.{refl, ap, ◌∙◌}
 use native.Mathlib.Numerals.{add-one}
 use native.Mathlib.Omega.{arith}
-use borrow.Author.Rules.{rules}
 use Rattle.linking_places.specs.Places.{trees_of}
 use Rattle.linking_places.proofs.Left.{all_left, left_to, next_left}
 use Rattle.linking_places.proofs.leave.Goals as goal

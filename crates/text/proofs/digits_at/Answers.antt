@@ -1,6 +1,6 @@
 -- `digits_at` meets its contract. The invariant: what is left to read ends where the whole does, with its value.
-use Rattle.std.proofs.Common.{◌-◌, arith, rules}
-use Rattle.text.proofs.Digits.{DigitsReadTo, none_read, value_fits, one_read, other_read, read_end}
+use Rattle.std.proofs.Common.{arith}
+use Rattle.text.proofs.Digits.{none_read, value_fits, one_read, other_read, read_end}
 use Rattle.text.proofs.digits_at.Goals as goal
 
 pub loop-i-init : goal.loop-i-init

@@ -1,6 +1,6 @@
 -- `digits_at` meets its contract. The invariant: what is left to read ends where the whole does, with its value.
-use Rattle.std.proofs.Common.{◌-◌, arith, rules}
-use Rattle.text.proofs.Digits.{DigitsReadTo, none_read, value_fits, one_read, other_read, read_end}
+use Rattle.std.proofs.Common.{◌-◌}
+use Rattle.text.proofs.Digits.{DigitsReadTo}
 use Rattle.text.proofs.digits_at.Given as goal
 
 abbrev pub invariant-loop-i : goal.invariant-loop-i

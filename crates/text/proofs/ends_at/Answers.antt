@@ -1,6 +1,5 @@
 -- `ends_at` meets its contract.
 use Rattle.text.proofs.LineRest.{ends_inside, ends_past}
-use Rattle.std.proofs.Common.{rules}
 use Rattle.text.proofs.ends_at.Goals as goal
 
 pub returns-then-at-s : goal.returns-then-at-s

@@ -1,5 +1,5 @@
 -- `field_at` meets its contract.
-use Rattle.std.proofs.Common.{sym, ◌∙◌, rules}
+use Rattle.std.proofs.Common.{sym, ◌∙◌}
 use Rattle.text.proofs.Fields.{field-comma, field-none, field_past}
 use Rattle.text.proofs.field_at.Goals as goal
 

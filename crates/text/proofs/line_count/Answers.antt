@@ -1,5 +1,5 @@
 -- `line_count` meets its contract: the LF, and one more for a rest.
-use Rattle.std.proofs.Common.{arith, rules}
+use Rattle.std.proofs.Common.{arith}
 use Rattle.text.proofs.LineFeeds.{feeds_le}
 use Rattle.text.proofs.LineCount.{count-empty, count-closed, count_open}
 use Rattle.text.proofs.line_count.Goals as goal

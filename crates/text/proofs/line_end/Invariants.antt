@@ -1,6 +1,6 @@
 -- `line_end` meets its contract. The invariant: the rest of the line ends where the line ends.
-use Rattle.std.proofs.Common.{◌-◌, length, rules}
-use Rattle.text.proofs.LineEnd.{BytesPassed, none_passed, one_passed, all_passed, ends_feed, ends_text}
+use Rattle.std.proofs.Common.{◌-◌, length}
+use Rattle.text.proofs.LineEnd.{BytesPassed}
 use Rattle.text.proofs.line_end.Given as goal
 
 abbrev pub invariant-loop-i : goal.invariant-loop-i

@@ -1,6 +1,6 @@
 -- `line_feeds` meets its contract. The invariant: the LF counted and those to come are all.
-use Rattle.std.proofs.Common.{◌-◌, length, arith, rules}
-use Rattle.text.proofs.LineFeeds.{Counted, none-counted, part_counted, all_counted}
+use Rattle.std.proofs.Common.{arith}
+use Rattle.text.proofs.LineFeeds.{none-counted, part_counted, all_counted}
 use Rattle.text.proofs.line_feeds.Goals as goal
 
 pub loop-at-init : goal.loop-at-init

@@ -1,6 +1,6 @@
 -- `line_feeds` meets its contract. The invariant: the LF counted and those to come are all.
-use Rattle.std.proofs.Common.{◌-◌, length, arith, rules}
-use Rattle.text.proofs.LineFeeds.{Counted, none-counted, part_counted, all_counted}
+use Rattle.std.proofs.Common.{◌-◌, length}
+use Rattle.text.proofs.LineFeeds.{Counted}
 use Rattle.text.proofs.line_feeds.Given as goal
 
 abbrev pub invariant-loop-at : goal.invariant-loop-at

@@ -1,6 +1,6 @@
 -- `line_feeds_in` meets its contract. The invariant: the LF counted and those to come are all.
-use Rattle.std.proofs.Common.{◌-◌, length, inl, inr, rules}
-use Rattle.text.proofs.LineFeeds.{Counted, none-counted, byte_counted, all_counted}
+use Rattle.std.proofs.Common.{inl, inr}
+use Rattle.text.proofs.LineFeeds.{none-counted, byte_counted, all_counted}
 use Rattle.text.proofs.line_feeds_in.Goals as goal
 use Rattle.text.proofs.line_feeds_in.Goals.{then-part-i-eq10, else-part-i-eq10}
 

@@ -1,6 +1,6 @@
 -- `line_feeds_in` meets its contract. The invariant: the LF counted and those to come are all.
-use Rattle.std.proofs.Common.{◌-◌, length, inl, inr, ⊎_elim, rules}
-use Rattle.text.proofs.LineFeeds.{Counted, none-counted, byte_counted, all_counted}
+use Rattle.std.proofs.Common.{◌-◌, length}
+use Rattle.text.proofs.LineFeeds.{Counted}
 use Rattle.text.proofs.line_feeds_in.Given as goal
 
 abbrev pub invariant-loop-i : goal.invariant-loop-i

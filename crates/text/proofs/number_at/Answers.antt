@@ -1,5 +1,5 @@
 -- `number_at` meets its contract: a digit at least, a value up to the largest, and not too many digits.
-use Rattle.std.proofs.Common.{arith, rules}
+use Rattle.std.proofs.Common.{arith}
 use Rattle.text.proofs.NumberAt.{read_none, read_many, read_large, read_value}
 use Rattle.text.proofs.number_at.Goals as goal
 

@@ -1,6 +1,6 @@
 -- `reading_end` meets its contract: the smaller of two positions. The checker finds these proofs by itself too; they
 -- are written out so that a wrong end is refused here.
-use Rattle.std.proofs.Common.{arith, rules}
+use Rattle.std.proofs.Common.{arith}
 use Rattle.text.proofs.reading_end.Goals as goal
 
 pub returns-then-len-at : goal.returns-then-len-at

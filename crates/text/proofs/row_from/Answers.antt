@@ -1,6 +1,6 @@
 -- `row_from` meets its contract: one law for each way out of a turn.
-use Rattle.std.proofs.Common.{◌-◌, sym, ◌∙◌, arith, rules}
-use Rattle.text.proofs.ReadingRow.{ReadingRow, none_yet, row_fails, row-full, row_ends, row_goes_on}
+use Rattle.std.proofs.Common.{sym, ◌∙◌, arith}
+use Rattle.text.proofs.ReadingRow.{none_yet, row_fails, row-full, row_ends, row_goes_on}
 use Rattle.text.proofs.row_from.Goals as goal
 
 pub loop-count-init : goal.loop-count-init

@@ -1,6 +1,6 @@
 -- `row_from` meets its contract: one law for each way out of a turn.
-use Rattle.std.proofs.Common.{◌-◌, sym, ◌∙◌, arith, rules}
-use Rattle.text.proofs.ReadingRow.{ReadingRow, none_yet, row_fails, row-full, row_ends, row_goes_on}
+use Rattle.std.proofs.Common.{◌-◌}
+use Rattle.text.proofs.ReadingRow.{ReadingRow}
 use Rattle.text.proofs.row_from.Given as goal
 
 abbrev pub invariant-loop-count : goal.invariant-loop-count

@@ -1,5 +1,5 @@
 -- `three_from` meets its contract.
-use Rattle.std.proofs.Common.{[], ◌∷◌, sym, refl, ◌∙◌, rules}
+use Rattle.std.proofs.Common.{[], ◌∷◌, sym, refl, ◌∙◌}
 use Rattle.text.specs.Fields.{named}
 use Rattle.text.proofs.Fields.{none_read, end_read, full_read}
 use Rattle.text.proofs.three_from.Goals as goal

@@ -1,5 +1,5 @@
 -- `two_from` meets its contract.
-use Rattle.std.proofs.Common.{[], ◌∷◌, sym, refl, ◌∙◌, rules}
+use Rattle.std.proofs.Common.{[], ◌∷◌, sym, refl, ◌∙◌}
 use Rattle.text.specs.Fields.{named}
 use Rattle.text.proofs.Fields.{none_read, end_read, on_read}
 use Rattle.text.proofs.two_from.Goals as goal

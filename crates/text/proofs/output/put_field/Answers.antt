@@ -1,5 +1,5 @@
 -- `put_field` meets its contract: two writings in a row.
-use Rattle.std.proofs.Common.{arith, rules}
+use Rattle.std.proofs.Common.{arith}
 use Rattle.text.proofs.Row.{length-field, wrote_field}
 use Rattle.text.proofs.output.put_field.Goals as goal
 

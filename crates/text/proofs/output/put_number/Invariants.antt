@@ -1,15 +1,5 @@
 -- `put_number` meets its contract. The invariant: writing what is left gives the whole.
-use Rattle.std.proofs.Common.{arith, rules}
-use Rattle.text.proofs.Decimal.{some_digit}
-use Rattle.text.proofs.Writing.{
-  DigitsWritten,
-  none_written,
-  place_positive,
-  first_within,
-  one_written,
-  all_written,
-  digit_written,
-}
+use Rattle.text.proofs.Writing.{DigitsWritten}
 use Rattle.text.proofs.output.put_number.Given as goal
 
 abbrev pub invariant-loop-m : goal.invariant-loop-m
