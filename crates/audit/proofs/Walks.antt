@@ -3,7 +3,7 @@ use Prim.Native.Nat.{ℕ, zero, suc, ◌+◌, ◌-◌, ◌≤◌, ◌<◌}
 use mathlib.Core.Path.{◌≡◌, refl, sym, ◌∙◌}
 use mathlib.Core.Logic.{◌≢◌, ◌⊎◌, inl, inr}
 use mathlib.Core.List.{List, [], ◌∷◌}
-use mathlib.Core.Bool.{Bool, true, false, ◌&&◌, ◌||◌, and_comm, or_true, true≢false}
+use mathlib.Core.Bool.{Bool, true, false, ◌&&◌, ◌||◌, and_comm, or-true, true≢false}
 use native.Mathlib.Nat.{zero-add}
 use native.Mathlib.Numerals.{add-one}
 use native.Mathlib.Omega.{arith}
@@ -100,7 +100,7 @@ module _ (n : ℕ) (v : Values) (l : Siblings) where
   -- nothing is left of a list that has ended, or is too long
   rest_ended : (prev i x : ℕ) → rest_ok prev i x [] ≡ (eqb x none && eqb l.last prev)
   unfolding rest_ok links_ok head_or last_or child_ranks_ok
-  rest_ended prev i x = rw (or_true, and_true)
+  rest_ended prev i x = rw (or-true, and_true)
 
   -- the ways out of the walk, whose answer is a
   pub walk_refused : (j prev x a : ℕ) → j < n → x ≢ none → link_ok n v l prev (j + 1) x ≡ false

@@ -1,0 +1,6 @@
+-- `audit::sound` meets its contract.
+use borrow.Author.Rules.{rules}
+use Rattle.audit.proofs.sound.Goals as goal
+
+pub returns : goal.returns
+returns c = c.sound_in.ensures
