@@ -4,7 +4,7 @@
 
 // A list of siblings as its owner has it: the heap (1 + its number) and the parent that each item in it must name, and
 // the words that name its ends.
-#[derive(Drop)]
+#[derive(Clone, Copy)]
 pub struct Siblings {
     pub heap: usize,
     pub parent: usize,
