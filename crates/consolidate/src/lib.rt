@@ -25,7 +25,7 @@ use store::order::{lesser_of, precedes};
 use store::{NONE, Owner, append, concat, free_item, get, put, remove};
 
 // Two items of a heap in their order.
-#[derive(Drop)]
+#[derive(Clone, Copy)]
 struct Pair {
     first: u32,
     second: u32,
@@ -52,7 +52,7 @@ fn in_order(s: &[u32], n: usize, h: u32, a: u32, b: u32) -> Pair
 }
 
 // The links made so far in a row, which places are taken, and the places.
-#[derive(Drop)]
+#[derive(Clone, Copy)]
 struct Linked {
     links: u32,
     taken: u32,
@@ -239,7 +239,7 @@ fn consolidate(s: &mut [u32], n: usize, h: u32, tally: Tally) -> Tally
 }
 
 // The item that a call took out, its key, and the tally.
-#[derive(Drop)]
+#[derive(Clone, Copy)]
 pub struct Extracted {
     pub item: u32,
     pub key: u32,

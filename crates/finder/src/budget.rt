@@ -16,7 +16,7 @@ use spans::refusal::feed_code;
 use store::{NONE, make_empty};
 
 // What a feed call with a budget answers: what a full one does, and the number of places listed, 0 after a refusal.
-#[derive(Drop)]
+#[derive(Clone, Copy)]
 pub struct FedWithin {
     pub fed: Fed,
     pub listed: u32,

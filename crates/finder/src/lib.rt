@@ -20,7 +20,7 @@ pub mod budget;
 mod visit;
 
 // What a feed call answers: its code, and three figures, zeros after a refusal.
-#[derive(Drop)]
+#[derive(Clone, Copy)]
 pub struct Fed {
     pub code: u32,
     pub links: u32,

@@ -12,7 +12,7 @@ pub mod refusal;
 use rules::Tally;
 
 // A call's answer, with the tally after it.
-#[derive(Drop)]
+#[derive(Clone, Copy)]
 pub struct Reply {
     pub code: u32,
     pub item: u32,

@@ -67,7 +67,7 @@ fn call_of(letter: u8, numbers: Numbers) -> Line
 }
 
 // The call that a line yields, and how many bytes the line has.
-#[derive(Drop)]
+#[derive(Clone, Copy)]
 pub struct Parsed {
     pub line: Line,
     pub bytes: usize,

@@ -6,14 +6,14 @@ ghost use Rattle.lines.specs.LineAt.{line_at};
 use super::calls::parse;
 use rules::Line;
 
-#[derive(Drop)]
+#[derive(Clone, Copy)]
 pub struct LineReader<'a> {
     pub sheet: &'a [u8],
     pub at: usize,
 }
 
 // The line at a position: its call and where it ends, or that no line is left.
-#[derive(Drop)]
+#[derive(Clone, Copy)]
 pub enum NextLine {
     Found(Line, usize),
     NoMore,

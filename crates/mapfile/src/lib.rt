@@ -12,7 +12,7 @@ ghost use Rattle.mapfile.specs.Read.{Reads, HeadRead, SpansFit};
 use text::{NumberRow, line_end, number_at, row_from};
 
 // What reading a map answers: its code, and places, start, minute and number of spans, or four zeros after a refusal.
-#[derive(Drop)]
+#[derive(Clone, Copy)]
 pub struct MapRead {
     pub code: u32,
     pub places: u32,
@@ -22,7 +22,7 @@ pub struct MapRead {
 }
 
 // How many spans some lines hold, if each line is a span.
-#[derive(Drop)]
+#[derive(Clone, Copy)]
 pub enum Spans {
     Count(u32),
     Malformed,

@@ -16,7 +16,7 @@ use store::{NONE, items_of};
 
 // How far a search is: the places whose spans were tried, the places met, the spans examined, and the tally of its
 // queue calls.
-#[derive(Drop)]
+#[derive(Clone, Copy)]
 pub struct Progress {
     pub visited: u32,
     pub met: u32,

@@ -4,7 +4,7 @@
 ghost use Rattle.std.specs.Prelude.{◌≡◌, ◌+◌, ◌<◌, ◌≤◌};
 
 // A call on the queues: one of seven kinds, each with its own numbers.
-#[derive(Drop)]
+#[derive(Clone, Copy)]
 pub enum Call {
     Insert { heap: u32, item: u32, key: u32 },
     FindMin { heap: u32 },
@@ -16,14 +16,14 @@ pub enum Call {
 }
 
 // A line of a sheet: the call that it yields, or that it yields none and is refused.
-#[derive(Drop)]
+#[derive(Clone, Copy)]
 pub enum Line {
     Yields(Call),
     NoCall,
 }
 
 // What a line is answered. A refused line has its code and four zeros.
-#[derive(Drop)]
+#[derive(Clone, Copy)]
 pub struct Answer {
     pub code: u32,
     pub item: u32,
@@ -33,7 +33,7 @@ pub struct Answer {
 }
 
 // The kinds of words in a store: five to a heap, eight to an item.
-#[derive(Drop)]
+#[derive(Clone, Copy)]
 pub enum Field {
     FirstTree,
     LastTree,
@@ -59,7 +59,7 @@ pub enum Layout {
 }
 
 // The links and cuts that calls made, passed from call to call.
-#[derive(Drop)]
+#[derive(Clone, Copy)]
 pub struct Tally {
     pub links: u32,
     pub cuts: u32,

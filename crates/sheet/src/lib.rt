@@ -66,7 +66,7 @@ fn run_lines(store: &mut [u32], sheet: &[u8], out: &mut [u8]) -> usize
 // ---- runs
 
 // What a run answers: its code, 0 if it is done, the lines answered and the bytes written; two zeros after a refusal.
-#[derive(Drop)]
+#[derive(Clone, Copy)]
 pub struct Ran {
     pub code: u8,
     pub lines: u32,
@@ -74,7 +74,7 @@ pub struct Ran {
 }
 
 // The first of the codes 1 to 4 whose condition is met; else 0, the items of the store and the lines of the sheet.
-#[derive(Drop)]
+#[derive(Clone, Copy)]
 struct Checked {
     code: u8,
     items: usize,

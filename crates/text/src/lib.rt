@@ -12,14 +12,14 @@ pub mod output;
 // ---- numbers
 
 // A number and the position after it.
-#[derive(Drop)]
+#[derive(Clone, Copy)]
 pub enum Number {
     Value(u32, usize),
     Nothing,
 }
 
 // Where the digits that are read end, and their value.
-#[derive(Drop)]
+#[derive(Clone, Copy)]
 struct DigitRun {
     end: usize,
     value: u64,
@@ -80,7 +80,7 @@ pub fn number_at(s: &[u8], at: usize) -> Number
 // ---- fields
 
 // The numbers of a line; Other where it is no line of one to three numbers.
-#[derive(Drop)]
+#[derive(Clone, Copy)]
 pub enum Numbers {
     One(u32),
     Two(u32, u32),
@@ -89,7 +89,7 @@ pub enum Numbers {
 }
 
 // The numbers of a line, and where it ends; no end is given beside Other.
-#[derive(Drop)]
+#[derive(Clone, Copy)]
 pub struct LineRead {
     pub numbers: Numbers,
     pub end: usize,
@@ -176,7 +176,7 @@ pub fn numbers_from(s: &[u8], first: Number) -> LineRead
 
 // The numbers of a line, first to last, and zeros after them: `count` of them, or 0 where it is no line of one to five
 // numbers.
-#[derive(Drop)]
+#[derive(Clone, Copy)]
 pub struct NumberRow {
     pub count: usize,
     pub numbers: [u32; 5],
