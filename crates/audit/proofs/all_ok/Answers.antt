@@ -1,5 +1,4 @@
 -- `audit::all_ok` meets its contract.
-use borrow.Author.Rules.{rules}
 use lib.Dec.{eqb}
 use native.Mathlib.Omega.{arith}
 use Rattle.rules.specs.Words.{look_in}

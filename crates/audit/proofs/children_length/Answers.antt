@@ -1,5 +1,4 @@
 -- `audit::children_length` meets its contract.
-use borrow.Author.Rules.{rules}
 use native.Mathlib.Omega.{arith}
 use Rattle.rules.specs.Words.{look_in}
 use Rattle.audit.proofs.Walks.{walk_empty}

@@ -1,11 +1,9 @@
 -- `audit::counts` meets its contract.
-use Prim.Native.Nat.{◌-◌, ◌≤◌}
-use borrow.Author.Rules.{rules}
 use lib.Dec.{eqb}
 use mathlib.Core.Path.{◌≡◌, ap, ◌∙◌}
 use native.Mathlib.Omega.{arith}
 use Rattle.rules.specs.Words.{look_in}
-use Rattle.audit.proofs.Totals.{CountsTo, count_to, counts_start, counts_more, heap_index, indicators_bound}
+use Rattle.audit.proofs.Totals.{count_to, counts_start, counts_more, heap_index, indicators_bound}
 use Rattle.soundness.specs.Check.{heap_at, count_at}
 use Rattle.audit.proofs.counts.Goals as goal
 

@@ -1,6 +1,5 @@
 -- `audit::free_zero` meets its contract.
 use Rattle.soundness.specs.Check.{free_zero}
-use borrow.Author.Rules.{rules}
 use Rattle.audit.proofs.free_zero.Goals as goal
 
 pub returns : goal.returns

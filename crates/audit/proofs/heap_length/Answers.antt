@@ -1,5 +1,4 @@
 -- `audit::heap_length` meets its contract.
-use borrow.Author.Rules.{rules}
 use mathlib.Core.Bool.{true, false}
 use mathlib.Core.Path.{refl}
 use native.Mathlib.Omega.{arith}

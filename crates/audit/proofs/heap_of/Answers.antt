@@ -1,5 +1,4 @@
 -- `audit::heap_of` meets its contract.
-use borrow.Author.Rules.{rules}
 use native.Mathlib.Omega.{arith}
 use Rattle.soundness.proofs.States.{heap_half}
 use Rattle.audit.proofs.heap_of.Goals as goal

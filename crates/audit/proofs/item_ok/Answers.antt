@@ -1,7 +1,6 @@
 -- `audit::item_ok` meets its contract.
 use Prim.Native.Nat.{◌≤◌}
 use mathlib.Core.Path.{◌≡◌, ◌∙◌}
-use borrow.Author.Rules.{rules}
 use borrow.Author.Tests.{eq-eqb, ne_eqb, lt-leb}
 use native.Mathlib.Omega.{arith}
 use Rattle.rules.specs.Words.{look_in, place_in}

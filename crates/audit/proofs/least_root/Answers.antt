@@ -1,9 +1,8 @@
 -- `audit::least_root` meets its contract.
-use Prim.Native.Nat.{◌-◌, ◌≤◌}
 use mathlib.Core.Logic.{inl, inr}
 use native.Mathlib.Omega.{arith}
 use Rattle.rules.specs.Words.{look_in}
-use Rattle.audit.proofs.Least.{Passing, pass_start, pass_inside, pass_more, pass_ended}
+use Rattle.audit.proofs.Least.{pass_start, pass_inside, pass_more, pass_ended}
 use Rattle.audit.proofs.least_root.Goals as goal
 
 pub overflow_cast-h : goal.overflow_cast-h

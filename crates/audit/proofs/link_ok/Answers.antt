@@ -1,6 +1,5 @@
 -- `audit::link_ok` meets its contract.
 use Prim.Native.Nat.{◌<◌}
-use borrow.Author.Rules.{rules}
 use borrow.Author.Tests.{lt-ltb, le-ltb}
 use native.Mathlib.Omega.{arith}
 use Rattle.soundness.specs.Check.{heap_at, mark_at, names_owner, child_rank_ok}

@@ -1,6 +1,5 @@
 -- `audit::parent_ok` meets its contract.
 use Prim.Native.Nat.{◌<◌}
-use borrow.Author.Rules.{rules}
 use borrow.Author.Tests.{lt-ltb, le-ltb, eq-eqb, ne_eqb}
 use native.Mathlib.Omega.{arith}
 use Rattle.soundness.specs.Check.{heap_at, mark_at, root_unmarked, parent_in_heap, in_heap_order, parent_ok}

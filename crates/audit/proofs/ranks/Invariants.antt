@@ -1,16 +1,11 @@
 -- `audit::ranks` meets its contract.
 use Prim.Native.Nat.{◌*◌, ◌-◌, ◌≤◌}
-use borrow.Author.Rules.{rules}
 use mathlib.Core.Bool.{true}
-use mathlib.Core.Path.{◌≡◌, refl, sym, ap, ◌∙◌}
-use native.Mathlib.Omega.{arith}
+use mathlib.Core.Path.{◌≡◌}
 use Rattle.rules.specs.Lists.{sum_to}
 use Rattle.rules.specs.Words.{look_in}
 use Rattle.rules.specs.declared.Field.TheVariants.{Rank}
-use Rattle.soundness.proofs.Booleans.{told_true, told_false}
-use Rattle.audit.proofs.Results.{ok_is, ok_not}
-use Rattle.audit.proofs.Totals.{sum_to_more, all_to_more, all_to_not}
-use Rattle.soundness.specs.Check.{all_to, item_ok, ranks_at}
+use Rattle.soundness.specs.Check.{all_to, item_ok}
 use Rattle.audit.proofs.ranks.Given as goal
 
 abbrev pub invariant-loop-i : goal.invariant-loop-i

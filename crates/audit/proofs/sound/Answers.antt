@@ -1,5 +1,4 @@
 -- `audit::sound` meets its contract.
-use borrow.Author.Rules.{rules}
 use Rattle.audit.proofs.sound.Goals as goal
 
 pub returns : goal.returns

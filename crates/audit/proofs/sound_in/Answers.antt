@@ -1,8 +1,6 @@
 -- `audit::sound_in` meets its contract.
 use mathlib.Core.Path.{sym, ◌∙◌}
-use borrow.Author.Rules.{rules}
 use Rattle.store.proofs.Sizes.{store_sized}
-use Rattle.soundness.proofs.Booleans.{told_false, told_true}
 use Rattle.audit.proofs.Results.{sound_wrong, sound_all}
 use Rattle.audit.proofs.sound_in.Goals as goal
 

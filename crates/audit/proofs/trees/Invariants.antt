@@ -1,15 +1,11 @@
 -- `audit::trees` meets its contract.
-use Prim.Native.Nat.{◌+◌, ◌*◌, ◌-◌, ◌≤◌}
+use Prim.Native.Nat.{◌*◌, ◌-◌, ◌≤◌}
 use mathlib.Core.Bool.{true}
-use mathlib.Core.Path.{◌≡◌, refl, sym, ap, ◌∙◌}
+use mathlib.Core.Path.{◌≡◌}
 use lib.ListN.{length}
-use native.Mathlib.Numerals.{add-one}
-use native.Mathlib.Omega.{arith}
 use Rattle.rules.specs.Words.{look_in}
 use Rattle.rules.specs.Lists.{sum_to}
-use Rattle.audit.proofs.Results.{ok_is, ok_not, ok_zero, ok_more}
-use Rattle.audit.proofs.Totals.{sum_to_more, all_to_more, all_to_not}
-use Rattle.soundness.specs.Check.{all_to, row_at, list_at, heap_ok, trees_at}
+use Rattle.soundness.specs.Check.{all_to, row_at, list_at, heap_ok}
 use Rattle.audit.proofs.trees.Given as goal
 
 abbrev pub invariant-loop-h : goal.invariant-loop-h

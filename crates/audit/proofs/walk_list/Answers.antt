@@ -1,21 +1,11 @@
 -- `audit::walk_list` meets its contract.
-use Prim.Native.Nat.{◌+◌, ◌-◌, ◌≤◌}
-use borrow.Author.Rules.{rules}
-use mathlib.Core.Logic.{⊎_elim, inl, inr}
-use mathlib.Core.Path.{sym, ◌≡◌, ◌∙◌}
+use Prim.Native.Nat.{◌+◌}
+use mathlib.Core.Logic.{inl, inr}
+use mathlib.Core.Path.{sym, ◌∙◌}
 use native.Mathlib.Numerals.{add-one}
 use native.Mathlib.Omega.{arith}
 use Rattle.rules.specs.Words.{look_in}
-use Rattle.soundness.proofs.Booleans.{told_true, told_false}
-use Rattle.audit.specs.Promises.{length_if_ok}
-use Rattle.audit.proofs.Walks.{
-  length_from,
-  link_inside,
-  walk_start,
-  walk_refused,
-  walk_ended,
-  walk_more,
-}
+use Rattle.audit.proofs.Walks.{link_inside, walk_start, walk_refused, walk_ended, walk_more}
 use Rattle.audit.proofs.walk_list.Goals as goal
 use Rattle.audit.proofs.walk_list.Goals.{else-loop-j-test, then-loop-j-test+then-x-eq-NONE}
 
@@ -65,7 +55,7 @@ returns-then-x-l c =
     let e =
     walk_ended c.args.n v c.args.l c.loop-j.j c.loop-j.prev c.loop-j.x _
     (elim c.loop-j-test.branch [
-        else-loop-j-test w ↦ inl w.loop-j-test.false
+      | else-loop-j-test w ↦ inl w.loop-j-test.false
       | then-loop-j-test+then-x-eq-NONE w ↦ inr w.if-x-eq-NONE.true
     ]) c.loop-j.invariant.1 in
     record { is = add-one c.loop-j.j ∙ (rw c.if-x-l.true at e); most = omega arith }
@@ -76,7 +66,7 @@ returns-else-x-l c =
     let e =
     walk_ended c.args.n v c.args.l c.loop-j.j c.loop-j.prev c.loop-j.x _
     (elim c.loop-j-test.branch [
-        else-loop-j-test w ↦ inl w.loop-j-test.false
+      | else-loop-j-test w ↦ inl w.loop-j-test.false
       | then-loop-j-test+then-x-eq-NONE w ↦ inr w.if-x-eq-NONE.true
     ]) c.loop-j.invariant.1 in
     record { is = rw c.if-x-l.false at e; most = omega arith }

@@ -1,5 +1,4 @@
 -- `audit::word_at` meets its contract.
-use borrow.Author.Rules.{rules}
 use native.Mathlib.Omega.{arith}
 use Rattle.store.proofs.Says.{within_small}
 use Rattle.audit.proofs.word_at.Goals as goal
