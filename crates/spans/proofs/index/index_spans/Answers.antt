@@ -1,10 +1,7 @@
 -- `spans::index::index_spans` meets its contract. The invariant: the words up to u are those of the index.
-use Prim.Native.Nat.{◌-◌, ◌≤◌}
 use mathlib.Core.Path.{◌≡◌}
 use native.Mathlib.Omega.{arith}
-use borrow.Author.Rules.{rules}
-use lib.ListN.{length, length-set}
-use Rattle.spans.specs.Range.{FirstSpan, IsIndex}
+use lib.ListN.{length-set}
 use Rattle.spans.proofs.Range.{first_none, index_none, index_more}
 use Rattle.spans.proofs.index.index_spans.Goals as goal
 

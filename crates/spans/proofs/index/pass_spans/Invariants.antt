@@ -1,10 +1,6 @@
 -- `spans::index::pass_spans` meets its contract. The invariant: the spans below e leave places up to u.
 use Prim.Native.Nat.{ℕ, ◌+◌, ◌-◌, ◌≤◌, ◌<◌}
-use native.Mathlib.Omega.{arith}
-use borrow.Author.Count.{below_more}
-use borrow.Author.Rules.{rules}
 use lib.ListN.{length, get_or}
-use Rattle.spans.proofs.Range.{first_above}
 use Rattle.spans.proofs.index.pass_spans.Given as goal
 
 abbrev pub invariant-loop-e : goal.invariant-loop-e

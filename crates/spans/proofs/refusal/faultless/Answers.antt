@@ -1,13 +1,8 @@
 -- `spans::refusal::faultless` meets its contract. The invariant: `faulty` says whether a span below e is faulty, and
 -- `before` is where the span before e comes from.
-use Prim.Native.Nat.{ℕ, ◌-◌, ◌≤◌}
-use mathlib.Core.Path.{◌≡◌, refl}
-use mathlib.Core.Bool.{not}
+use mathlib.Core.Path.{refl}
 use native.Mathlib.Omega.{arith}
-use borrow.Author.Rules.{rules}
-use lib.ListN.{length}
-use lib.Dec.{eqb}
-use Rattle.paths.specs.Map.{span_lists, windows, at_minute}
+use Rattle.paths.specs.Map.{span_lists, windows}
 use Rattle.paths.specs.Codes.{previous, code_below}
 use Rattle.spans.proofs.SpansCode.{previous-next}
 use Rattle.spans.proofs.Faultless.{faulty_next, none_faulty}
@@ -17,24 +12,21 @@ pub loop-e-init : goal.loop-e-init
 unfolding previous code_below
 loop-e-init c = (omega arith, refl, λ minute. refl)
 
-abbrev lengths : (c : goal.In-loop-e) → goal.Start
-lengths c = c.before.before.before.before.before.before.before
-
 pub bounds-to-e : goal.bounds-to-e
 bounds-to-e c =
-    omega (arith, (lengths (goal.at.bounds-to-e c).In-loop-e).requires.to_n, c.loop-e-test.true)
+    omega (arith, c.requires.to_n, c.loop-e-test.true)
 
 pub bounds-loss-e : goal.bounds-loss-e
 bounds-loss-e c =
-    omega (arith, (lengths (goal.at.bounds-loss-e c).In-loop-e).requires.loss_n, c.loop-e-test.true)
+    omega (arith, c.requires.loss_n, c.loop-e-test.true)
 
 pub bounds-opens-e : goal.bounds-opens-e
 bounds-opens-e c =
-    omega (arith, (lengths (goal.at.bounds-opens-e c).In-loop-e).requires.opens_n, c.loop-e-test.true)
+    omega (arith, c.requires.opens_n, c.loop-e-test.true)
 
 pub bounds-closes-e : goal.bounds-closes-e
 bounds-closes-e c =
-    omega (arith, (lengths (goal.at.bounds-closes-e c).In-loop-e).requires.closes_n, c.loop-e-test.true)
+    omega (arith, c.requires.closes_n, c.loop-e-test.true)
 
 pub loop-e-preserved : goal.loop-e-preserved
 loop-e-preserved c = (

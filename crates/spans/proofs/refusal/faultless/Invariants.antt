@@ -1,16 +1,12 @@
 -- `spans::refusal::faultless` meets its contract. The invariant: `faulty` says whether a span below e is faulty, and
 -- `before` is where the span before e comes from.
 use Prim.Native.Nat.{ℕ, ◌-◌, ◌≤◌}
-use mathlib.Core.Path.{◌≡◌, refl}
+use mathlib.Core.Path.{◌≡◌}
 use mathlib.Core.Bool.{not}
-use native.Mathlib.Omega.{arith}
-use borrow.Author.Rules.{rules}
 use lib.ListN.{length}
 use lib.Dec.{eqb}
 use Rattle.paths.specs.Map.{span_lists, windows, at_minute}
 use Rattle.paths.specs.Codes.{previous, code_below}
-use Rattle.spans.proofs.SpansCode.{previous-next}
-use Rattle.spans.proofs.Faultless.{faulty_next, none_faulty}
 use Rattle.spans.proofs.refusal.faultless.Given as goal
 
 abbrev pub invariant-loop-e : goal.invariant-loop-e

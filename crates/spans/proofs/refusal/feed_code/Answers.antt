@@ -2,7 +2,6 @@
 use Rattle.paths.specs.Map.{span_lists, windows}
 use Rattle.paths.specs.Codes.{window_lists_fit}
 use Rattle.spans.proofs.FeedCodes.{few_places, one_length, code_early, code_late}
-use borrow.Author.Rules.{rules}
 use Rattle.spans.proofs.refusal.feed_code.Goals as goal
 
 pub returns-then-early-ne0 : goal.returns-then-early-ne0

@@ -1,11 +1,8 @@
 -- `spans::refusal::lowest_fault` meets its contract. The invariant: no span below e is faulty, and `before` is where
 -- the span before e comes from.
-use Prim.Native.Nat.{ℕ, ◌-◌, ◌≤◌}
-use mathlib.Core.Path.{◌≡◌, refl}
+use mathlib.Core.Path.{refl}
 use native.Mathlib.Omega.{arith}
-use borrow.Author.Rules.{rules}
-use lib.ListN.{length}
-use Rattle.paths.specs.Map.{span_lists, windows, at_minute}
+use Rattle.paths.specs.Map.{span_lists, windows}
 use Rattle.paths.specs.Codes.{previous, code_below}
 use Rattle.spans.proofs.SpansCode.{loop_on, loop_out, loop_ends, previous-next}
 use Rattle.spans.proofs.refusal.lowest_fault.Goals as goal
@@ -14,24 +11,21 @@ pub loop-e-init : goal.loop-e-init
 unfolding previous code_below
 loop-e-init c = (omega arith, refl, λ minute. refl)
 
-abbrev lengths : (c : goal.In-loop-e) → goal.Start
-lengths c = c.before.before.before.before.before.before.before
-
 pub bounds-to-e : goal.bounds-to-e
 bounds-to-e c =
-    omega (arith, (lengths (goal.at.bounds-to-e c).In-loop-e).requires.to_n, c.loop-e-test.true)
+    omega (arith, c.requires.to_n, c.loop-e-test.true)
 
 pub bounds-loss-e : goal.bounds-loss-e
 bounds-loss-e c =
-    omega (arith, (lengths (goal.at.bounds-loss-e c).In-loop-e).requires.loss_n, c.loop-e-test.true)
+    omega (arith, c.requires.loss_n, c.loop-e-test.true)
 
 pub bounds-opens-e : goal.bounds-opens-e
 bounds-opens-e c =
-    omega (arith, (lengths (goal.at.bounds-opens-e c).In-loop-e).requires.opens_n, c.loop-e-test.true)
+    omega (arith, c.requires.opens_n, c.loop-e-test.true)
 
 pub bounds-closes-e : goal.bounds-closes-e
 bounds-closes-e c =
-    omega (arith, (lengths (goal.at.bounds-closes-e c).In-loop-e).requires.closes_n, c.loop-e-test.true)
+    omega (arith, c.requires.closes_n, c.loop-e-test.true)
 
 pub returns-then-code-ne0 : goal.returns-then-code-ne0
 returns-then-code-ne0 c minute =

@@ -1,13 +1,10 @@
 -- `spans::refusal::lowest_fault` meets its contract. The invariant: no span below e is faulty, and `before` is where
 -- the span before e comes from.
 use Prim.Native.Nat.{ℕ, ◌-◌, ◌≤◌}
-use mathlib.Core.Path.{◌≡◌, refl}
-use native.Mathlib.Omega.{arith}
-use borrow.Author.Rules.{rules}
+use mathlib.Core.Path.{◌≡◌}
 use lib.ListN.{length}
 use Rattle.paths.specs.Map.{span_lists, windows, at_minute}
 use Rattle.paths.specs.Codes.{previous, code_below}
-use Rattle.spans.proofs.SpansCode.{loop_on, loop_out, loop_ends, previous-next}
 use Rattle.spans.proofs.refusal.lowest_fault.Given as goal
 
 abbrev pub invariant-loop-e : goal.invariant-loop-e

@@ -1,7 +1,6 @@
 -- `spans::refusal::result_lists_code` meets its contract.
 use mathlib.Core.Path.{sym, ◌∙◌}
 use borrow.Author.Tests.{eq-eqb, ne_eqb}
-use borrow.Author.Rules.{rules}
 use Rattle.spans.proofs.refusal.result_lists_code.Goals as goal
 
 -- All sizes fit. This return stands first: what it shows is false if a list of another length passes.

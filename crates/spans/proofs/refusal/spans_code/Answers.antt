@@ -1,6 +1,5 @@
 -- `spans::refusal::spans_code` meets its contract.
 use mathlib.Core.Path.{sym, ◌∙◌}
-use borrow.Author.Rules.{rules}
 use borrow.Author.Tests.{eqb-true}
 use Rattle.spans.proofs.refusal.spans_code.Goals as goal
 
