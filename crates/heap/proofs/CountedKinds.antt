@@ -70,9 +70,9 @@ module _ (amounts : ℕ → ℕ) {t : Forests} {h i : ℕ} (E : MayEnter t h i) 
       ∙ rw (ne_eqb i (minimum t h) (λ e. omega (arith, ap (heap_of t) e, E.free, r))) r
 
   module _ (fit : KeysFit new) where
-    key_in : (x : ℕ) → heap_of new x ≡ suc h → item_key h (word_but amounts (count t) (minimum t) new) x ≡ key_of new x
+    item_key_in : (x : ℕ) → heap_of new x ≡ suc h → item_key h (word_but amounts (count t) (minimum t) new) x ≡ key_of new x
     unfolding KeysFit word_but word
-    key_in x e = key_is _ amounts new h x refl refl e (fit x)
+    item_key_in x e = key_is _ amounts new h x refl refl e (fit x)
 
     pub item_counted-word : (n : ℕ) (f : Field) (j : ℕ) → j < field_size n f
         → item_counted h i (word_but amounts (count t) (minimum t) new) f j ≡ word amounts new f j
@@ -83,7 +83,7 @@ module _ (amounts : ℕ → ℕ) {t : Forests} {h i : ℕ} (E : MayEnter t h i) 
         → item_counted h i (word_but amounts (count t) (minimum t) new) f j ≡ word amounts new f j)
         (λ j l. ap (λ m. cond (eqb h j) m (minimum t j))
         (lesser_keys (item_key h (word_but amounts (count t) (minimum t) new)) (key_of new) (minimum t h) i
-        (λ m. key_in (minimum t h) (least_heap m)) (λ _. key_in i (new_heap i ∙ rw (eqb_self i))))
+        (λ m. item_key_in (minimum t h) (least_heap m)) (λ _. item_key_in i (new_heap i ∙ rw (eqb_self i))))
         ∙ least_word j)
         (λ j l. count_word j)
         (λ f o j l. let e = apart_from (Minimum ∷ Count ∷ []) f o in rw (e Minimum refl, e Count refl))

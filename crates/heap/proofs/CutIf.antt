@@ -1,6 +1,5 @@
 -- An item cut if a test says so, on words that hold forests: one law for each return.
-use Rattle.std.proofs.Common.{◌≡◌, ℕ, ◌<◌, Bool, true, false, not, ◌&&◌, ◌≢◌, List, sym, refl, ap, ◌∙◌, arith, ne_eqb}
-use borrow.Author.Tests.{not-true, not-false}
+use Rattle.std.proofs.Common.{◌≡◌, ℕ, ◌<◌, Bool, true, false, ◌&&◌, ◌≢◌, List, sym, refl, ap, ◌∙◌, arith, ne_eqb}
 use Rattle.rules.specs.declared.Field.TheVariants.{Parent}
 use Rattle.rules.specs.Calls.{has_parent}
 use Rattle.rules.specs.Cut.{cut_if, cut_out}
@@ -12,7 +11,6 @@ use Rattle.rules.proofs.Order.{before_keys}
 use Rattle.store.specs.Families.{Holds}
 use Rattle.store.specs.ItemOrder.{item_key}
 use Rattle.store.proofs.ItemOrder.{key_held}
-use Rattle.store.proofs.Ready.{member}
 use Rattle.cut.specs.Ready.{Cascaded, Child, Member}
 use Rattle.cut.proofs.Cutting.{member_heap, member_item, parent_word}
 
@@ -61,13 +59,13 @@ module _ {n : ℕ} {w : List ℕ} {amounts c m : ℕ → ℕ} {t : Forests} {h i
         ∙ ap (precedes t.key i) parent
 
     -- i does not come before its parent
-    pub later_kept : {b : Bool} → p ≢ none → b ≡ comes_before (item_key h (look n w)) i p → not b ≡ true
+    pub later_kept : {b : Bool} → p ≢ none → b ≡ comes_before (item_key h (look n w)) i p → b ≡ false
         → Cascaded n w amounts c m (cut_if (has_parent t i && precedes t.key i (parent_of t i)) h i t) 0
-    later_kept {b} z d f = kept (rw (has z) (sym (order z) ∙ sym d ∙ not-true b f))
+    later_kept {b} z d f = kept (rw (has z) (sym (order z) ∙ sym d ∙ f))
 
     -- it does
     pub before_cut : {b : Bool} {w' : List ℕ} {r : ℕ} → p ≢ none → b ≡ comes_before (item_key h (look n w)) i p
-        → not b ≡ false → Cascaded n w' amounts c m (cut_out h i t) r
+        → b ≡ true → Cascaded n w' amounts c m (cut_out h i t) r
         → Cascaded n w' amounts c m (cut_if (has_parent t i && precedes t.key i (parent_of t i)) h i t) r
     unfolding cut_if
-    before_cut {b} z d f k = rw (has z, ← order z, ← d, not-false b f) k
+    before_cut {b} z d f k = rw (has z, ← order z, ← d, f) k

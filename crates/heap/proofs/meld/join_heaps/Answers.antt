@@ -1,0 +1,29 @@
+-- `heap::meld::join_heaps` meets its contract.
+use Rattle.std.proofs.Common.{sym, subst, arith}
+use Rattle.store.specs.Siblings.{Link}
+use Rattle.heap.proofs.JoiningHeaps.{join_heaps_changes}
+use Rattle.heap.proofs.meld.join_heaps.Goals as goal
+
+pub lesser_of-least-requires : goal.lesser_of-least-requires
+lesser_of-least-requires c =
+    record {
+      h_bound = c.requires.rows.heaps.into;
+      two_items = record {
+        sized = c.requires.rows.heaps.sized;
+        one = subst (Link c.args.n) (sym c.get-p.ensures) c.requires.one;
+        two = subst (Link c.args.n) (sym c.get-q.ensures) c.requires.two;
+      };
+    }
+
+pub overflow_add-c : goal.overflow_add-c
+overflow_add-c c =
+    omega (arith, c.get-c.ensures, c.get-d.ensures, c.requires.count)
+
+pub put-requires-2 : goal.put-requires-2
+put-requires-2 c =
+    record { sized = c.put.ensures.sized; inside = c.requires.rows.heaps.into }
+
+pub returns : goal.returns
+returns c =
+    join_heaps_changes c.requires c.get-c.ensures c.get-d.ensures c.get-p.ensures c.get-q.ensures
+    c.lesser_of-least.ensures c.join_rows.ensures c.put.ensures c.put-2.ensures

@@ -1,0 +1,27 @@
+-- `heap::perform::melded` meets its contract.
+use Rattle.std.proofs.Common.{arith}
+use Rattle.heap.proofs.MeldWords.{counts_fit, move_items_ready}
+use Rattle.heap.proofs.Answered.{melded_performed}
+use Rattle.heap.proofs.perform.melded.Goals as goal
+
+pub get-c-requires : goal.get-c-requires
+get-c-requires c =
+    let H = move_items_ready c.requires.allowed in
+    record { sized = H.sized; inside = H.into }
+
+pub get-d-requires : goal.get-d-requires
+get-d-requires c =
+    let H = move_items_ready c.requires.allowed in
+    record { sized = H.sized; inside = H.from }
+
+pub meld-requires : goal.meld-requires
+meld-requires c =
+    c.requires.allowed
+
+pub overflow_add-c : goal.overflow_add-c
+overflow_add-c c =
+    omega (arith, c.get-c.ensures, c.get-d.ensures, counts_fit c.requires.allowed)
+
+pub returns : goal.returns
+returns c =
+    melded_performed c.requires c.get-c.ensures c.get-d.ensures c.meld.ensures c.answer.ensures
