@@ -12,7 +12,6 @@ use Rattle.rules.specs.Words.{Sound, encode, queues_of, forests_of, items_in}
 use Rattle.rules.proofs.SoundWords.{queues_encode, sound_encode, sound_forests}
 use Rattle.soundness.specs.Check.{sound_words}
 use Rattle.store.specs.Says.{Sized}
-use Rattle.text.specs.Lines.{lines}
 use Rattle.lines.specs.Parse.{lines_of}
 use Rattle.lines.specs.Print.{printed}
 use Rattle.lines.proofs.InRange.{lines_range}
