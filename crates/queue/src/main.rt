@@ -4,7 +4,8 @@
 ghost use Rattle.std.specs.Prelude.{◌≤◌, length};
 ghost use Rattle.queue.specs.Shown.{Shows, program_run};
 
-use libc::{STDIN_FILENO, STDOUT_FILENO};
+use input::read_full;
+use std::io;
 
 // Runs a sheet for 1,024 items, on words of its own. Leaves in `out` what the program prints, and returns the number of
 // its bytes.
@@ -22,10 +23,10 @@ fn answer_sheet(sheet: &[u8], out: &mut [u8]) -> usize
 }
 
 // A sheet of 60,001 bytes is one byte too long; 64,000 bytes are room for the answers of 2,000 lines.
-fn main() {
+fn main(rt: HostRuntime) -> io::Result<()> {
     let mut sheet = [0u8; 60001];
-    let read = io::read_full(STDIN_FILENO, &mut sheet);
+    let read = read_full(&mut rt.stdin(), &mut sheet)?;
     let mut out = [0u8; 64000];
     let bytes = answer_sheet(&sheet[..read], &mut out);
-    io::write_all(STDOUT_FILENO, &out[..bytes]);
+    rt.write_all(&out[..bytes])
 }
