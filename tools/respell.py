@@ -15,8 +15,38 @@ LIBRARY = set("length set get_or take drop replicate append map sum reverse cond
 BESIDE = re.compile(r"--.*|Rattle(?:\.[^\s.{}]+)+")
 # names that two things have which stand apart: a field and a lemma, a local lemma and a definition
 APART = {"same_code", "key_in"}
-# a lemma that the port's own scripts gave the name of a definition
-LEMMAS = {"count_at": "count_at_lem"}
+# a lemma that the port's own scripts gave the name of a definition; names that are not declared on a line of their own,
+# or that name a word of the library by its older name
+LEMMAS = {
+    "count_at": "count_at_lem",
+    "sumBy": "sum_by",
+    "tabulateFrom": "tabulate_from",
+    "listedN": "listed_n",
+    "storeN": "store_n",
+    "lentWindows": "lent_windows",
+    "lentPlaces": "lent_places",
+    "lentList": "lent_list",
+    "outA": "out_a",
+    "outB": "out_b",
+    "outAB": "out_ab",
+    "nI": "n_i",
+    "nT": "n_t",
+    "nD": "n_d",
+    "cutFree": "cut_free",
+    "rowDue": "row_due",
+    "childDue": "child_due",
+    "beforeParent": "before_parent",
+    "getD-all": "get_or_all",
+    "getD-any": "get_or_any",
+    "get_d_any": "get_or_any",
+    "getD-flatten": "get_or_flatten",
+    "getD-from": "get_or_from",
+    "getD-set": "get_or_set",
+    "get_d_set": "get_or_set",
+    "getD-tabulate": "get_or_tabulate",
+    "get_d_tabulate": "get_or_tabulate",
+}
+COMMENT = re.compile(r"(?m)(?:--|//).*$")
 RESERVED = set("record data open in as use mod pub let elim where module unfolding abbrev result entry exit now old new".split())
 
 
@@ -103,8 +133,23 @@ def main():
         # an edit's text stands in the older spelling of the names that the port's own scripts turned, too
         return new.get(w) or (snake(w) if w != snake(w) and snake(w) in turned else w)
 
+    def name(m):
+        return new.get(m.group(0), m.group(0))
+
+    def in_comment(m):
+        # a dash in plain words is no name's
+        parts = re.split(r"(`[^`]*`)", m.group(0))
+        plain = [WORD.sub(lambda w: w.group(0) if "-" in w.group(0) else name(w), p) for p in parts[::2]]
+        parts[::2] = plain
+        parts[1::2] = [WORD.sub(name, p) for p in parts[1::2]]
+        return "".join(parts)
+
     for path in files((".antt", ".rt")):
-        write(path, WORD.sub(lambda m: new.get(m.group(0), m.group(0)), read(path)))
+        text, to, at = read(path), "", 0
+        for m in COMMENT.finditer(text):
+            to += WORD.sub(name, text[at : m.start()]) + in_comment(m)
+            at = m.end()
+        write(path, to + WORD.sub(name, text[at:]))
     for path in files((".edit",)):
         write(path, WORD.sub(lambda m: word(m.group(0)), read(path)))
     for path in PAGES:

@@ -8,7 +8,7 @@ use native.Mathlib.Omega.{arith}
 use lib.Dec.{eqb}
 use borrow.Author.Tests.{eqb-true, eqb-false, eq-eqb, ne_eqb}
 use Rattle.rules.specs.declared.Field.TheVariants.{FirstTree}
-use Rattle.rules.specs.Lists.{sumBy, occurs}
+use Rattle.rules.specs.Lists.{sum_by, occurs}
 use Rattle.rules.specs.Forests.{none}
 use Rattle.rules.specs.Order.{comes_before, lesser, precedes, least_of, least_in, minimum}
 use Rattle.rules.specs.Words.{follow, list_from, decode_forests}
@@ -55,7 +55,7 @@ module _ (n : ℕ) (v : Values) (h : ℕ) where
 
   -- the item that comes next is in the heap
   pub pass_inside : (j least x : ℕ) → j < n → x ≢ none → Passing j least x → InHeap x
-  unfolding occurs sumBy
+  unfolding occurs sum_by
   pass_inside j least x k m P = P.inside x (rw (one_more n v j x k m) (omega (arith, delta_self x)))
 
   lesser_inside : (a b : ℕ) → (a ≢ none → InHeap a) → InHeap b → InHeap (lesser key a b)
@@ -95,7 +95,7 @@ module _ (n : ℕ) (v : Values) (h : ℕ) where
 
   pub pass_more : n ≤ 4096 → (j least x : ℕ) → j < n → x ≢ none → Passing j least x
       → Passing (j + 1) (lesser key least x) (next n v x)
-  unfolding occurs sumBy
+  unfolding occurs sum_by
   pass_more small j least x k m P =
       let o = one_more n v j x k m in
       let i = pass_inside j least x k m P in

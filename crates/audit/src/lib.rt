@@ -1,4 +1,4 @@
-//! The check of a store: are its words, in the given order, those of well_formed queues? It reads words alone and keeps
+//! The check of a store: are its words, in the given order, those of well-formed queues? It reads words alone and keeps
 //! no list. Its time grows with the number of items: an item passes in one list only, the one that its own words name.
 #![tactic(auto)]
 

@@ -12,7 +12,7 @@ use borrow.Author.Tests.{ne_eqb}
 use Rattle.rules.specs.declared.Field.TheVariants.{Next}
 use Rattle.rules.specs.Consolidate.{Linking, climb, is_free, link, loser, occupied, winner}
 use Rattle.rules.specs.Forests.{Forests, none, parent_of, rank_of, set_row, table_size}
-use Rattle.rules.specs.Lists.{occurs, sumBy}
+use Rattle.rules.specs.Lists.{occurs, sum_by}
 use Rattle.rules.specs.Order.{comes_before, precedes}
 use Rattle.rules.specs.WellFormed.{KeysFit}
 use Rattle.rules.specs.Words.{look}
@@ -85,7 +85,7 @@ module _ {n h base : ℕ} {rest : List ℕ} {amounts : ℕ → ℕ} {goal : Link
 
     -- a tree to come is a root after the link too, so it is not the loser
     not_second : (y : ℕ) → 1 ≤ occurs y rest → y ≢ second
-    unfolding link occurs sumBy
+    unfolding link occurs sum_by
     not_second y i q =
         not_none (set_row h ρ t) H.formed.disjoint first
         (omega (arith, G.state.beside.size, first_inside G e z))

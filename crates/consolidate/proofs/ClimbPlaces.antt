@@ -11,7 +11,7 @@ use lib.Seq.{get_or-set_other}
 use borrow.Author.Tests.{eqb-true, eqb-false}
 use Rattle.rules.specs.Consolidate.{Linking}
 use Rattle.rules.specs.Forests.{none, rank_of}
-use Rattle.rules.proofs.Default.{get_d_any}
+use Rattle.rules.proofs.Default.{get_or_any}
 use Rattle.linking_places.specs.Places.{without}
 use Rattle.linking_places.specs.Taken.{taken_of, TakenAt}
 use Rattle.linking_places.proofs.Left.{leaves_one}
@@ -66,7 +66,7 @@ module _ {n h base : ℕ} {rest : List ℕ} {amounts : ℕ → ℕ} {goal : Link
       where
         rank_at : (i : ℕ) → i < length ps → get_or ps i 0 ≡ get_or ps r 0 → rank_of G.here (get_or ps i 0) ≡ i
         rank_at i k q =
-            let z = get_d_any ps i 0 none k in
+            let z = get_or_any ps i 0 none k in
             ap (rank_of G.here) z ∙ G.state.placed i (λ f. d (sym q ∙ z ∙ f))
 
     pub holder_leaves : {ps' : List ℕ} → ps' ≡ without y ps → ps' ≡ set ps r none

@@ -10,7 +10,7 @@ use Rattle.rules.specs.Consolidate.{Linking, climb, is_free, occupied}
 use Rattle.rules.specs.Forests.{Forests, none, rank_of, set_row}
 use Rattle.rules.specs.WellFormed.{KeysFit}
 use Rattle.rules.specs.Words.{look}
-use Rattle.rules.proofs.Default.{get_d_any}
+use Rattle.rules.proofs.Default.{get_or_any}
 use Rattle.rules.proofs.ConsolidateKeeps.{Held, rank_low, held_put, x_heap}
 use Rattle.rules.proofs.Excused.{to_formed, well_formed}
 use Rattle.consolidate.specs.Consolidating.{Consolidating, Climbed, climb_tree}
@@ -84,7 +84,7 @@ module _ {n h base : ℕ} {rest : List ℕ} {amounts : ℕ → ℕ} {goal : Link
   tree_inside = omega (arith, G.state.beside.size, x_heap h hh ps rest x t H)
 
   pub place_at : {a : ℕ} → a ≡ get_or ps r 0 → a ≡ get_or ps r none
-  place_at e = e ∙ get_d_any ps r 0 none (omega (arith, G.state.long, rank_inside))
+  place_at e = e ∙ get_or_any ps r 0 none (omega (arith, G.state.long, rank_inside))
 
   -- ---- the place is free
 

@@ -34,7 +34,7 @@ use Rattle.store.specs.ItemOrder.{item_key}
 use Rattle.store.specs.Says.{Changes, Says}
 use Rattle.store.proofs.AmountStored.{settled}
 use Rattle.store.proofs.Encoded.{encode-holds, words_say}
-use Rattle.store.proofs.SetAt.{get_d_set}
+use Rattle.store.proofs.SetAt.{get_or_set}
 use Rattle.consolidate.specs.Consolidating.{Consolidated, ConsolidateReady, Consolidates}
 use Rattle.consolidate.specs.Extract.{ExtractReady, Performs}
 use Rattle.consolidate.specs.Removed.{DetachesRoot, RootOf, RootReady}
@@ -110,7 +110,7 @@ module _ {n h links : ℕ} {w : List ℕ} (P : ExtractReady n w h links) where
     detach_ready =
         record { least = minimum t h; amounts = amount_of q; forests = t; rowed = sound_rowed; rooted = rooted }
 
-    -- the forests without the minimum are well_formed
+    -- the forests without the minimum are well-formed
     keys_fit : KeysFit (remove_root h x t)
     unfolding KeysFit remove_root set_free release
     keys_fit = by_item x
@@ -177,7 +177,7 @@ module _ {n h links : ℕ} {w : List ℕ} (P : ExtractReady n w h links) where
                 ≡ cond (eqb h g) (cond (eqb (count next h) 0) 0 (amount_of q h)) (amount_of q g)
             go true e =
                 let z : count next h ≡ 0 = omega (arith, eqb-true (count t h) 1 e, one) in
-                rw z (get_d_set q.amounts h g 0 0 (omega (arith, queues.amounts8, heap_inside)))
+                rw z (get_or_set q.amounts h g 0 0 (omega (arith, queues.amounts8, heap_inside)))
             go false e =
                 rw (ne_eqb (count next h) 0 (λ z. eqb-false (count t h) 1 e (omega (arith, z, one))))
                 (sym (cond_own (amount_of q) h g))

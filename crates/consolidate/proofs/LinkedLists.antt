@@ -7,7 +7,7 @@ use mathlib.Core.Bool.{Bool, true, false, cond}
 use native.Mathlib.Omega.{arith}
 use lib.Dec.{eqb}
 use borrow.Author.Tests.{eqb-true, eqb-false, ne_eqb}
-use Rattle.rules.specs.Lists.{delta, occurs, sumBy, without}
+use Rattle.rules.specs.Lists.{delta, occurs, sum_by, without}
 use Rattle.rules.specs.Forests.{none}
 use Rattle.rules.specs.Words.{head_or, last_or, next_in, prev_in}
 use Rattle.rules.proofs.Occurs.{by_item, eqb_self, delta_self, delta_other, occurs-append, occurs_one, occurs-without}
@@ -44,13 +44,13 @@ last_apart y [] n k e = n (sym e)
 last_apart y (z ∷ zs) n k e = omega (arith, last_in z zs, ap (λ q. occurs q (z ∷ zs)) e)
 
 pub head_apart : (y : ℕ) (l : List ℕ) → y ≢ none → occurs y l ≡ 0 → head_or none l ≢ y
-unfolding head_or occurs sumBy
+unfolding head_or occurs sum_by
 head_apart y [] n k e = n (sym e)
 head_apart y (z ∷ zs) n k e = omega (arith, delta_self y, ap (delta y) e)
 
 -- a list without a first is empty
 pub head_none : (l : List ℕ) → occurs none l ≡ 0 → head_or none l ≡ none → l ≡ []
-unfolding head_or occurs sumBy
+unfolding head_or occurs sum_by
 head_none [] n e = refl
 head_none (z ∷ zs) n e = absurd (omega (arith, delta_self none, ap (delta none) e))
 
@@ -127,7 +127,7 @@ module _ {f l a b : ℕ} {nx pv : ℕ → ℕ} (m k : List ℕ) (c : LinkedList 
 
 -- a list of one item
 alone : (x : ℕ) (nx pv : ℕ → ℕ) → nx x ≡ none → pv x ≡ none → LinkedList x x nx pv (x ∷ [])
-unfolding head_or last_or next_in prev_in occurs sumBy
+unfolding head_or last_or next_in prev_in occurs sum_by
 alone x nx pv e q =
     record {
       front = refl;

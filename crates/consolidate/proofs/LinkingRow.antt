@@ -9,7 +9,7 @@ use borrow.Author.Tests.{ne_eqb}
 use Rattle.rules.specs.declared.Field.TheVariants.{FirstTree, Next}
 use Rattle.rules.specs.Consolidate.{Linking, is_free, link_trees, occupied}
 use Rattle.rules.specs.Forests.{Forests, none, rank_of, row_of, set_row}
-use Rattle.rules.specs.Lists.{occurs, sumBy}
+use Rattle.rules.specs.Lists.{occurs, sum_by}
 use Rattle.rules.specs.WellFormed.{KeysFit, WellFormed}
 use Rattle.rules.specs.Words.{follow, head_or, look, next_in}
 use Rattle.rules.proofs.ConsolidateKeeps.{held_start}
@@ -118,13 +118,13 @@ module _ {n h base : ℕ} {amounts : ℕ → ℕ} {goal : Linking} {w ps : List 
     whole_state = rw first.is at G.state
 
     pub walk_inside : x < n
-    unfolding occurs sumBy
+    unfolding occurs sum_by
     walk_inside = comes_inside whole_state x (omega (arith, delta_self x))
 
     -- it is released, and its link is not needed any more
     climbing : {w₁ : List ℕ} → Changes n w (released_one h x) w₁
         → Consolidating n h w₁ ps (x ∷ first.tail) first.tail amounts G.here
-    unfolding occurs released sumBy next_in
+    unfolding occurs released sum_by next_in
     climbing r =
         let C = whole_state in
         record {
@@ -160,7 +160,7 @@ module _ {n h base : ℕ} {amounts : ℕ → ℕ} {goal : Linking} {w ps : List 
 
     pub walk_step : {w₁ w' ps' : List ℕ} {x' links' : ℕ} → x' ≡ look n w Next x → Changes n w (released_one h x) w₁
         → Climbs n h w₁ ps x links w' ps' links' → Step w' ps' x' links'
-    unfolding Climbs climb_tree link_trees next_in occurs sumBy
+    unfolding Climbs climb_tree link_trees next_in occurs sum_by
     walk_step {ps' = ps'} e r f =
         let S = f base G.made amounts G.here first.tail (climbing r) G.tallied in
         let L : Linking = climb_tree ps G.made G.here x in

@@ -19,7 +19,7 @@ use Rattle.rules.specs.declared.Field.TheVariants.{
   State,
 }
 use Rattle.rules.specs.Forests.{none}
-use Rattle.rules.specs.Lists.{delta, occurs, sumBy}
+use Rattle.rules.specs.Lists.{delta, occurs, sum_by}
 use Rattle.rules.specs.Kinds.{Apart}
 use Rattle.rules.proofs.ByKind.{apart_from}
 use Rattle.rules.proofs.Occurs.{delta_self, delta_other, eqb_self}
@@ -151,7 +151,7 @@ released_other h (c ∷ cs) v f i o =
 
 pub released_out : (h : ℕ) (cs : List ℕ) (v : Values) (f : Field) (i : ℕ) → occurs i cs ≡ 0
     → released h cs v f i ≡ v f i
-unfolding released occurs sumBy
+unfolding released occurs sum_by
 released_out h [] v f i n = refl
 released_out h (c ∷ cs) v f i n =
     released_out h cs (released_one h c v) f i (omega arith)
@@ -172,7 +172,7 @@ released_stays h (c ∷ cs) v i e =
 
 pub released_in : (h : ℕ) (cs : List ℕ) (v : Values) (i : ℕ) → 1 ≤ occurs i cs
     → (released h cs v Parent i ≡ none) × (released h cs v State i ≡ 1 + 2 * h)
-unfolding released occurs sumBy
+unfolding released occurs sum_by
 released_in h [] v i n = absurd (omega arith)
 released_in h (c ∷ cs) v i n =
     go (eqb c i) refl (released_in h cs (released_one h c v) i)

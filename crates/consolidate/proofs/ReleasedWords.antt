@@ -10,7 +10,7 @@ use borrow.Author.Tests.{eqb-true, leb-false, leb-true, ne_eqb}
 use Rattle.rules.specs.declared.Field.{Field}
 use Rattle.rules.specs.declared.Field.TheVariants.{Count, Parent, State}
 use Rattle.rules.specs.Forests.{Forests, none, heap_of, mark_of, parent_of}
-use Rattle.rules.specs.Lists.{occurs, sumBy}
+use Rattle.rules.specs.Lists.{occurs, sum_by}
 use Rattle.rules.specs.SetWord.{set_word}
 use Rattle.rules.specs.Words.{state_of, word}
 use Rattle.rules.proofs.ByKind.{also, apart_from, apart_some, by_kinds, by_others}
@@ -57,7 +57,7 @@ Before h c g v f = (i : ℕ) → released_one h c (g v) f i ≡ g (released_one 
 all_released : (h : ℕ) (g : Values → Values) (cs : List ℕ)
     → ((c : ℕ) → 1 ≤ occurs c cs → (v : Values) → released_one h c (g v) ≡ g (released_one h c v))
     → (v : Values) → released h cs (g v) ≡ g (released h cs v)
-unfolding released occurs sumBy
+unfolding released occurs sum_by
 all_released h g [] k v = refl
 all_released h g (c ∷ cs) k v =
     ap (released h cs) (k c (omega (arith, delta_self c)) v)
@@ -142,7 +142,7 @@ module _ {n h : ℕ} {amounts : ℕ → ℕ} {t : Forests} where
 
   roots_released : (ρ : List ℕ) → ((y : ℕ) → 1 ≤ occurs y ρ → Root h t y)
       → {v : Values} → Beside n h v amounts t → Beside n h (released h ρ v) amounts t
-  unfolding released occurs sumBy
+  unfolding released occurs sum_by
   roots_released [] r B = B
   roots_released (y ∷ ρ) r B =
       roots_released ρ (λ z i. r z (omega arith)) (root_released B y (r y (omega (arith, delta_self y))))

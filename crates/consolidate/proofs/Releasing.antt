@@ -5,7 +5,7 @@ use mathlib.Core.List.{List, [], ◌∷◌}
 use native.Mathlib.Omega.{arith}
 use borrow.Author.Tests.{ne_eqb}
 use Rattle.rules.specs.declared.Field.TheVariants.{Next}
-use Rattle.rules.specs.Lists.{occurs, sumBy}
+use Rattle.rules.specs.Lists.{occurs, sum_by}
 use Rattle.rules.specs.Words.{head_or, look, next_in}
 use Rattle.rules.proofs.Occurs.{delta_self, eqb_self}
 use Rattle.rules.proofs.Siblings.{head_out, once_tail}
@@ -27,7 +27,7 @@ release_starts {n} h {w} {cs} L =
 
 module _ {n h : ℕ} {start cs w : List ℕ} {c k : ℕ} (G : Releasing n h start cs w c k) where
   some : (l : List ℕ) → 0 < k → ListFrom n w c k l → 1 ≤ occurs c l
-  unfolding occurs sumBy head_or
+  unfolding occurs sum_by head_or
   some [] m L = absurd (omega (arith, L.long))
   some (y ∷ l) m L = rw L.first (omega (arith, delta_self y))
 
@@ -53,7 +53,7 @@ module _ {n h : ℕ} {start cs w : List ℕ} {c k : ℕ} (G : Releasing n h star
 
     -- one fewer is listed
     next_list : (y : ℕ) (l : List ℕ) → ListFrom n w c k (y ∷ l) → c ≡ y → ListFrom n w₁ c' k' l
-    unfolding occurs sumBy next_in
+    unfolding occurs sum_by next_in
     next_list y l L z =
         let i : y < n = L.inside y (omega (arith, delta_self y)) in
         record {

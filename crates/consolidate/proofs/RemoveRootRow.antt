@@ -10,7 +10,7 @@ use borrow.Author.Tests.{eqb-true, eqb-false, ne_eqb}
 use Rattle.rules.specs.declared.Field.TheVariants.{FirstTree, LastTree, FirstChild, LastChild, Next, Prev}
 use Rattle.rules.specs.Calls.{remove_root, set_free, release}
 use Rattle.rules.specs.Forests.{Forests, none, row_of, children_of, table_size}
-use Rattle.rules.specs.Lists.{occurs, sumBy, without}
+use Rattle.rules.specs.Lists.{occurs, sum_by, without}
 use Rattle.rules.specs.WellFormed.{Disjoint}
 use Rattle.rules.proofs.Members.{heap_in, root_row, root_child, child_parent}
 use Rattle.rules.proofs.Occurs.{eqb_self, delta_self, delta_other, occurs-append, occurs-without}
@@ -73,7 +73,7 @@ module _ {n h m : ℕ} {w : List ℕ} {amounts : ℕ → ℕ} {t : Forests} (R :
 
   -- whoever is not in the row keeps its links when x leaves it, and when the children are released
   out_links : (y : ℕ) → y ≢ none → occurs y row ≡ 0 → (v₁ Next y ≡ v Next y) × (v₁ Prev y ≡ v Prev y)
-  unfolding occurs sumBy
+  unfolding occurs sum_by
   out_links y s k =
       let i : 1 ≤ occurs x row = omega (arith, x_row) in
       let p : v Prev x ≢ y =

@@ -6,7 +6,7 @@ use native.Mathlib.Omega.{arith}
 use Rattle.rules.specs.declared.Field.TheVariants.{Count, FirstChild, LastChild, LastTree, Minimum, Next, Prev, Rank}
 use Rattle.rules.specs.Calls.{remove_root, set_free, release}
 use Rattle.rules.specs.Forests.{Forests, none, children_of, row_of}
-use Rattle.rules.specs.Lists.{occurs, sumBy, without}
+use Rattle.rules.specs.Lists.{occurs, sum_by, without}
 use Rattle.rules.specs.SetWord.{set_word}
 use Rattle.rules.specs.Words.{last_or, look, next_in, prev_in}
 use Rattle.rules.proofs.ConcatLinks.{next_behind}
@@ -58,7 +58,7 @@ module _ {n h m : ℕ} {w : List ℕ} {amounts : ℕ → ℕ} {t : Forests} (R :
       omega (arith, R.beside.size)
 
   pub remove_ready : RemoveReady n w (Row h) x
-  unfolding RankFalls occurs sumBy
+  unfolding RankFalls occurs sum_by
   remove_ready =
       let i : 1 ≤ occurs x (row_of t h) =
       omega (arith, x_row R O) in

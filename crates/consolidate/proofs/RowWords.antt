@@ -17,7 +17,7 @@ use Rattle.rules.specs.declared.Field.TheVariants.{
   Prev,
 }
 use Rattle.rules.specs.Forests.{Forests, none, row_of, children_of, parent_of, heap_of, set_row, table_size}
-use Rattle.rules.specs.Lists.{delta, occurs, sumBy}
+use Rattle.rules.specs.Lists.{delta, occurs, sum_by}
 use Rattle.rules.specs.Order.{minimum}
 use Rattle.rules.specs.SetWord.{set_word}
 use Rattle.rules.specs.WellFormed.{Disjoint}
@@ -91,7 +91,7 @@ module _ {n h : ℕ} {v : Values} {amounts : ℕ → ℕ} {t : Forests} (D : Dis
 
   -- who is in the row: written, x, or to come
   in_row_lem : (y : ℕ) → occurs y (row_of t h) ≡ occurs y m + delta y x + occurs y k
-  unfolding occurs sumBy
+  unfolding occurs sum_by
   in_row_lem y = rw e (omega (arith, occurs-append y m (x ∷ k)))
 
   x_root : (heap_of t x ≡ suc h) × (parent_of t x ≡ none)

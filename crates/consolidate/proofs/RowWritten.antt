@@ -13,7 +13,7 @@ use borrow.Author.Tests.{eqb-false}
 use Rattle.rules.specs.declared.Field.TheVariants.{FirstTree, LastTree, Minimum}
 use Rattle.rules.specs.Consolidate.{occupied}
 use Rattle.rules.specs.Forests.{Forests, none, row_of, set_row}
-use Rattle.rules.specs.Lists.{occurs, sumBy}
+use Rattle.rules.specs.Lists.{occurs, sum_by}
 use Rattle.rules.specs.Order.{least_in, minimum}
 use Rattle.rules.specs.SetWord.{set_word}
 use Rattle.rules.specs.WellFormed.{Disjoint, KeysFit, WellFormed}
@@ -70,7 +70,7 @@ module _ {n h : ℕ} {w ps : List ℕ} {amounts : ℕ → ℕ} {t : Forests} (C 
   -- an empty row
   pub writing_starts : {w₁ w₂ : List ℕ} → Changes n w (set_word FirstTree h none) w₁
       → Changes n w₁ (set_word LastTree h none) w₂ → WritingRow n h w₂ [] none amounts (set_row h (occupied ps) t)
-  unfolding head_or last_or least_in occurs released sumBy
+  unfolding head_or last_or least_in occurs released sum_by
   writing_starts a b =
       record {
         values = set_word LastTree h none (set_word FirstTree h none C.values);

@@ -8,7 +8,7 @@ use borrow.Author.Tests.{ne_eqb}
 use Rattle.rules.specs.declared.Field.TheVariants.{LastTree}
 use Rattle.rules.specs.Consolidate.{occupied}
 use Rattle.rules.specs.Forests.{Forests, none, heap_of, key_of, parent_of, row_of}
-use Rattle.rules.specs.Lists.{occurs, sumBy}
+use Rattle.rules.specs.Lists.{occurs, sum_by}
 use Rattle.rules.specs.Order.{least_in, least_of, lesser}
 use Rattle.rules.specs.Words.{look}
 use Rattle.rules.proofs.LeastOfTwo.{least_append, lesser_keys}
@@ -62,7 +62,7 @@ module _ {n h m x : ℕ} {w written rest : List ℕ} {amounts : ℕ → ℕ} {t 
     split = rw (ne_eqb x none s) at C.row
 
     x_root : (heap_of t x ≡ suc h) × (parent_of t x ≡ none)
-    unfolding occurs sumBy
+    unfolding occurs sum_by
     x_root =
         row_root t C.disjoint h x (rw split (omega (arith, occurs-append x written (x ∷ rest), delta_self x)))
 

@@ -30,11 +30,11 @@ use Rattle.feed.specs.Shown.{
 use Rattle.feed.proofs.Fields.{code_within}
 
 -- the spans read fit the lists
-pub spans_read : (text : List ℕ) (lent : SpanLists) (lentWindows : Windows) {ans : MapRead} {left : SpanLists}
-    {left_windows : Windows} → Reads (read_map text lent lentWindows) ans left left_windows
+pub spans_read : (text : List ℕ) (lent : SpanLists) (lent_windows : Windows) {ans : MapRead} {left : SpanLists}
+    {left_windows : Windows} → Reads (read_map text lent lent_windows) ans left left_windows
     → ReadFits (record { answer = ans; left = left; left_windows = left_windows })
-spans_read text lent lentWindows R =
-    let F = read_fits text lent lentWindows in
+spans_read text lent lent_windows R =
+    let F = read_fits text lent lent_windows in
     rw (R.answer_is, R.left_is, R.windows_are)
     (record {
       in_from = F.in_from;

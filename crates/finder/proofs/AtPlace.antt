@@ -11,7 +11,7 @@ use borrow.Author.Tests.{eqb-true, eqb-false}
 use Rattle.rules.specs.declared.Call.TheVariants.{Insert, DecreaseKey}
 use Rattle.rules.specs.Forests.{none}
 use Rattle.rules.specs.Answers.{refusal}
-use Rattle.rules.proofs.Default.{get_d_any}
+use Rattle.rules.proofs.Default.{get_or_any}
 use Rattle.paths.specs.Map.{Map, spans}
 use Rattle.paths.specs.Queue.{Stop}
 use Rattle.paths.specs.Search.{Search, tried, extracted, steps, best_at, joints_at}
@@ -91,7 +91,7 @@ module _
   in_joints = omega (arith, ap length K.tracks.joints_is, between_turns.invariant.joints_n, place_in)
 
   pub hops_is : get_or l₀.joints u 0 ≡ joints_at before u
-  hops_is = get_d_any l₀.joints u 0 none in_joints ∙ ap (λ j. get_or j u none) K.tracks.joints_is
+  hops_is = get_or_any l₀.joints u 0 none in_joints ∙ ap (λ j. get_or j u none) K.tracks.joints_is
 
   pub hops-small : get_or l₀.joints u 0 ≤ 4096000000
   hops-small =

@@ -6,14 +6,14 @@ use native.Mathlib.Omega.{arith}
 use lib.ListN.{length, set, replicate, length-replicate}
 use Rattle.rules.specs.declared.Call.TheVariants.{Insert}
 use Rattle.rules.specs.declared.Tally.{Tally}
-use Rattle.rules.specs.Lists.{sumBy}
+use Rattle.rules.specs.Lists.{sum_by}
 use Rattle.rules.specs.Forests.{none, empty}
 use Rattle.rules.specs.Answers.{answers, after}
 use Rattle.rules.specs.Queues.{empty_queues, after_call}
 use Rattle.rules.specs.Unraised.{is_raise}
 use Rattle.rules.specs.WellFormed.{WellFormed}
 use Rattle.rules.specs.Words.{encode, items_in, queues_of}
-use Rattle.rules.proofs.EmptyForests.{get_d_all, empty_well_formed}
+use Rattle.rules.proofs.EmptyForests.{get_or_all, empty_well_formed}
 use Rattle.rules.proofs.SoundWords.{items-encode, sound_encode}
 use Rattle.rules.proofs.Sums.{sum_by_set}
 use Rattle.rules.proofs.UnraisedWords.{unraised_formed}
@@ -40,7 +40,7 @@ module _
   formed = empty_well_formed places R.sized.small
 
   none_logged : Logged places [] store₁ no_call
-  unfolding after links_of cuts_of answers sumBy
+  unfolding after links_of cuts_of answers sum_by
   none_logged = record { words = empties; links = refl; cuts = refl }
 
   start_in_lem : start < length {A = ℕ} (replicate places 0)
@@ -60,7 +60,7 @@ module _
         done =
             rw (logged_forests places [] store₁ no_call none_logged formed)
             (zero_allowed (empty places) (Insert 0 start 0)
-            (insert_does (empty places) _ _ refl refl start 0 start_in_lem (get_d_all {A = ℕ} places start 0)).code);
+            (insert_does (empty places) _ _ refl refl start 0 start_in_lem (get_or_all {A = ℕ} places start 0)).code);
       }
 
   -- after the insertion the code stands where the search begins
@@ -87,7 +87,7 @@ module _
                     arith,
                     sum_by_set (λ w. w) (replicate places 0) start 1 0 start_in_lem,
                     sum_zeros places,
-                    get_d_all {A = ℕ} places start 0,
+                    get_or_all {A = ℕ} places start 0,
                   );
             };
       }

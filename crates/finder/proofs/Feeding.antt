@@ -42,15 +42,15 @@ module _ (limit : Limit) (m : Map) (lent : ResultLists) where
       rw (T.logged.links, T.logged.cuts, T.examined_is ∙ examined_shown limit m A, b, e, j)
 
 -- code 0: the map is accepted, and what was lent has the right sizes
-pub code_fits : (m : Map) (best_n last_n joints_n listedN storeN code : ℕ)
-    → code ≡ feed_code m best_n last_n joints_n listedN storeN → code ≡ 0 → Fits m best_n last_n joints_n listedN storeN
-code_fits m best_n last_n joints_n listedN storeN code is z =
-    code_zero.only m best_n last_n joints_n listedN storeN (sym is ∙ z)
+pub code_fits : (m : Map) (best_n last_n joints_n listed_n store_n code : ℕ)
+    → code ≡ feed_code m best_n last_n joints_n listed_n store_n → code ≡ 0 → Fits m best_n last_n joints_n listed_n store_n
+code_fits m best_n last_n joints_n listed_n store_n code is z =
+    code_zero.only m best_n last_n joints_n listed_n store_n (sym is ∙ z)
 
-pub begins : (m : Map) (lent : ResultLists) (listedN code : ℕ) → code ≡ code_for m lent listedN → code ≡ 0
+pub begins : (m : Map) (lent : ResultLists) (listed_n code : ℕ) → code ≡ code_for m lent listed_n → code ≡ 0
     → BeginReady m.places m.start lent
-begins m lent listedN code is z =
-    let F = code_fits m _ _ _ listedN _ code is z in
+begins m lent listed_n code is z =
+    let F = code_fits m _ _ _ listed_n _ code is z in
     record {
       start_in = F.accepted.start_in;
       best_n = F.best;

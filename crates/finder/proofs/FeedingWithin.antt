@@ -23,8 +23,8 @@ use Rattle.finder.proofs.Feeding.{fed-refused, fed-done, code_fits}
 use Rattle.finder.proofs.WaitsBeyond.{hidden_best, hidden_last, hidden_joints}
 
 -- the search begins with no place listed
-pub list_ready : (budget : ℕ) {m : Map} {best_n last_n joints_n storeN : ℕ} {listed : List ℕ}
-    → Fits m best_n last_n joints_n (length listed) storeN → {l : ResultLists} {r : Progress}
+pub list_ready : (budget : ℕ) {m : Map} {best_n last_n joints_n store_n : ℕ} {listed : List ℕ}
+    → Fits m best_n last_n joints_n (length listed) store_n → {l : ResultLists} {r : Progress}
     → Begun m.places m.start l r → ListReady budget m l listed r
 list_ready budget F G =
     record {
@@ -49,34 +49,34 @@ module _
   empty_ready = logged_sized (beyond (up_to budget)) m A m.places F.found.tracks.logged
 
 module _
-    (budget : ℕ) (m : Map) (lent : ResultLists) (lentList : List ℕ) (code : ℕ)
-    (is : code ≡ code_for m lent (length lentList)) where
+    (budget : ℕ) (m : Map) (lent : ResultLists) (lent_list : List ℕ) (code : ℕ)
+    (is : code ≡ code_for m lent (length lent_list)) where
   -- the result by the code
-  result_is : budget_result budget m lent lentList ≡ budget_as code budget m lent lentList
+  result_is : budget_result budget m lent lent_list ≡ budget_as code budget m lent lent_list
   unfolding budget_result
   result_is = rw (sym is)
 
   pub within_refused : code ≢ 0
-      → budget_feed_of (record { fed = refused_fed code; listed = 0 }) lent lentList ≡ budget_result budget m lent lentList
+      → budget_feed_of (record { fed = refused_fed code; listed = 0 }) lent lent_list ≡ budget_result budget m lent lent_list
   unfolding budget_as
   within_refused n = go code n ∙ sym result_is
     where
       go : (c : ℕ) → c ≢ 0
-          → budget_feed_of (record { fed = refused_fed c; listed = 0 }) lent lentList ≡ budget_as c budget m lent lentList
+          → budget_feed_of (record { fed = refused_fed c; listed = 0 }) lent lent_list ≡ budget_as c budget m lent lent_list
       go zero n = absurd (n refl)
       go (suc c) n = rw (fed-refused (up_to budget) m lent (suc c) n)
 
   pub within_done : code ≡ 0 → (l : ResultLists) (listed : List ℕ) (r : Progress)
-      → FoundListed budget m lentList l listed r → (left : ResultLists)
+      → FoundListed budget m lent_list l listed r → (left : ResultLists)
       → Hidden budget l.best l.last l.joints left.best left.last left.joints
       → left.store ≡ encode (empty_queues m.places)
       → budget_feed_of (record { fed = done_fed r; listed = r.visited }) left listed
-      ≡ budget_result budget m lent lentList
+      ≡ budget_result budget m lent lent_list
   unfolding budget_as
   within_done z l listed r F left H e =
-      let A = (code_fits m _ _ _ (length lentList) _ code is z).accepted in
+      let A = (code_fits m _ _ _ (length lent_list) _ code is z).accepted in
       let T = F.found.tracks in
-      let w = result_is ∙ ap (λ c. budget_as c budget m lent lentList) z in
+      let w = result_is ∙ ap (λ c. budget_as c budget m lent lent_list) z in
       let fed : feed_of (done_fed r) left ≡ feed_as 0 (up_to budget) m lent =
       rw e
       (fed-done (up_to budget) m lent A l r F.found left.best left.last left.joints

@@ -10,7 +10,7 @@ use Rattle.rules.specs.Forests.{none}
 use Rattle.rules.specs.Order.{minimum}
 use Rattle.rules.specs.Answers.{refusal}
 use Rattle.rules.specs.Words.{items_in, forests_of}
-use Rattle.rules.proofs.Default.{get_d_any}
+use Rattle.rules.proofs.Default.{get_or_any}
 use Rattle.store.proofs.Sizes.{sized_items}
 use Rattle.heap.specs.Allowed.{MayMove}
 use Rattle.paths.specs.Map.{Map}
@@ -84,7 +84,7 @@ module _ {stop : Stop} {m : Map} {l : ResultLists} {go : Progress} (S : Stands s
       first_read = rw best_n first_in
 
       pub first_loss : get_or l.best u 0 ≡ best_at s u
-      first_loss = get_d_any l.best u 0 none first_read ∙ ap (λ b. get_or b u none) S.tracks.best_is
+      first_loss = get_or_any l.best u 0 none first_read ∙ ap (λ b. get_or b u none) S.tracks.best_is
 
       -- by the key that it waits with, which is its loss
       next_is : next stop s.queue ≡ cond (stop (get_or l.best u 0)) halts (takes u)

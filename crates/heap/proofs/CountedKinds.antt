@@ -16,7 +16,7 @@ use Rattle.rules.proofs.Occurs.{delta_other, eqb_self, occurs_one}
 use Rattle.store.specs.Families.{word_but}
 use Rattle.store.specs.ItemOrder.{item_key}
 use Rattle.store.proofs.ItemOrder.{key_is}
-use Rattle.store.proofs.SetAt.{get_d_set}
+use Rattle.store.proofs.SetAt.{get_or_set}
 use Rattle.store.proofs.ListMembers.{none_row}
 use Rattle.consolidate.proofs.WritingRow.{least_in_lem}
 use Rattle.heap.specs.Entered.{item_counted}
@@ -43,7 +43,7 @@ module _ (amounts : ℕ → ℕ) {t : Forests} {h i : ℕ} (E : MayEnter t h i) 
   least_word : (g : ℕ) → cond (eqb h g) (lesser (key_of new) (minimum t h) i) (minimum t g) ≡ minimum new g
   unfolding minimum insert least_in least_of
   least_word g =
-      rw (get_d_set t.rows h g (row_of t h ++ (i ∷ [])) [] (omega (arith, D.rows8, E.heap))) (go (eqb h g) refl)
+      rw (get_or_set t.rows h g (row_of t h ++ (i ∷ [])) [] (omega (arith, D.rows8, E.heap))) (go (eqb h g) refl)
     where
       key' : List ℕ
       key' = set t.key i k
@@ -60,7 +60,7 @@ module _ (amounts : ℕ → ℕ) {t : Forests} {h i : ℕ} (E : MayEnter t h i) 
   -- i and the minimum before it are items of h
   new_heap : (j : ℕ) → heap_of new j ≡ cond (eqb i j) (suc h) (heap_of t j)
   unfolding insert
-  new_heap j = get_d_set t.heap i j (suc h) 0 E.inside
+  new_heap j = get_or_set t.heap i j (suc h) 0 E.inside
 
   least_heap : minimum t h ≢ none → heap_of new (minimum t h) ≡ suc h
   unfolding minimum

@@ -9,7 +9,7 @@ use Rattle.rules.specs.Answers.{answer, unless_refused}
 use Rattle.rules.specs.Calls.{decrease_key, has_parent, perform}
 use Rattle.rules.specs.Cut.{cut_if}
 use Rattle.rules.specs.Forests.{Forests, count, heap_number, heap_of, key_of, none, parent_of, set_key}
-use Rattle.rules.specs.Lists.{sumBy}
+use Rattle.rules.specs.Lists.{sum_by}
 use Rattle.rules.specs.Order.{lesser, minimum, precedes}
 use Rattle.rules.specs.Queues.{amount_of, amounts_after_call}
 use Rattle.rules.specs.SetWord.{set_word}
@@ -62,7 +62,7 @@ module _ {w : List ℕ} {n i k : ℕ} {tally : Tally} (P : MayMove w n (Decrease
   F : Formed (forests_of w)
   F = to_formed (forests_of w) W
 
-  -- with its new key i may come before its parent: the forests are well_formed but for that
+  -- with its new key i may come before its parent: the forests are well-formed but for that
   lowered : FormedBut i exact (set_key i k (forests_of w))
   lowered = key_formed (forests_of w) W.disjoint i k ok.0 ok.1 F.ordered F.ranked
 
@@ -167,7 +167,7 @@ module _ {w : List ℕ} {n i k : ℕ} {tally : Tally} (P : MayMove w n (Decrease
         unfolding count
         words =
             holds-encode (minimum-holds holds h l d)
-            (λ g _. ap (λ v. sumBy (λ x. cond (eqb x (suc g)) 1 0) v) (sym (decrease_heap i k t))) minima
+            (λ g _. ap (λ v. sum_by (λ x. cond (eqb x (suc g)) 1 0) v) (sym (decrease_heap i k t))) minima
 
         pub decrease_moves : {u : Tally} → u.links ≡ tally.links → u.cuts ≡ tally.cuts + r
             → Moves (queues_of w) (DecreaseKey i k) tally u w₃

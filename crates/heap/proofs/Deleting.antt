@@ -6,7 +6,7 @@ use Rattle.rules.specs.declared.Tally.{Tally}
 use Rattle.rules.specs.Answers.{is_empty, refusal}
 use Rattle.rules.specs.Calls.{Outcome, delete, delete_as, extract, perform}
 use Rattle.rules.specs.Forests.{Forests, heap_number, row_of}
-use Rattle.rules.specs.Lists.{occurs, sumBy}
+use Rattle.rules.specs.Lists.{occurs, sum_by}
 use Rattle.rules.specs.Order.{minimum}
 use Rattle.rules.specs.Queues.{amounts_after_call, amounts_left}
 use Rattle.rules.specs.Words.{encode, forests_of, look, queues_of}
@@ -33,7 +33,7 @@ module _ {w : List ℕ} {n i : ℕ} {tally : Tally} (P : MayMove w n (Delete i) 
 
   -- T is allowed: the heap of i is not empty
   pub as_extract : {h : ℕ} → h ≡ own → MayMove w n (ExtractMin h) tally
-  unfolding refusal is_empty occurs sumBy
+  unfolding refusal is_empty occurs sum_by
   as_extract e =
       record {
         allowed = record { store = P.allowed.store; done = rw e (go (row_of t own) least_in_lem) };

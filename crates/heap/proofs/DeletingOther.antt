@@ -7,7 +7,7 @@ use Rattle.rules.specs.Answers.{answer, unless_refused}
 use Rattle.rules.specs.Calls.{Outcome, delete, delete_as, done, has_parent, perform, release, remove_root, set_free}
 use Rattle.rules.specs.Cut.{Cuts, cut_if}
 use Rattle.rules.specs.Forests.{Forests, count, heap_number, heap_of, key_of, none, parent_of}
-use Rattle.rules.specs.Lists.{sumBy}
+use Rattle.rules.specs.Lists.{sum_by}
 use Rattle.rules.specs.Order.{minimum}
 use Rattle.rules.specs.Queues.{amount_of, amounts_after_call, amounts_left}
 use Rattle.rules.specs.Theorems.{InRange}
@@ -89,7 +89,7 @@ module _ {w : List ℕ} {n h i : ℕ} {tally : Tally} (P : DeleteOther w n h i t
     unfolding count
     rowed =
         holds_rowed (amount_of (queues_of w)) c.forests U.disjoint h cutted.holds
-        (λ g _. ap (λ v. sumBy (λ x. cond (eqb x (suc g)) 1 0) v) (sym heaps)) (λ g _ _. kept g)
+        (λ g _. ap (λ v. sum_by (λ x. cond (eqb x (suc g)) 1 0) v) (sym heaps)) (λ g _ _. kept g)
 
     rooted : RootOf c.forests h i
     unfolding cut_if

@@ -38,7 +38,7 @@ use Rattle.rules.proofs.SiblingLists.{once_row}
 use Rattle.store.specs.Families.{Family, list_of, with_links, owner_of, word_but}
 use Rattle.store.specs.ItemOrder.{key_stored}
 use Rattle.store.specs.Says.{Values}
-use Rattle.store.proofs.SetAt.{get_d_set}
+use Rattle.store.proofs.SetAt.{get_or_set}
 use Rattle.store.proofs.KeptWords.{kept_but}
 use Rattle.heap.specs.Entered.{entered}
 
@@ -61,7 +61,7 @@ module _ (amounts : ℕ → ℕ) {t : Forests} {h i : ℕ} (E : MayEnter t h i) 
   old = word_but amounts (count t) (minimum t) t
 
   heap_at_lem : (j : ℕ) → heap_of between j ≡ cond (eqb i j) (suc h) (heap_of t j)
-  heap_at_lem j = get_d_set t.heap i j (suc h) 0 E.inside
+  heap_at_lem j = get_or_set t.heap i j (suc h) 0 E.inside
 
   -- a word that i gets, and all others have
   enters : (x z j : ℕ) → (i ≡ j → z ≡ x) → cond (eqb i j) x (unless_free t j z) ≡ unless_free between j z
@@ -107,7 +107,7 @@ module _ (amounts : ℕ → ℕ) {t : Forests} {h i : ℕ} (E : MayEnter t h i) 
       → cond (eqb i j) (key_word (amounts h) k) (unless_free t j (key_word (amounts (heap_number t j)) (key_of t j)))
       ≡ unless_free between j (key_word (amounts (heap_number between j)) (key_of between j))
   unfolding unless_free
-  key j = rw (heap_at_lem j, get_d_set t.key i j k 0 (omega (arith, D.key_n, E.inside))) (go (eqb i j) refl)
+  key j = rw (heap_at_lem j, get_or_set t.key i j k 0 (omega (arith, D.key_n, E.inside))) (go (eqb i j) refl)
     where
       go : (b : Bool) → eqb i j ≡ b
           → cond b (key_word (amounts h) k)

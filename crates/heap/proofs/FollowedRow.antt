@@ -5,7 +5,7 @@ use Rattle.rules.specs.declared.Field.TheVariants.{FirstTree, LastTree, Next, Pr
 use Rattle.store.specs.declared.Owner.TheVariants.{Row}
 use Rattle.rules.specs.Forests.{Forests, none, row_of}
 use Rattle.rules.specs.Kinds.{Apart}
-use Rattle.rules.specs.Lists.{occurs, sumBy}
+use Rattle.rules.specs.Lists.{occurs, sum_by}
 use Rattle.rules.specs.WellFormed.{Disjoint}
 use Rattle.rules.specs.Words.{head_or, last_or, next_in, prev_in}
 use Rattle.rules.proofs.ConcatLinks.{head_concat, last_concat, next_before, prev_behind, prev_first}
@@ -36,7 +36,7 @@ at_self f a g = go (eqb a g) refl
     go false e = refl
 
 head_in : (z : ℕ) (zs : List ℕ) → 1 ≤ occurs z (z ∷ zs)
-unfolding occurs sumBy
+unfolding occurs sum_by
 head_in z zs = omega (arith, delta_self z)
 
 -- v has the ends of the rows of t

@@ -8,7 +8,7 @@ use Rattle.rules.specs.Lists.{occurs}
 use Rattle.rules.specs.WellFormed.{Disjoint}
 use Rattle.rules.specs.Words.{siblings, unless_free}
 use Rattle.rules.proofs.Occurs.{and_false, eqb_self}
-use Rattle.store.proofs.SetAt.{get_d_set}
+use Rattle.store.proofs.SetAt.{get_or_set}
 use Rattle.heap.proofs.MovedHeaps.{free_stays, heap_stays}
 
 -- a and b are two of the heaps
@@ -33,9 +33,9 @@ module _ {t : Forests} {a b : ℕ} (H : TwoHeaps t a b) where
   pub row-at : (g : ℕ) → row_of new g ≡ cond (eqb b g) [] (cond (eqb a g) (row_of t a ++ row_of t b) (row_of t g))
   unfolding meld
   row-at g =
-      get_d_set (set t.rows a (row_of t a ++ row_of t b)) b g [] []
+      get_or_set (set t.rows a (row_of t a ++ row_of t b)) b g [] []
       (omega (arith, length-set t.rows a (row_of t a ++ row_of t b), D.rows8, H.from))
-      ∙ ap (cond (eqb b g) []) (get_d_set t.rows a g (row_of t a ++ row_of t b) [] (omega (arith, D.rows8, H.into)))
+      ∙ ap (cond (eqb b g) []) (get_or_set t.rows a g (row_of t a ++ row_of t b) [] (omega (arith, D.rows8, H.into)))
 
   -- whoever is free was so before
   pub free_at : (j z : ℕ) → unless_free new j z ≡ unless_free t j z

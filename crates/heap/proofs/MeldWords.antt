@@ -13,7 +13,7 @@ use Rattle.rules.proofs.Refusals.{meld_ok}
 use Rattle.store.specs.Says.{Changes, Says}
 use Rattle.store.specs.Siblings.{Link}
 use Rattle.store.proofs.Says.{says_as}
-use Rattle.store.proofs.SetAt.{get_d_set}
+use Rattle.store.proofs.SetAt.{get_or_set}
 use Rattle.heap.specs.Allowed.{Allowed}
 use Rattle.heap.specs.HeapsJoined.{JoinHeapsReady, MoveItemsReady, heaps_joined, items_moved, states_moved}
 use Rattle.heap.proofs.MeldKinds.{melded_word}
@@ -48,7 +48,7 @@ module _ {w : List ℕ} {n a b : ℕ} (A : Allowed w n (Meld a b)) where
   emptied : (g : ℕ) → amount_of next g ≡ cond (eqb b g) 0 (amount_of (queues_of w) g)
   unfolding amounts_after_call
   emptied g =
-      get_d_set (queues_of w).amounts b g 0 0 (omega (arith, (queues A.store).amounts8, ok.1))
+      get_or_set (queues_of w).amounts b g 0 0 (omega (arith, (queues A.store).amounts8, ok.1))
 
   -- a link read is one of the forests
   link_n : (x y : ℕ) → x ≡ y → Link (table_size t) y → Link n x

@@ -2,7 +2,7 @@
 use Rattle.std.proofs.Common.{◌≡◌, ℕ, zero, suc, ◌+◌, ◌*◌, ◌≤◌, Bool, true, false, cond, eqb, ◌≢◌, List, [], ◌∷◌, map, sym, refl, ap, ◌∙◌, arith, eq-eqb, ne_eqb, eqb-true}
 use borrow.Author.Tests.{eqb-false}
 use Rattle.rules.specs.Calls.{move_heap}
-use Rattle.rules.specs.Lists.{indicator, sumBy}
+use Rattle.rules.specs.Lists.{indicator, sum_by}
 use Rattle.rules.specs.Words.{state_of}
 use Rattle.rules.proofs.Occurs.{by_item, eqb_self}
 use Rattle.heap.specs.HeapsJoined.{moved_state}
@@ -65,14 +65,14 @@ module _ (a b g : ℕ) (n : g ≢ a) where
       (λ y m. rw (heap_stays a b y m))
 
   pub counts_move : (l : List ℕ)
-      → sumBy (λ v. indicator (eqb v (suc g))) (map (move_heap a b) l)
-      ≡ cond (eqb b g) 0 (sumBy (λ v. indicator (eqb v (suc g))) l)
-  unfolding sumBy
+      → sum_by (λ v. indicator (eqb v (suc g))) (map (move_heap a b) l)
+      ≡ cond (eqb b g) 0 (sum_by (λ v. indicator (eqb v (suc g))) l)
+  unfolding sum_by
   counts_move l = go (eqb b g) refl l
     where
       go : (t : Bool) → eqb b g ≡ t → (l : List ℕ)
-          → sumBy (λ v. indicator (eqb v (suc g))) (map (move_heap a b) l)
-          ≡ cond t 0 (sumBy (λ v. indicator (eqb v (suc g))) l)
+          → sum_by (λ v. indicator (eqb v (suc g))) (map (move_heap a b) l)
+          ≡ cond t 0 (sum_by (λ v. indicator (eqb v (suc g))) l)
       go true e [] = refl
       go true e (x ∷ l) = omega (arith, one_moves true e x, go true e l)
       go false e [] = refl

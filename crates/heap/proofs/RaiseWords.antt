@@ -21,7 +21,7 @@ use Rattle.rules.proofs.Refusals.{raise_ok}
 use Rattle.store.specs.Says.{Changes, Says}
 use Rattle.store.proofs.AmountStored.{amount_stored}
 use Rattle.store.proofs.Says.{says_as}
-use Rattle.store.proofs.SetAt.{get_d_set}
+use Rattle.store.proofs.SetAt.{get_or_set}
 use Rattle.heap.specs.Allowed.{Allowed}
 use Rattle.heap.proofs.SoundStore.{amount_at, count_at_lem, formed, items_size, queues, says_words, sound_says}
 
@@ -91,7 +91,7 @@ module _ {w : List ℕ} {n h d : ℕ} (A : Allowed w n (Raise h d)) where
   unfolding amounts_after_call
   later_some m g =
       rw (ne_eqb (count t h) 0 m)
-      (get_d_set (queues_of w).amounts h g _ 0 (omega (arith, (queues A.store).amounts8, raise_heap)))
+      (get_or_set (queues_of w).amounts h g _ 0 (omega (arith, (queues A.store).amounts8, raise_heap)))
 
   -- and of one without: no key is by its amount
   later_none : count t h ≡ 0 → (g : ℕ) → amount_of next g ≡ amounts g

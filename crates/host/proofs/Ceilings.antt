@@ -9,6 +9,6 @@ table_ceiling places start minute lists w lent left figures R =
     rw (R.same_figures, R.same_lists) (feed_ceiling (map_at places start minute lists w) lent (sym R.same_code))
 
 pub budget_table_ceiling : BudgetTableCeiling
-budget_table_ceiling places start minute lists w budget lent left lentPlaces listed figures R =
+budget_table_ceiling places start minute lists w budget lent left lent_places listed figures R =
     rw (R.same_figures, R.same_lists)
-    (budget_ceiling budget (map_at places start minute lists w) lent lentPlaces (sym R.same_code))
+    (budget_ceiling budget (map_at places start minute lists w) lent lent_places (sym R.same_code))

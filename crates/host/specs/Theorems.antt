@@ -19,8 +19,8 @@ TableCeiling =
 abbrev pub BudgetTableCeiling : Type 0
 BudgetTableCeiling =
     (places start minute : ℕ) (lists : SpanLists) (w : Windows) (budget : ℕ) (lent left : ResultLists)
-    (lentPlaces listed figures : List ℕ)
-    → BudgetReturns (budget_result budget (map_at places start minute lists w) lent lentPlaces) 0 left listed figures
+    (lent_places listed figures : List ℕ)
+    → BudgetReturns (budget_result budget (map_at places start minute lists w) lent lent_places) 0 left listed figures
     → (get_or figures 3 0 ≡ reached_places left.best)
     × WithinCeilings places (length lists.from) (get_or figures 3 0) (get_or figures 2 0)
     (get_or figures 0 0 + get_or figures 1 0)

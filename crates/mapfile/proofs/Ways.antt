@@ -55,8 +55,8 @@ module _ (text : List ℕ) (end : ℕ) (q : end ≡ line_end text 0) where
 -- ---- a refusal
 
 -- A refusal leaves the lists as they are.
-pub refuses : {w : Reading} {r : MapRead} {lent : SpanLists} {lentWindows : Windows} (code : ℕ)
-    → w ≡ refused_reading code lent lentWindows → r ≡ refused_answer code → Reads w r lent lentWindows
+pub refuses : {w : Reading} {r : MapRead} {lent : SpanLists} {lent_windows : Windows} (code : ℕ)
+    → w ≡ refused_reading code lent lent_windows → r ≡ refused_answer code → Reads w r lent lent_windows
 unfolding refused_reading
 refuses code e q = rw e (record { answer_is = q; left_is = refl; windows_are = refl })
 
@@ -74,14 +74,14 @@ three (x ∷ y ∷ []) e = absurd (omega arith)
 three (x ∷ y ∷ z ∷ []) e = refl
 three (x ∷ y ∷ z ∷ t ∷ row) e = absurd (omega arith)
 
-module _ (text : List ℕ) (lent : SpanLists) (lentWindows : Windows) where
-  pub too_long : 60000 < length text → read_map text lent lentWindows ≡ refused_reading 21 lent lentWindows
+module _ (text : List ℕ) (lent : SpanLists) (lent_windows : Windows) where
+  pub too_long : 60000 < length text → read_map text lent lent_windows ≡ refused_reading 21 lent lent_windows
   unfolding read_map
   too_long h = rw (lt-ltb 60000 (length text) h)
 
   pub bad_head : (end : ℕ) → end ≡ line_end text 0 → {r : NumberRow}
       → RowRead (row_of (take (end - 0) (drop 0 text))) r → r.count ≢ 3
-      → read_map text lent lentWindows ≡ refused_reading 21 lent lentWindows
+      → read_map text lent lent_windows ≡ refused_reading 21 lent lent_windows
   unfolding read_map is_map has_numbers
   bad_head end q R h =
       rw (
@@ -121,11 +121,11 @@ uncounted ls e = go (all_spans ls) e
     go false e = refl
 
 module _ {text : List ℕ} {first places start minute : ℕ} (H : HeadRead text first places start minute)
-    (lent : SpanLists) (lentWindows : Windows) where
+    (lent : SpanLists) (lent_windows : Windows) where
   abbrev ls : List (List ℕ)
   ls = lines (drop first text)
 
-  pub bad_spans : Malformed ≡ count_of ls → read_map text lent lentWindows ≡ refused_reading 21 lent lentWindows
+  pub bad_spans : Malformed ≡ count_of ls → read_map text lent lent_windows ≡ refused_reading 21 lent lent_windows
   unfolding read_map is_map has_numbers
   bad_spans e = rw (le-ltb 60000 (length text) H.short, H.head, H.rest, uncounted ls e)
 
@@ -135,28 +135,28 @@ module _ {text : List ℕ} {first places start minute : ℕ} (H : HeadRead text 
         record {
           answer = record { code = 0; places = places; start = start; minute = minute; spans = n };
           left = with_spans ls lent;
-          left_windows = with_windows ls lentWindows;
+          left_windows = with_windows ls lent_windows;
         }
 
-    past_21 : read_map text lent lentWindows
-        ≡ cond (run_out lent lentWindows n) (refused_reading 16 lent lentWindows) filled
+    past_21 : read_map text lent lent_windows
+        ≡ cond (run_out lent lent_windows n) (refused_reading 16 lent lent_windows) filled
     unfolding read_map is_map has_numbers read_answer filled
     past_21 =
         let c = counted ls n e in
         rw (le-ltb 60000 (length text) H.short, H.head, H.rest, c.0, c.1)
 
     -- what the test of the lists answers
-    module _ {t : Bool} (out : t ≡ run_out lent lentWindows n) where
-      pub no_room : t ≡ true → read_map text lent lentWindows ≡ refused_reading 16 lent lentWindows
+    module _ {t : Bool} (out : t ≡ run_out lent lent_windows n) where
+      pub no_room : t ≡ true → read_map text lent lent_windows ≡ refused_reading 16 lent lent_windows
       no_room y = past_21 ∙ rw (← out, y)
 
       module _ (f : t ≡ false) where
-        pub has_room : SpansFit ls lent lentWindows
-        has_room = spans_fit ls lent lentWindows (rw ((counted ls n e).1, ← out) f)
+        pub has_room : SpansFit ls lent lent_windows
+        has_room = spans_fit ls lent lent_windows (rw ((counted ls n e).1, ← out) f)
 
         pub all_filled : (left : SpanLists) (left_windows : Windows) → left ≡ with_spans ls lent
-            → left_windows ≡ with_windows ls lentWindows
-            → Reads (read_map text lent lentWindows)
+            → left_windows ≡ with_windows ls lent_windows
+            → Reads (read_map text lent lent_windows)
             (record { code = 0; places = places; start = start; minute = minute; spans = n }) left left_windows
         unfolding filled
         all_filled left left_windows F G =

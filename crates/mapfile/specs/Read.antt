@@ -45,8 +45,8 @@ unfoldable pub refused_answer : ℕ → MapRead
 refused_answer code = record { code = code; places = 0; start = 0; minute = 0; spans = 0 }
 
 unfoldable pub refused_reading : ℕ → SpanLists → Windows → Reading
-refused_reading code lent lentWindows =
-    record { answer = refused_answer code; left = lent; left_windows = lentWindows }
+refused_reading code lent lent_windows =
+    record { answer = refused_answer code; left = lent; left_windows = lent_windows }
 
 -- the answer by the numbers of the first line and the number of spans
 unfoldable pub read_answer : List ℕ → ℕ → MapRead
@@ -54,15 +54,15 @@ read_answer head n =
     record { code = 0; places = get_or head 0 0; start = get_or head 1 0; minute = get_or head 2 0; spans = n }
 
 unfoldable pub read_map : List ℕ → SpanLists → Windows → Reading
-read_map text lent lentWindows =
+read_map text lent lent_windows =
     let head = row_of (first_line (lines text)) in
     let ls = span_lines (lines text) in
-    cond (ltb 60000 (length text) || not (is_map (lines text))) (refused_reading 21 lent lentWindows)
-    (cond (run_out lent lentWindows (length ls)) (refused_reading 16 lent lentWindows)
+    cond (ltb 60000 (length text) || not (is_map (lines text))) (refused_reading 21 lent lent_windows)
+    (cond (run_out lent lent_windows (length ls)) (refused_reading 16 lent lent_windows)
     (record {
       answer = read_answer head (length ls);
       left = with_spans ls lent;
-      left_windows = with_windows ls lentWindows;
+      left_windows = with_windows ls lent_windows;
     }))
 
 -- an answer and five lists are what a reading says

@@ -79,8 +79,8 @@ module _ (m : Map) where
       level zero h = omega arith
       level (suc e) h = A.rising e h
 
-  module _ (best_n last_n joints_n listedN storeN : ℕ) where
-    fits : feed_code m best_n last_n joints_n listedN storeN ≡ 0 → Fits m best_n last_n joints_n listedN storeN
+  module _ (best_n last_n joints_n listed_n store_n : ℕ) where
+    fits : feed_code m best_n last_n joints_n listed_n store_n ≡ 0 → Fits m best_n last_n joints_n listed_n store_n
     unfolding feed_code previous
     fits z =
         let c₁ = no_cond (eqb m.places 0 || ltb 4096 m.places) 14 _ (λ q. omega arith) z in
@@ -90,14 +90,14 @@ module _ (m : Map) where
         no_cond (not (span_lists_fit m.lists && window_lists_fit (spans m) m.supply)) 16 _ (λ q. omega arith)
         c₀.1 in
         let c₄ =
-        no_cond (not (result_lists_fit m.places best_n last_n joints_n storeN)) 17 _ (λ q. omega arith) c₃.1 in
-        let c₅ = no_cond (ltb listedN m.places) 22 _ (λ q. omega arith) c₄.1 in
+        no_cond (not (result_lists_fit m.places best_n last_n joints_n store_n)) 17 _ (λ q. omega arith) c₃.1 in
+        let c₅ = no_cond (ltb listed_n m.places) 22 _ (λ q. omega arith) c₄.1 in
         let f = no_or (eqb m.places 0) (ltb 4096 m.places) c₁.0 in
         let k =
         and_split (span_lists_fit m.lists) (window_lists_fit (spans m) m.supply) (not-false _ c₃.0) in
         let g = and_split _ (leb (spans m) 16384) k.0 in
         let g' = and_split (eqb (length m.lists.to) (spans m)) (eqb (length m.lists.loss) (spans m)) g.0 in
-        let h = and_split _ (eqb storeN (store_size m.places)) (not-false _ c₄.0) in
+        let h = and_split _ (eqb store_n (store_size m.places)) (not-false _ c₄.0) in
         let h' = and_split _ (eqb joints_n m.places) h.0 in
         let h'' = and_split (eqb best_n m.places) (eqb last_n m.places) h'.0 in
         let n : m.places ≢ 0 = eqb-false m.places 0 f.0 in
@@ -123,11 +123,11 @@ module _ (m : Map) where
           best = eqb-true best_n m.places h''.0;
           last = eqb-true last_n m.places h''.1;
           joints = eqb-true joints_n m.places h'.1;
-          listed = ltb-false listedN m.places c₅.0;
-          store = eqb-true storeN (store_size m.places) h.1;
+          listed = ltb-false listed_n m.places c₅.0;
+          store = eqb-true store_n (store_size m.places) h.1;
         }
 
-    accepts : Fits m best_n last_n joints_n listedN storeN → feed_code m best_n last_n joints_n listedN storeN ≡ 0
+    accepts : Fits m best_n last_n joints_n listed_n store_n → feed_code m best_n last_n joints_n listed_n store_n ≡ 0
     unfolding feed_code
     accepts F =
         let A = F.accepted in
@@ -143,8 +143,8 @@ module _ (m : Map) where
           eq-eqb best_n m.places F.best,
           eq-eqb last_n m.places F.last,
           eq-eqb joints_n m.places F.joints,
-          eq-eqb storeN (store_size m.places) F.store,
-          le-ltb listedN m.places F.listed,
+          eq-eqb store_n (store_size m.places) F.store,
+          le-ltb listed_n m.places F.listed,
         )
         (all_none m.places m.lists m.supply (spans m) (no_fault A))
 

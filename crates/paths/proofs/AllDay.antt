@@ -54,10 +54,10 @@ module _
   same_faults zero h = refl
   same_faults (suc k) h = rw (same_faults k (omega arith), faultless k (omega arith))
 
-  same_code : (best_n last_n joints_n listedN storeN : ℕ)
-      → feed_code m best_n last_n joints_n listedN storeN ≡ feed_code free best_n last_n joints_n listedN storeN
+  same_code : (best_n last_n joints_n listed_n store_n : ℕ)
+      → feed_code m best_n last_n joints_n listed_n store_n ≡ feed_code free best_n last_n joints_n listed_n store_n
   unfolding feed_code minute_fits window_lists_fit
-  same_code best_n last_n joints_n listedN storeN =
+  same_code best_n last_n joints_n listed_n store_n =
       rw (
         le-leb minute last_minute day,
         eq-eqb (length w.opens) (spans m) W.opens_n,

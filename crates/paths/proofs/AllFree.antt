@@ -6,15 +6,15 @@ use native.Mathlib.Omega.{arith}
 use lib.ListN.{length, get_or, replicate, length-replicate}
 use lib.Seq.{ext_get_or}
 use lib.Dec.{eqb-zero-suc}
-use Rattle.rules.specs.Lists.{sumBy, occurs}
+use Rattle.rules.specs.Lists.{sum_by, occurs}
 use Rattle.rules.specs.Forests.{Forests, empty, row_of, heap_of}
 use Rattle.rules.specs.WellFormed.{Disjoint}
-use Rattle.rules.proofs.EmptyForests.{get_d_all}
+use Rattle.rules.proofs.EmptyForests.{get_or_all}
 use Rattle.rules.proofs.Members.{free_children}
 use Rattle.rules.proofs.Occurs.{delta_self}
 
 no_member : (l : List ℕ) → ((z : ℕ) → occurs z l ≡ 0) → l ≡ []
-unfolding occurs sumBy
+unfolding occurs sum_by
 no_member [] f = refl
 no_member (y ∷ ys) f = absurd (omega (arith, f y, delta_self y))
 
@@ -22,7 +22,7 @@ all_default : {A : Type 0} (d : A) (l : List A) (n : ℕ) → length l ≡ n →
     → l ≡ replicate n d
 all_default d l n e f =
     ext_get_or d l (replicate n d) (e ∙ sym (length-replicate n d))
-    (λ i k. f i (omega (arith, k, e)) ∙ sym (get_d_all n i d))
+    (λ i k. f i (omega (arith, k, e)) ∙ sym (get_or_all n i d))
 
 build : (r c : List (List ℕ)) (p k m h : List ℕ) → Forests
 build r c p k m h = record { rows = r; children = c; parent = p; key = k; mark = m; heap = h }

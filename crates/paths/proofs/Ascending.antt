@@ -9,7 +9,7 @@ use native.Mathlib.Omega.{arith}
 use lib.ListN.{get_or}
 use lib.Dec.{eqb}
 use borrow.Author.Tests.{eqb-true, eqb-false}
-use Rattle.rules.specs.Lists.{sumBy, occurs}
+use Rattle.rules.specs.Lists.{sum_by, occurs}
 use Rattle.rules.specs.Order.{key_in, precedes}
 use Rattle.rules.proofs.Occurs.{by_item, delta_self, delta_other}
 use Rattle.rules.proofs.Order.{is_precedes, precedes_is, before_keys}
@@ -19,7 +19,7 @@ use Rattle.paths.specs.Theorems.{ListingUnique}
 -- the order looks at the losses of the members alone
 pub ascending_same : (best best' l : List ℕ) → ((q : ℕ) → 1 ≤ occurs q l → get_or best' q 0 ≡ get_or best q 0)
     → Ascending best l → Ascending best' l
-unfolding occurs sumBy
+unfolding occurs sum_by
 ascending_same best best' [] f a = tt
 ascending_same best best' (x ∷ []) f a = tt
 ascending_same best best' (x ∷ y ∷ l) f a = (
@@ -31,7 +31,7 @@ ascending_same best best' (x ∷ y ∷ l) f a = (
 module _ (best : List ℕ) where
   pub ascending_more : (l : List ℕ) (u : ℕ) → Ascending best l → ((q : ℕ) → 1 ≤ occurs q l → precedes best q u ≡ true)
       → Ascending best (l ++ (u ∷ []))
-  unfolding occurs sumBy
+  unfolding occurs sum_by
   ascending_more [] u a f = tt
   ascending_more (x ∷ []) u a f = (f x (omega (arith, delta_self x)), tt)
   ascending_more (x ∷ y ∷ l) u a f = (a.0, ascending_more (y ∷ l) u a.1 (λ q h. f q (omega arith)))
@@ -55,7 +55,7 @@ module _ (best : List ℕ) where
 
   -- the head comes before all others
   head_first : (x : ℕ) (l : List ℕ) → Ascending best (x ∷ l) → (z : ℕ) → 1 ≤ occurs z l → precedes best x z ≡ true
-  unfolding occurs sumBy
+  unfolding occurs sum_by
   head_first x [] a = λ z h. absurd (omega arith)
   head_first x (y ∷ l) a =
       by_item y (λ _. a.0)
@@ -65,7 +65,7 @@ module _ (best : List ℕ) where
 
   same_head : (x y : ℕ) (l k : List ℕ) → Ascending best (x ∷ l) → Ascending best (y ∷ k)
       → ((p : ℕ) → occurs p (x ∷ l) ≡ occurs p (y ∷ k)) → x ≡ y
-  unfolding occurs sumBy
+  unfolding occurs sum_by
   same_head x y l k a b f = go (eqb x y) refl
     where
       go : (t : Bool) → eqb x y ≡ t → x ≡ y
@@ -78,7 +78,7 @@ module _ (best : List ℕ) where
           (head_first y k b x (omega (arith, f x, delta_self x, delta_other x y (λ z. n (sym z))))))
 
   one_list : (l k : List ℕ) → Ascending best l → Ascending best k → ((p : ℕ) → occurs p l ≡ occurs p k) → l ≡ k
-  unfolding occurs sumBy
+  unfolding occurs sum_by
   one_list [] [] a b f = refl
   one_list [] (y ∷ k) a b f = absurd (omega (arith, f y, delta_self y))
   one_list (x ∷ l) [] a b f = absurd (omega (arith, f x, delta_self x))

@@ -7,22 +7,22 @@ use native.Mathlib.Nat.{le_refl}
 use native.Mathlib.Omega.{arith}
 use lib.ListN.{length, get_or, set, replicate, length-set, length-replicate}
 use lib.Seq.{get_or-set_same, get_or-set_other}
-use Rattle.rules.specs.Lists.{sumBy}
+use Rattle.rules.specs.Lists.{sum_by}
 use Rattle.rules.specs.Forests.{none}
-use Rattle.rules.proofs.EmptyForests.{get_d_all}
+use Rattle.rules.proofs.EmptyForests.{get_or_all}
 use Rattle.rules.proofs.Occurs.{by_item}
 use Rattle.rules.proofs.Sums.{sum_by_set}
 use Rattle.paths.specs.Map.{Map, spans, from_of, Accepted}
 use Rattle.paths.proofs.Waiting.{sum-none}
 use Rattle.paths.proofs.Invariant.{is_none, is_none_no, is_none_yes, unsettled, Settled, Invariant}
 
-sum_is_none : (n : ℕ) → sumBy is_none (replicate n none) ≡ n
-unfolding sumBy
+sum_is_none : (n : ℕ) → sum_by is_none (replicate n none) ≡ n
+unfolding sum_by
 sum_is_none zero = refl
 sum_is_none (suc n) = omega (arith, is_none_yes, sum_is_none n)
 
-pub sum_zeros : (n : ℕ) → sumBy (λ h. h) (replicate n 0) ≡ 0
-sum_zeros n = sum-none (replicate n 0) (λ i. get_d_all n i 0)
+pub sum_zeros : (n : ℕ) → sum_by (λ h. h) (replicate n 0) ≡ 0
+sum_zeros n = sum-none (replicate n 0) (λ i. get_or_all n i 0)
 
 module _ (m : Map) (A : Accepted m) where
   abbrev n : ℕ
@@ -47,10 +47,10 @@ module _ (m : Map) (A : Accepted m) where
   best_a = get_or-set_same (replicate n none) a 0 none (in_all none)
 
   waits_o : (q : ℕ) → q ≢ a → get_or waits₀ q 0 ≡ 0
-  waits_o q z = get_or-set_other (replicate n 0) a q 1 0 z ∙ get_d_all n q 0
+  waits_o q z = get_or-set_other (replicate n 0) a q 1 0 z ∙ get_or_all n q 0
 
   best_o : (q : ℕ) → q ≢ a → get_or best₀ q none ≡ none
-  best_o q z = get_or-set_other (replicate n none) a q 0 none z ∙ get_d_all n q none
+  best_o q z = get_or-set_other (replicate n none) a q 0 none z ∙ get_or_all n q none
 
   -- no place is settled yet
   pub none_settled : (q : ℕ) → Settled waits₀ best₀ q → ⊥
@@ -65,10 +65,10 @@ module _ (m : Map) (A : Accepted m) where
         sum_by_set (λ h. h) (replicate n 0) a 1 0 (in_all 0),
         sum_is_none n,
         sum_zeros n,
-        ap is_none (get_d_all n a none),
+        ap is_none (get_or_all n a none),
         is_none_yes,
         is_none_no 0 (λ e. omega arith),
-        get_d_all {A = ℕ} n a 0,
+        get_or_all {A = ℕ} n a 0,
       )
 
   -- the losses and the numbers of spans are the same lists
@@ -85,8 +85,8 @@ module _ (m : Map) (A : Accepted m) where
         keyed =
             by_item a (λ _. rw best_a (get_or-set_same (replicate n 0) a 0 0 (in_all 0)))
             (λ q z w. absurd (w (waits_o q z)));
-        begun = (best_a, get_d_all n a none, best_a);
-        unmet = λ q z. (get_d_all n q none, z);
+        begun = (best_a, get_or_all n a none, best_a);
+        unmet = λ q z. (get_or_all n q none, z);
         given = by_item a (λ _ z. absurd (z refl)) (λ q z w. absurd (w (best_o q z)));
         relaxed = λ e _ t _. absurd (none_settled (from_of m e) t);
         past = λ q t. absurd (none_settled q t);

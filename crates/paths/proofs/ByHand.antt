@@ -1,6 +1,6 @@
 -- The feed calls worked by hand, by computation.
 use mathlib.Core.Path.{refl}
-use Rattle.rules.specs.Lists.{sumBy, sum_to, without, set_all}
+use Rattle.rules.specs.Lists.{sum_by, sum_to, without, set_all}
 use Rattle.rules.specs.Order.{comes_before, least_of, least_in, minimum}
 use Rattle.rules.specs.Cut.{cut, node_kind, cascading_cut, cut_within, cut_out, cut_if}
 use Rattle.rules.specs.Consolidate.{link, is_free, climb, link_trees, occupied, consolidate_within, consolidate}
@@ -63,6 +63,6 @@ unfolding nines done on_three refused_three paper_map tie_map refused_maps on_fo
     begin step visit tried try offer update judge wins_tie next next_of waiting answers answer unless_refused refused
     refusal is_empty perform decrease_key has_parent extract remove_root set_free release insert consolidate
     consolidate_within occupied link_trees climb is_free link cut_if cut_out cut_within cascading_cut node_kind cut minimum
-    least_in least_of comes_before set_all without sumBy leaving_reached is_reached sum_to
+    least_in least_of comes_before set_all without sum_by leaving_reached is_reached sum_to
 worked_maps =
     record { calls = refl; paper = refl; tie = refl; refusals = refl; budgets = refl; links = refl; place_list = refl }

@@ -1,4 +1,4 @@
--- What insert, decrease_key_lem and extract-min on heap 0 do to the heap and key lists of the forests, and that they are
+-- What insert, decrease-key and extract-min on heap 0 do to the heap and key lists of the forests, and that they are
 -- done.
 use Prim.Native.Nat.{ℕ, ◌≤◌, ◌<◌}
 use mathlib.Core.Path.{◌≡◌, refl, sym, ap, ◌∙◌}

@@ -1,7 +1,7 @@
 -- The ceilings worked by hand, by computation.
 use mathlib.Core.Path.{refl}
 use native.Mathlib.Omega.{arith}
-use Rattle.rules.specs.Lists.{sumBy, sum_to, without, set_all}
+use Rattle.rules.specs.Lists.{sum_by, sum_to, without, set_all}
 use Rattle.rules.specs.Order.{comes_before, least_of, least_in, minimum}
 use Rattle.rules.specs.Fibonacci.{last_from, R}
 use Rattle.rules.specs.Cut.{cut, node_kind, cascading_cut, cut_within, cut_out, cut_if}
@@ -65,7 +65,7 @@ unfolding alone_map eight_spans eight_map closed_map place_by_place down dense_m
     search steps begin step visit tried try offer update judge wins_tie next next_of waiting answers answer unless_refused
     refused refusal is_empty perform decrease_key has_parent extract remove_root set_free release insert consolidate
     consolidate_within occupied link_trees climb is_free link cut_if cut_out cut_within cascading_cut node_kind cut minimum
-    least_in least_of comes_before set_all without sumBy leaving_reached is_reached sum_to reached_places ceiling map_ceiling R
+    least_in least_of comes_before set_all without sum_by leaving_reached is_reached sum_to reached_places ceiling map_ceiling R
     last_from
 worked_ceilings =
     record {

@@ -9,7 +9,7 @@ use native.Mathlib.Omega.{arith}
 use lib.ListN.{get_or}
 use lib.Dec.{eqb, leb}
 use borrow.Author.Tests.{eqb-true, eqb-false, leb-true, leb-false}
-use Rattle.rules.specs.Lists.{sumBy}
+use Rattle.rules.specs.Lists.{sum_by}
 use Rattle.rules.specs.Forests.{none}
 use Rattle.paths.specs.Map.{Map, spans, from_of, to_of, loss_of, Accepted}
 use Rattle.paths.specs.Chains.{Chain, chain_loss, hops, AsGood}
@@ -70,7 +70,7 @@ module _
   -- as much, no more spans.
   covers : (limit : ℕ) → ((q : ℕ) → Waits waits q → limit < get_or best q none) → (c : List ℕ) (p : ℕ) → Chain m c p
       → chain_loss m c ≤ limit → Covered m waits best joints p c
-  unfolding chain_loss sumBy
+  unfolding chain_loss sum_by
   covers b w [] p e k = rw e (go (eqb (get_or waits m.start 0) 0) refl)
     where
       z : get_or best m.start none ≡ 0
@@ -115,7 +115,7 @@ module _
 
   -- A met place has a chain of its loss and its number of spans: back along the spans that gave the losses, which fall.
   attains : (n p : ℕ) → Met best p → get_or best p none < n → Attained m p (get_or best p none) (get_or joints p none)
-  unfolding chain_loss sumBy
+  unfolding chain_loss sum_by
   attains zero p a k = absurd (omega arith)
   attains (suc n) p a k = go (eqb p m.start) refl (attains n)
     where
@@ -148,7 +148,7 @@ module _
     -- a span that ends a chain of p's loss and number of spans was tried
     lowest : (f : ℕ) (c : List ℕ) → Chain m (f ∷ c) p → chain_loss m (f ∷ c) ≡ get_or best p none
         → hops (f ∷ c) ≡ get_or joints p none → get_or last p none ≤ f
-    unfolding chain_loss sumBy
+    unfolding chain_loss sum_by
     lowest f c h has over =
         let C = covers b w c (from_of m f) h.2 (omega (arith, has)) in
         let R = I.relaxed f h.0 C.is (λ _. h.0.0) in
@@ -161,7 +161,7 @@ module _
         v.1 (omega (arith, v.0, q, over))
 
     is_reached_lem : Met best p → p ≢ m.start → Reached m p (get_or best p none) (get_or last p none) (get_or joints p none)
-    unfolding AsGood chain_loss sumBy
+    unfolding AsGood chain_loss sum_by
     is_reached_lem a n =
         let G = I.given p a n in
         let e : ℕ = get_or last p none in

@@ -11,12 +11,12 @@ use borrow.Author.Tests.{eqb-true}
 use Rattle.rules.specs.declared.Call.{Call}
 use Rattle.rules.specs.declared.Call.TheVariants.{Insert, ExtractMin, DecreaseKey}
 use Rattle.rules.specs.declared.Line.TheVariants.{Yields}
-use Rattle.rules.specs.Lists.{indicator, sumBy}
+use Rattle.rules.specs.Lists.{indicator, sum_by}
 use Rattle.rules.specs.Forests.{Forests, none, empty, count}
 use Rattle.rules.specs.Answers.{refusal}
 use Rattle.rules.specs.Ledger.{if_done, price, allowance, allowed}
 use Rattle.rules.proofs.Sums.{sum_by_set}
-use Rattle.rules.proofs.EmptyForests.{get_d_all}
+use Rattle.rules.proofs.EmptyForests.{get_or_all}
 use Rattle.paths.specs.Map.{Map, from_of, to_of, loss_of, IsSpan, Accepted}
 use Rattle.paths.specs.Queue.{Stop, takes, next}
 use Rattle.paths.specs.Search.{
@@ -50,13 +50,13 @@ allowance_le s c = go (eqb (refusal s c) 0)
     go false = zero-le
 
 -- heap 0 has no more items than the sum of the heap list
-count_le : (hs : List ℕ) → sumBy (λ v. indicator (eqb v 1)) hs ≤ sumBy (λ h. h) hs
-unfolding sumBy
+count_le : (hs : List ℕ) → sum_by (λ v. indicator (eqb v 1)) hs ≤ sum_by (λ h. h) hs
+unfolding sum_by
 count_le [] = zero-le
 count_le (h ∷ hs) = go (eqb h 1) refl (count_le hs)
   where
-    go : (t : Bool) → eqb h 1 ≡ t → sumBy (λ v. indicator (eqb v 1)) hs ≤ sumBy (λ h. h) hs
-        → indicator t + sumBy (λ v. indicator (eqb v 1)) hs ≤ h + sumBy (λ h. h) hs
+    go : (t : Bool) → eqb h 1 ≡ t → sum_by (λ v. indicator (eqb v 1)) hs ≤ sum_by (λ h. h) hs
+        → indicator t + sum_by (λ v. indicator (eqb v 1)) hs ≤ h + sum_by (λ h. h) hs
     go true e k = omega (arith, eqb-true h 1 e)
     go false e k = omega arith
 
@@ -68,7 +68,7 @@ pub record Costs (m : Map) (s : Search) : Type 0 where
   pub taken : ℕ
   pub some : 1 ≤ entered
   pub few : entered ≤ suc s.examined
-  pub entered_is : entered + sumBy is_none s.best ≡ m.places
+  pub entered_is : entered + sum_by is_none s.best ≡ m.places
   pub taken_is : taken + unsettled s.queue.waits s.best ≡ m.places
   pub pays : allowed (empty m.places) s.calls + 3 * entered ≤ 4 * suc s.examined + ranks entered taken
 
@@ -155,7 +155,7 @@ module _ (stop : Stop) (m : Map) (A : Accepted m) where
       omega (
         arith,
         count_le s.queue.waits,
-        ap (sumBy (λ v. indicator (eqb v 1))) C.served.waits,
+        ap (sum_by (λ v. indicator (eqb v 1))) C.served.waits,
         C.entered_is,
         C.taken_is,
       ) in
@@ -173,7 +173,7 @@ module _ (stop : Stop) (m : Map) (A : Accepted m) where
       }
 
   begin_costs : Costs m (begin m)
-  unfolding begin price sumBy allowed unsettled
+  unfolding begin price sum_by allowed unsettled
   begin_costs =
       record {
         served = (served stop m A).begins;
@@ -186,7 +186,7 @@ module _ (stop : Stop) (m : Map) (A : Accepted m) where
               arith,
               all_unsettled m A,
               sum_zeros n,
-              get_d_all {A = ℕ} n m.start 0,
+              get_or_all {A = ℕ} n m.start 0,
               sum_by_set (λ h. h) (replicate n 0) m.start 1 0 (rw (length-replicate {A = ℕ} n 0) A.start_in),
             );
         taken_is = omega (arith, all_unsettled m A);

@@ -10,7 +10,7 @@ use lib.Dec.{eqb}
 use borrow.Author.Tests.{eqb-true, eqb-false}
 use Rattle.rules.specs.declared.Line.{Line}
 use Rattle.rules.specs.declared.Answer.{Answer}
-use Rattle.rules.specs.Lists.{sumBy}
+use Rattle.rules.specs.Lists.{sum_by}
 use Rattle.rules.specs.Forests.{empty, trees, marks, potential}
 use Rattle.rules.specs.Fibonacci.{R}
 use Rattle.rules.specs.Answers.{answers}
@@ -34,8 +34,8 @@ use Rattle.paths.proofs.Costs.{Costs, costs}
 -- ---- sums
 
 links_and_cuts : (rs : List Answer)
-    → sumBy (λ a. a.links) rs + sumBy (λ a. a.cuts) rs ≡ sumBy (λ a. a.links + a.cuts) rs
-unfolding sumBy
+    → sum_by (λ a. a.links) rs + sum_by (λ a. a.cuts) rs ≡ sum_by (λ a. a.links + a.cuts) rs
+unfolding sum_by
 links_and_cuts [] = refl
 links_and_cuts (a ∷ rs) = omega (arith, links_and_cuts rs)
 
@@ -49,7 +49,7 @@ R_le n = go (eqb n 0) refl
 -- ---- what they cost
 
 pub moves_le : (n : ℕ) → n ≤ 4096 → (ls : List Line) → links_of n ls + cuts_of n ls ≤ allowed (empty n) ls
-unfolding links_of cuts_of moves potential trees marks sumBy
+unfolding links_of cuts_of moves potential trees marks sum_by
 moves_le n few ls =
     omega (
       arith,

@@ -15,9 +15,9 @@ use Rattle.paths.proofs.SpanCount.{count_most}
 use Rattle.paths.proofs.Accepts.{code_zero}
 
 -- a map that gets code 0 is accepted
-pub done_accepted : (m : Map) (lent : ResultLists) (listedN : ℕ) → code_for m lent listedN ≡ 0 → Accepted m
-done_accepted m lent listedN e =
-    (code_zero.only m (length lent.best) (length lent.last) (length lent.joints) listedN (length lent.store)
+pub done_accepted : (m : Map) (lent : ResultLists) (listed_n : ℕ) → code_for m lent listed_n ≡ 0 → Accepted m
+done_accepted m lent listed_n e =
+    (code_zero.only m (length lent.best) (length lent.last) (length lent.joints) listed_n (length lent.store)
     e).accepted
 
 pub done_right : (limit : Limit) (m : Map) (lent : ResultLists) → Accepted m → Right limit m (feed_as 0 limit m lent)

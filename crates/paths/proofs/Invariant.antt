@@ -7,7 +7,7 @@ use mathlib.Core.List.{List}
 use lib.ListN.{length, get_or}
 use lib.Dec.{eqb}
 use borrow.Author.Tests.{ne_eqb}
-use Rattle.rules.specs.Lists.{indicator, sumBy}
+use Rattle.rules.specs.Lists.{indicator, sum_by}
 use Rattle.rules.specs.Forests.{none}
 use Rattle.paths.specs.Map.{Map, from_of, to_of, loss_of, IsSpan}
 use Rattle.paths.proofs.Judge.{NoWorse}
@@ -26,7 +26,7 @@ is_none_yes = refl
 
 -- the places that are not settled: those not met and those that wait
 unfoldable pub unsettled : List ℕ → List ℕ → ℕ
-unsettled waits best = sumBy is_none best + sumBy (λ w. w) waits
+unsettled waits best = sum_by is_none best + sum_by (λ w. w) waits
 
 abbrev pub Waits : List ℕ → ℕ → Type 0
 Waits waits p = get_or waits p 0 ≢ 0

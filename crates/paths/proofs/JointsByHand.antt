@@ -1,6 +1,6 @@
 -- The feed calls on maps with chains of equal loss worked by hand, by computation.
 use mathlib.Core.Path.{refl}
-use Rattle.rules.specs.Lists.{sumBy, sum_to, without}
+use Rattle.rules.specs.Lists.{sum_by, sum_to, without}
 use Rattle.rules.specs.Order.{comes_before, least_of, least_in, minimum}
 use Rattle.rules.specs.Consolidate.{link, is_free, climb, link_trees, occupied, consolidate_within, consolidate}
 use Rattle.rules.specs.Calls.{insert, release, set_free, remove_root, extract, perform}
@@ -63,7 +63,7 @@ unfolding nines done on_three paper_map on_four done_four on_windows done_window
     store_size code_below span_code previous supply_fault window_fault fault usable_by usable_at search steps begin step
     visit tried try offer update judge wins_tie next next_of waiting answers answer unless_refused refusal is_empty
     perform extract remove_root set_free release insert consolidate consolidate_within occupied link_trees climb is_free
-    link minimum least_in least_of comes_before without sumBy leaving_reached is_reached sum_to
+    link minimum least_in least_of comes_before without sum_by leaving_reached is_reached sum_to
 worked_joints =
     record {
       three = refl;

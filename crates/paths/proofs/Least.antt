@@ -5,7 +5,7 @@ use mathlib.Core.Path.{◌≡◌, refl, sym, ◌∙◌}
 use mathlib.Core.Logic.{◌≢◌}
 use mathlib.Core.List.{List, [], ◌∷◌}
 use native.Mathlib.Omega.{arith}
-use Rattle.rules.specs.Lists.{sumBy}
+use Rattle.rules.specs.Lists.{sum_by}
 use Rattle.rules.specs.Forests.{none}
 use Rattle.paths.specs.Map.{Map, from_of}
 use Rattle.paths.specs.Chains.{Chain, chain_loss, hops, AsGood, Least}
@@ -15,7 +15,7 @@ use Rattle.paths.specs.Table.{Limit, unlimited, up_to, WithinLimit, Entry, at_st
 
 -- the start has the chain of no span, which is within any limit
 pub start_within : (limit : Limit) (m : Map) → WithinLimit limit (chain_loss m [])
-unfolding chain_loss sumBy
+unfolding chain_loss sum_by
 start_within unlimited m = tt
 start_within (up_to b) m = omega arith
 
@@ -45,12 +45,12 @@ module _ (m : Map) (p : ℕ) (c d : List ℕ) (L : Least m p c) where
       }
 
 pub least_start : (m : Map) → Least m m.start []
-unfolding AsGood chain_loss sumBy
+unfolding AsGood chain_loss sum_by
 least_start m = record { leads = refl; least = λ d h. (omega arith, λ _. omega arith) }
 
 -- what leads to the last span of a least chain is least
 pub least_before : (m : Map) (p e : ℕ) (c : List ℕ) → Least m p (e ∷ c) → Least m (from_of m e) c
-unfolding AsGood chain_loss sumBy
+unfolding AsGood chain_loss sum_by
 least_before m p e c L =
     let h = L.leads in
     record {
@@ -73,7 +73,7 @@ module _ (limit : Limit) (m : Map) (p l e h : ℕ) where
   -- where a least chain is within the limit, its loss and its number of spans are shown
   pub entry_least : (c : List ℕ) → Least m p c → WithinLimit limit (chain_loss m c) → Entry limit m p l e h
       → (l ≡ chain_loss m c) × (h ≡ hops c)
-  unfolding AsGood chain_loss sumBy
+  unfolding AsGood chain_loss sum_by
   entry_least c L i (at_start a x y z) =
       let b = L.least [] a in
       let n : chain_loss m c ≡ 0 = omega arith in

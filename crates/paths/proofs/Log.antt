@@ -5,7 +5,7 @@ use mathlib.Core.List.{List, [], ◌∷◌, ◌++◌}
 use native.Mathlib.Omega.{arith}
 use Rattle.rules.specs.declared.Answer.{Answer}
 use Rattle.rules.specs.declared.Line.{Line}
-use Rattle.rules.specs.Lists.{sumBy}
+use Rattle.rules.specs.Lists.{sum_by}
 use Rattle.rules.specs.Forests.{Forests}
 use Rattle.rules.specs.Answers.{answer, answers, after}
 use Rattle.rules.specs.Ledger.{allowance, allowed}
@@ -38,6 +38,6 @@ module _ (l : Line) where
 
   -- a sum over the answers to a log
   pub sum_snoc : (f : Answer → ℕ) (s : Forests) (ls : List Line)
-      → sumBy f (answers s (ls ++ (l ∷ []))) ≡ sumBy f (answers s ls) + f (answer (after s ls) l).reply
-  unfolding sumBy
+      → sum_by f (answers s (ls ++ (l ∷ []))) ≡ sum_by f (answers s ls) + f (answer (after s ls) l).reply
+  unfolding sum_by
   sum_snoc f s ls = rw answers_snoc (sum_by_append f (answers s ls) _ ∙ omega arith)

@@ -3,7 +3,7 @@ use Prim.Native.Nat.{ℕ}
 use mathlib.Core.Path.{◌≡◌, sym, ◌∙◌}
 use mathlib.Core.List.{[], ◌∷◌}
 use native.Mathlib.Omega.{arith}
-use Rattle.rules.specs.Lists.{sumBy}
+use Rattle.rules.specs.Lists.{sum_by}
 use Rattle.paths.specs.Map.{Map}
 use Rattle.paths.specs.Chains.{chain_loss, AsGood}
 use Rattle.paths.specs.Table.{Limit, Entry, at_start, reached, unreached}
@@ -12,7 +12,7 @@ use Rattle.paths.proofs.Least.{start_within}
 
 module _ (limit : Limit) (m : Map) (p : ℕ) where
   entry_loss : (l e h : ℕ) → Entry limit m p l e h → LeastLoss limit m p l
-  unfolding AsGood chain_loss sumBy
+  unfolding AsGood chain_loss sum_by
   entry_loss l e h (at_start a x y z) = of_chain [] a (sym x) (λ d _. omega arith) (rw x (start_within limit m))
   entry_loss l e h (reached n R i) =
       of_chain (e ∷ R.before) R.least.leads R.loss (λ d k. omega (arith, R.loss, (R.least.least d k).0)) i

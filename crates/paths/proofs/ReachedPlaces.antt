@@ -8,7 +8,7 @@ use native.Mathlib.Omega.{arith}
 use lib.ListN.{length, get_or, get_or-eq_default}
 use lib.Dec.{eqb}
 use borrow.Author.Tests.{eqb-true, eqb-false}
-use Rattle.rules.specs.Lists.{indicator, sumBy}
+use Rattle.rules.specs.Lists.{indicator, sum_by}
 use Rattle.rules.specs.Forests.{none}
 use Rattle.rules.proofs.Follow.{sum_ones}
 use Rattle.rules.proofs.SumTo.{sum_to_cong, sum_by_occurs, sumBy-places}
@@ -18,13 +18,13 @@ use Rattle.paths.specs.Ceiling.{reached_places}
 use Rattle.paths.proofs.Invariant.{is_none, Waits, Met}
 use Rattle.paths.proofs.Reached.{is_reached_lem}
 
-pub reached_or_none : (l : List ℕ) → sumBy is_reached l + sumBy is_none l ≡ length l
-unfolding sumBy is_reached is_none
+pub reached_or_none : (l : List ℕ) → sum_by is_reached l + sum_by is_none l ≡ length l
+unfolding sum_by is_reached is_none
 reached_or_none [] = refl
 reached_or_none (x ∷ l) = go (eqb x none) (reached_or_none l)
   where
-    go : (t : Bool) → sumBy is_reached l + sumBy is_none l ≡ length l
-        → (indicator (not t) + sumBy is_reached l) + (indicator t + sumBy is_none l) ≡ suc (length l)
+    go : (t : Bool) → sum_by is_reached l + sum_by is_none l ≡ length l
+        → (indicator (not t) + sum_by is_reached l) + (indicator t + sum_by is_none l) ≡ suc (length l)
     go true h = omega arith
     go false h = omega arith
 
@@ -35,8 +35,8 @@ none_reached = refl
 -- a place that was met is shown as reached, or it waits
 pub shown_or_waits : (waits best : List ℕ) → length waits ≡ length best → ((p : ℕ) → get_or waits p 0 ≤ 1)
     → ((p : ℕ) → Waits waits p → Met best p)
-    → sumBy is_reached (hide_waiting waits best) + sumBy (λ w. w) waits ≡ sumBy is_reached best
-unfolding hide_waiting sumBy
+    → sum_by is_reached (hide_waiting waits best) + sum_by (λ w. w) waits ≡ sum_by is_reached best
+unfolding hide_waiting sum_by
 shown_or_waits [] [] e bit met = refl
 shown_or_waits [] (x ∷ best) e bit met = absurd (omega (arith, e))
 shown_or_waits (w ∷ waits) [] e bit met = absurd (omega (arith, e))
@@ -44,9 +44,9 @@ shown_or_waits (w ∷ waits) (x ∷ best) e bit met =
     go (eqb w 0) refl (shown_or_waits waits best (omega (arith, e)) (λ p. bit (suc p)) (λ p h. met (suc p) h))
   where
     go : (t : Bool) → eqb w 0 ≡ t
-        → sumBy is_reached (hide_waiting waits best) + sumBy (λ w. w) waits ≡ sumBy is_reached best
-        → (is_reached (cond t x none) + sumBy is_reached (hide_waiting waits best)) + (w + sumBy (λ w. w) waits)
-        ≡ is_reached x + sumBy is_reached best
+        → sum_by is_reached (hide_waiting waits best) + sum_by (λ w. w) waits ≡ sum_by is_reached best
+        → (is_reached (cond t x none) + sum_by is_reached (hide_waiting waits best)) + (w + sum_by (λ w. w) waits)
+        ≡ is_reached x + sum_by is_reached best
     go true q h = omega (arith, eqb-true w 0 q)
     go false q h =
         let n : w ≢ 0 = eqb-false w 0 q in omega (arith, bit 0, is_reached_lem x (met 0 n), none_reached)

@@ -13,7 +13,7 @@ use Rattle.rules.specs.Forests.{Forests, empty}
 use Rattle.rules.specs.Answers.{answer, answers, after}
 use Rattle.rules.specs.WellFormed.{WellFormed}
 use Rattle.rules.specs.Theorems.{InRange}
-use Rattle.rules.proofs.EmptyForests.{get_d_all, empty_well_formed}
+use Rattle.rules.proofs.EmptyForests.{get_or_all, empty_well_formed}
 use Rattle.rules.proofs.KeepsWellFormed.{keeps_well_formed}
 use Rattle.paths.specs.Map.{Map, from_of, to_of, loss_of, IsSpan, Accepted}
 use Rattle.paths.specs.Table.{unlimited}
@@ -104,7 +104,7 @@ module _ (stop : Stop) (m : Map) (A : Accepted m) where
   begin_served =
       served_more n (none_wait n) [] none_yet (Yields (Insert 0 m.start 0)) m.start 0 _ _ (omega arith)
       (enter_served n (none_wait n) [] none_yet m.start 0 (rw (length-replicate {A = ℕ} n 0) A.start_in)
-      (get_d_all {A = ℕ} n m.start 0))
+      (get_or_all {A = ℕ} n m.start 0))
 
   pub update_served : (u d hu k r : ℕ) (s : Search) → TryingOf m u d hu k r s → IsSpan m k → from_of m k ≡ u
       → (v : Verdict) → Case s (to_of m k) (d + loss_of m k) (suc hu) k v → ServedOf m s

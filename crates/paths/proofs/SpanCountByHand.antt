@@ -1,6 +1,6 @@
 -- The numbers of spans examined worked by hand, by computation.
 use mathlib.Core.Path.{refl}
-use Rattle.rules.specs.Lists.{sumBy, sum_to, delta, occurs}
+use Rattle.rules.specs.Lists.{sum_by, sum_to, delta, occurs}
 use Rattle.rules.specs.Order.{comes_before, least_of, least_in}
 use Rattle.rules.specs.Words.{store_size}
 use Rattle.paths.specs.Map.{usable_at, usable_by}
@@ -40,5 +40,5 @@ pub worked_counts : WorkedCounts
 unfolding count_map count_rows answered_by nines budget_result budget_as feed_result feed_as hide_waiting takings feed_code
     minute_fits window_lists_fit store_size code_below span_code previous supply_fault window_fault fault usable_by usable_at
     search steps begin step visit tried try offer update judge wins_tie next next_of waiting least_in least_of comes_before
-    leaving_reached is_reached sum_to leaving_listed is_listed occurs delta sumBy
+    leaving_reached is_reached sum_to leaving_listed is_listed occurs delta sum_by
 worked_counts = record { answered = refl; searched = refl; listed = refl }

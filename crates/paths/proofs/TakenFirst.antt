@@ -9,7 +9,7 @@ use lib.ListN.{get_or, set}
 use lib.Seq.{get_or-set_same, get_or-set_other}
 use Rattle.rules.specs.Forests.{none}
 use Rattle.rules.specs.Order.{precedes}
-use Rattle.rules.proofs.Default.{get_d_any}
+use Rattle.rules.proofs.Default.{get_or_any}
 use Rattle.rules.proofs.Occurs.{by_item}
 use Rattle.rules.proofs.Order.{precedes_is}
 use Rattle.paths.specs.Map.{Map, from_of, to_of, loss_of, IsSpan, Accepted}
@@ -36,7 +36,7 @@ use Rattle.paths.proofs.Settling.{stays_settled}
 
 -- a place that is met has a word in the list of losses, so it reads the same with any default
 pub met_word : (best : List ℕ) (p : ℕ) → Met best p → get_or best p 0 ≡ get_or best p none
-met_word best p n = get_d_any best p 0 none (word_in none best p n)
+met_word best p n = get_or_any best p 0 none (word_in none best p n)
 
 -- p comes before q, said of the losses
 abbrev Before : List ℕ → ℕ → ℕ → Type 0

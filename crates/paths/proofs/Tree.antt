@@ -5,7 +5,7 @@ use mathlib.Core.Logic.{◌≢◌}
 use mathlib.Core.List.{List, ◌∷◌}
 use native.Mathlib.Omega.{arith}
 use lib.ListN.{get_or}
-use Rattle.rules.specs.Lists.{sumBy}
+use Rattle.rules.specs.Lists.{sum_by}
 use Rattle.rules.specs.Forests.{none}
 use Rattle.paths.specs.Map.{Map, from_of, Accepted}
 use Rattle.paths.specs.Chains.{Chain, chain_loss, hops}
@@ -21,7 +21,7 @@ module _ (m : Map) (last : List ℕ) where
 
   -- the start is reached from itself in no step
   at_start_lem : (p : ℕ) → p ≡ m.start → LeadsBack m last p 0 0
-  unfolding spans_back place_back chain_loss sumBy
+  unfolding spans_back place_back chain_loss sum_by
   at_start_lem p a =
       record { ends = a; not_before = λ k h. absurd (omega arith); least = rw a (least_start m); loss = refl }
 
@@ -35,7 +35,7 @@ module _ (m : Map) (last : List ℕ) where
     not_before_lem n (suc k) i = n k (omega arith)
 
     one_more : LeadsBack m last (from_of m (get_or last p none)) (chain_loss m R.before) h → LeadsBack m last p l (suc h)
-    unfolding spans_back place_back chain_loss sumBy
+    unfolding spans_back place_back chain_loss sum_by
     one_more B =
         let e : ℕ = get_or last p none in
         let c : List ℕ = spans_back m last h (from_of m e) in
@@ -63,7 +63,7 @@ module _
   -- the place that the span shown comes from shows the loss and the number of spans of the least chain before it
   via : (h p : ℕ) → p ≢ m.start → Reached m p (get_or best p none) (get_or last p none) (suc h)
       → WithinLimit limit (get_or best p none) → Back h → LeadsBack m last p (get_or best p none) (suc h)
-  unfolding chain_loss sumBy
+  unfolding chain_loss sum_by
   via h p away R j ih =
       let e : ℕ = get_or last p none in
       let q : ℕ = from_of m e in

@@ -9,7 +9,7 @@ use native.Mathlib.Omega.{arith}
 use lib.ListN.{length, get_or, get_or-eq_default}
 use lib.Dec.{eqb, ltb}
 use borrow.Author.Tests.{eqb-true, eqb-false, ne_eqb, ltb-true, ltb-false}
-use Rattle.rules.specs.Lists.{sumBy, delta, occurs}
+use Rattle.rules.specs.Lists.{sum_by, delta, occurs}
 use Rattle.rules.specs.Order.{precedes, least_of}
 use Rattle.rules.proofs.Minimum.{least_of_in}
 use Rattle.rules.proofs.Occurs.{by_item, delta_self, delta_other}
@@ -20,7 +20,7 @@ use Rattle.paths.specs.Search.{never}
 -- ---- the list of those that wait
 
 waiting_low : (ws : List ℕ) (i x : ℕ) → x < i → occurs x (waiting i ws) ≡ 0
-unfolding waiting occurs sumBy
+unfolding waiting occurs sum_by
 waiting_low [] i x k = refl
 waiting_low (w ∷ ws) i x k = go (eqb w 0) (waiting_low ws (suc i) x (omega arith))
   where
@@ -31,7 +31,7 @@ waiting_low (w ∷ ws) i x k = go (eqb w 0) (waiting_low ws (suc i) x (omega ari
 
 -- each that waits stands there once
 waiting-at : (ws : List ℕ) (i j x : ℕ) → x ≡ i + j → occurs x (waiting i ws) ≡ cond (eqb (get_or ws j 0) 0) 0 1
-unfolding waiting occurs sumBy
+unfolding waiting occurs sum_by
 waiting-at [] i j x e = refl
 waiting-at (w ∷ ws) i zero x e = go (eqb w 0) (waiting_low ws (suc i) x (omega arith))
   where
@@ -73,7 +73,7 @@ not_after : (key : List ℕ) (a b c : ℕ) → NotAfter key a b → NotAfter key
 not_after key a b c f g = (omega arith, λ q. omega (arith, f.1 (omega arith), g.1 (omega arith)))
 
 least_of_least : (key : List ℕ) (x : ℕ) (ys : List ℕ) (z : ℕ) → 1 ≤ occurs z (x ∷ ys) → NotAfter key (least_of key x ys) z
-unfolding least_of occurs sumBy
+unfolding least_of occurs sum_by
 least_of_least key x [] =
     by_item x (λ _. (le_refl _, λ _. le_refl _)) (λ z n k. absurd (omega (arith, delta_other z x (λ e. n (sym e)))))
 least_of_least key x (y ∷ ys) = go (precedes key y x) refl (least_of_least key (cond (precedes key y x) y x) ys)
@@ -128,7 +128,7 @@ next_takes stop q u = go (waiting 0 q.waits) refl
 -- The finder halts: if any place waits, then so does one, with no larger key, at which the rule stops.
 pub next_halts : (stop : Stop) (q : Queue) → next stop q ≡ halts → (z : ℕ) → get_or q.waits z 0 ≢ 0
     → (u : ℕ) × (stop (get_or q.key u 0) ≡ true) × (get_or q.key u 0 ≤ get_or q.key z 0)
-unfolding next next_of occurs sumBy
+unfolding next next_of occurs sum_by
 next_halts stop q n z w = go (waiting 0 q.waits) refl n
   where
     go : (ws : List ℕ) → waiting 0 q.waits ≡ ws → next_of stop q.key ws ≡ halts
@@ -156,27 +156,27 @@ halts_empty q n z = go (eqb (get_or q.waits z 0) 0) refl
 
 -- ---- how many wait
 
-pub sum-none : (l : List ℕ) → ((i : ℕ) → get_or l i 0 ≡ 0) → sumBy (λ h. h) l ≡ 0
-unfolding sumBy
+pub sum-none : (l : List ℕ) → ((i : ℕ) → get_or l i 0 ≡ 0) → sum_by (λ h. h) l ≡ 0
+unfolding sum_by
 sum-none [] f = refl
 sum-none (x ∷ l) f = omega (arith, f 0, sum-none l (λ i. f (suc i)))
 
-le_sum : (l : List ℕ) (i : ℕ) → get_or l i 0 ≤ sumBy (λ h. h) l
-unfolding sumBy
+le_sum : (l : List ℕ) (i : ℕ) → get_or l i 0 ≤ sum_by (λ h. h) l
+unfolding sum_by
 le_sum [] i = omega arith
 le_sum (x ∷ l) zero = omega arith
 le_sum (x ∷ l) (suc i) = omega (arith, le_sum l i)
 
 module _ (q : Queue) where
   -- a place waits, so one comes next; none waits, so a full search halts
-  pub some_next : sumBy (λ h. h) q.waits ≢ 0 → (u : ℕ) × (next never q ≡ takes u)
+  pub some_next : sum_by (λ h. h) q.waits ≢ 0 → (u : ℕ) × (next never q ≡ takes u)
   some_next n = go (next never q) refl
     where
       go : (x : NextPlace) → next never q ≡ x → (u : ℕ) × (next never q ≡ takes u)
       go (takes u) e = (u, e)
       go halts e = absurd (n (sum-none q.waits (halts_empty q e)))
 
-  pub none-next : sumBy (λ h. h) q.waits ≡ 0 → next never q ≡ halts
+  pub none-next : sum_by (λ h. h) q.waits ≡ 0 → next never q ≡ halts
   none-next n = go (next never q) refl
     where
       go : (x : NextPlace) → next never q ≡ x → next never q ≡ halts

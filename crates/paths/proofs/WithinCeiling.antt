@@ -5,7 +5,7 @@ use mathlib.Core.List.{[]}
 use native.Mathlib.Nat.{le_trans, mul-le-mul_left, mul-le-mul_right, add-mul}
 use native.Mathlib.Omega.{arith}
 use lib.ListN.{length}
-use Rattle.rules.specs.Lists.{sumBy}
+use Rattle.rules.specs.Lists.{sum_by}
 use Rattle.rules.specs.Forests.{none}
 use Rattle.rules.specs.Fibonacci.{F, R}
 use Rattle.rules.proofs.Fibonacci.{R_mono, R-max}
@@ -106,7 +106,7 @@ module _ (limit : Limit) (m : Map) (A : Accepted m) where
 
   -- those that were inserted and not taken still wait
   abbrev left : ℕ
-  left = sumBy (λ w. w) s.queue.waits
+  left = sum_by (λ w. w) s.queue.waits
 
   entered_is : cost.entered ≡ reached + left
   unfolding unsettled

@@ -1,13 +1,13 @@
 -- Ceilings (upper bounds) for the links and cuts of a feed call, by what the ledger allows its insertions, lowerings
 -- and takings (request 9): one by what the call counts, one by the map alone.
 use Rattle.std.specs.Prelude.{ℕ, ◌+◌, ◌*◌, ◌-◌, ◌≤◌, List}
-use Rattle.rules.specs.Lists.{sumBy}
+use Rattle.rules.specs.Lists.{sum_by}
 use Rattle.rules.specs.Fibonacci.{R}
 use Rattle.paths.specs.Table.{is_reached}
 
 -- the number of places for which a table with the losses `best` shows a loss; the start is one of them
 unfoldable pub reached_places : List ℕ → ℕ
-reached_places best = sumBy is_reached best
+reached_places best = sum_by is_reached best
 
 -- By p places reached and e spans examined. Each of the places is inserted, for 1, and taken, for R(p). All but the
 -- start are met by a span of their own, which leaves e + 1 - p spans that may lower, for 4 (e - p + 1 in the paper).

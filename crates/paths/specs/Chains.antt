@@ -1,6 +1,6 @@
 -- Chains of spans from the start, and which of them are least (paths, and shortest paths).
 use Rattle.std.specs.Prelude.{ℕ, ◌≤◌, ◌≡◌, List, [], ◌∷◌, length}
-use Rattle.rules.specs.Lists.{sumBy}
+use Rattle.rules.specs.Lists.{sum_by}
 use Rattle.paths.specs.Map.{Map, IsSpan, from_of, to_of, loss_of}
 
 -- The spans c, the last one first, lead from the start to p.
@@ -10,7 +10,7 @@ Chain m (e ∷ c) p = IsSpan m e × (to_of m e ≡ p) × Chain m c (from_of m e)
 
 -- a chain's loss: the path's weight
 unfoldable pub chain_loss : Map → List ℕ → ℕ
-chain_loss m c = sumBy (loss_of m) c
+chain_loss m c = sum_by (loss_of m) c
 
 -- a chain's number of spans: the path's edges, or hops; the paper's joints
 abbrev pub hops : List ℕ → ℕ

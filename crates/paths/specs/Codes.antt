@@ -60,19 +60,19 @@ unfoldable pub window_lists_fit : ℕ → Supply → Bool
 window_lists_fit n always = true
 window_lists_fit n (at_minute minute w) = eqb (length w.opens) n && eqb (length w.closes) n
 
--- best_n, last_n and joints_n words in the result lists, storeN in the store
+-- best_n, last_n and joints_n words in the result lists, store_n in the store
 abbrev pub result_lists_fit : ℕ → ℕ → ℕ → ℕ → ℕ → Bool
-result_lists_fit places best_n last_n joints_n storeN =
-    eqb best_n places && eqb last_n places && eqb joints_n places && eqb storeN (store_size places)
+result_lists_fit places best_n last_n joints_n store_n =
+    eqb best_n places && eqb last_n places && eqb joints_n places && eqb store_n (store_size places)
 
 -- The first condition that a feed call meets, by its code; 0: it meets none. The place list, which only a call with a
--- budget is lent, has listedN words.
+-- budget is lent, has listed_n words.
 unfoldable pub feed_code : Map → ℕ → ℕ → ℕ → ℕ → ℕ → ℕ
-feed_code m best_n last_n joints_n listedN storeN =
+feed_code m best_n last_n joints_n listed_n store_n =
     cond (eqb m.places 0 || ltb 4096 m.places) 14
     (cond (leb m.places m.start) 15
     (cond (not (minute_fits m.supply)) 24
     (cond (not (span_lists_fit m.lists && window_lists_fit (spans m) m.supply)) 16
-    (cond (not (result_lists_fit m.places best_n last_n joints_n storeN)) 17
-    (cond (ltb listedN m.places) 22
+    (cond (not (result_lists_fit m.places best_n last_n joints_n store_n)) 17
+    (cond (ltb listed_n m.places) 22
     (spans_code m.places m.lists m.supply))))))

@@ -1,7 +1,7 @@
 -- The whole result of a feed call on any input: what it answers, and each word that it leaves.
 use Rattle.std.specs.Prelude.{ℕ, zero, suc, List, ◌++◌, length, drop}
 use Rattle.rules.specs.declared.Line.{Line}
-use Rattle.rules.specs.Lists.{sumBy}
+use Rattle.rules.specs.Lists.{sum_by}
 use Rattle.rules.specs.Forests.{empty}
 use Rattle.rules.specs.Answers.{answers}
 use Rattle.rules.specs.Queues.{empty_queues}
@@ -13,10 +13,10 @@ use Rattle.paths.specs.Codes.{feed_code}
 
 -- the links and cuts that a list of calls answers on empty queues for n items
 unfoldable pub links_of : ℕ → List Line → ℕ
-links_of n calls = sumBy (λ a. a.links) (answers (empty n) calls)
+links_of n calls = sum_by (λ a. a.links) (answers (empty n) calls)
 
 unfoldable pub cuts_of : ℕ → List Line → ℕ
-cuts_of n calls = sumBy (λ a. a.cuts) (answers (empty n) calls)
+cuts_of n calls = sum_by (λ a. a.cuts) (answers (empty n) calls)
 
 -- what a feed call is lent and writes: the table's losses, its spans, its numbers of spans, and a store
 pub record ResultLists : Type 0 where
@@ -51,8 +51,8 @@ feed_as zero limit m lent =
 feed_as (suc code) limit m lent = record { code = suc code; links = 0; cuts = 0; examined = 0; left = lent }
 
 abbrev pub code_for : Map → ResultLists → ℕ → ℕ
-code_for m lent listedN =
-    feed_code m (length lent.best) (length lent.last) (length lent.joints) listedN (length lent.store)
+code_for m lent listed_n =
+    feed_code m (length lent.best) (length lent.last) (length lent.joints) listed_n (length lent.store)
 
 -- The full feed call is lent no place list, so 22 finds nothing: it is as if one were lent that is long enough.
 unfoldable pub feed_result : Map → ResultLists → Feed

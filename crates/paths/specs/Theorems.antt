@@ -248,19 +248,19 @@ CountsFit =
 -- ---- the call
 
 -- Code 0 is given exactly to an accepted map with result lists, a place list and a store of the right sizes.
-pub record Fits (m : Map) (best_n last_n joints_n listedN storeN : ℕ) : Type 0 where
+pub record Fits (m : Map) (best_n last_n joints_n listed_n store_n : ℕ) : Type 0 where
   pub accepted : Accepted m
   pub best : best_n ≡ m.places
   pub last : last_n ≡ m.places
   pub joints : joints_n ≡ m.places
-  pub listed : m.places ≤ listedN
-  pub store : storeN ≡ store_size m.places
+  pub listed : m.places ≤ listed_n
+  pub store : store_n ≡ store_size m.places
 
 pub record CodeZero : Type 0 where
-  pub accepts : (m : Map) (best_n last_n joints_n listedN storeN : ℕ) → Fits m best_n last_n joints_n listedN storeN
-      → feed_code m best_n last_n joints_n listedN storeN ≡ 0
-  pub only : (m : Map) (best_n last_n joints_n listedN storeN : ℕ) → feed_code m best_n last_n joints_n listedN storeN ≡ 0
-      → Fits m best_n last_n joints_n listedN storeN
+  pub accepts : (m : Map) (best_n last_n joints_n listed_n store_n : ℕ) → Fits m best_n last_n joints_n listed_n store_n
+      → feed_code m best_n last_n joints_n listed_n store_n ≡ 0
+  pub only : (m : Map) (best_n last_n joints_n listed_n store_n : ℕ) → feed_code m best_n last_n joints_n listed_n store_n ≡ 0
+      → Fits m best_n last_n joints_n listed_n store_n
 
 -- What a feed call that is done leaves: the table, whose losses are the least by loss alone and whose spans are a tree,
 -- and an empty store. It answers how many spans leave the places that its table shows a loss for.

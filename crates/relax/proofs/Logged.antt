@@ -9,7 +9,7 @@ use Rattle.rules.specs.declared.Call.{Call}
 use Rattle.rules.specs.declared.Call.TheVariants.{Insert}
 use Rattle.rules.specs.declared.Line.{Line}
 use Rattle.rules.specs.declared.Line.TheVariants.{Yields}
-use Rattle.rules.specs.Lists.{sumBy}
+use Rattle.rules.specs.Lists.{sum_by}
 use Rattle.rules.specs.Forests.{Forests, empty}
 use Rattle.rules.specs.Calls.{perform}
 use Rattle.rules.specs.Answers.{refusal, unless_refused, answer, answers, after}
@@ -68,8 +68,8 @@ module _ (n : ℕ) (calls : List Line) (store : List ℕ) (t : Tally) (L : Logge
   module _ (c : Call) (done : refusal (forests_of store) c ≡ 0) where
     -- the sums over the answers grow by what the call answers
     adds : (f : Answer → ℕ) (x y : ℕ)
-        → y ≡ x + f (perform (forests_of store) c).reply → x ≡ sumBy f (answers (empty n) calls)
-        → y ≡ sumBy f (answers (empty n) (calls ++ (Yields c ∷ [])))
+        → y ≡ x + f (perform (forests_of store) c).reply → x ≡ sum_by f (answers (empty n) calls)
+        → y ≡ sum_by f (answers (empty n) (calls ++ (Yields c ∷ [])))
     adds f x y p q =
         omega (
           arith,

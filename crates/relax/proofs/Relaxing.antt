@@ -9,13 +9,13 @@ use lib.ListN.{get_or, set}
 use Rattle.rules.specs.declared.Call.{Call}
 use Rattle.rules.specs.declared.Call.TheVariants.{Insert, DecreaseKey}
 use Rattle.rules.specs.declared.Line.TheVariants.{Yields}
-use Rattle.rules.specs.Lists.{sumBy}
+use Rattle.rules.specs.Lists.{sum_by}
 use Rattle.rules.specs.Forests.{none, empty}
 use Rattle.rules.specs.Answers.{refusal, after}
 use Rattle.rules.specs.Unraised.{is_raise}
 use Rattle.rules.specs.WellFormed.{WellFormed}
 use Rattle.rules.specs.Words.{forests_of}
-use Rattle.rules.proofs.Default.{get_d_any}
+use Rattle.rules.proofs.Default.{get_or_any}
 use Rattle.rules.proofs.Sums.{sum_by_set}
 use Rattle.relax.specs.declared.Progress.{Progress}
 use Rattle.paths.specs.Search.{Search, Verdict, unmet, smaller, tie, worse, wins_tie, judge, update, offer}
@@ -28,7 +28,7 @@ use Rattle.relax.proofs.Logged.{call_logged}
 module _ {p loss : ℕ} {l : ResultLists} {go : Progress} (O : OfferReady p loss l go) where
   -- the code reads a word as `get_or .. 0`
   best_word : get_or l.best p none ≡ get_or l.best p 0
-  best_word = get_d_any l.best p none 0 O.in_best
+  best_word = get_or_any l.best p none 0 O.in_best
 
   -- the queue call, by what the code reads, is not refused
   pub meet_allowed : get_or l.best p 0 ≡ none → refusal (forests_of l.store) (Insert 0 p loss) ≡ 0
@@ -47,7 +47,7 @@ module _ (p loss hops span : ℕ) (l : ResultLists) (go : Progress) where
         → WellFormed (after (empty n) s.calls) → Tracks n out s l go
         → t.best ≡ set s.best p loss → t.last ≡ set s.last p span → t.joints ≡ set s.joints p hops
         → t.calls ≡ s.calls ++ (Yields call ∷ []) → t.examined ≡ s.examined
-        → met ≡ out + sumBy (λ w. w) t.queue.waits → Tracks n out t l' r
+        → met ≡ out + sum_by (λ w. w) t.queue.waits → Tracks n out t l' r
     improved_tracks u {n} {out} {s} {t} W H eb el ej ec ex em =
         record {
           best_is = I.best_is ∙ ap (λ b. set b p loss) H.best_is ∙ sym eb;
@@ -141,10 +141,10 @@ module _ (p loss hops span : ℕ) (l : ResultLists) (go : Progress) where
 
   module _ (O : OfferReady p loss l go) where
     last_word : has_span ≡ get_or l.last p 0
-    last_word = get_d_any l.last p none 0 O.in_last
+    last_word = get_or_any l.last p none 0 O.in_last
 
     joints_word : has_hops ≡ get_or l.joints p 0
-    joints_word = get_d_any l.joints p none 0 O.in_joints
+    joints_word = get_or_any l.joints p none 0 O.in_joints
 
     -- what wins a tie, said of the words that the code reads
     same_wins : wins_tie has_hops has_span hops span ≡ wins_tie (get_or l.joints p 0) (get_or l.last p 0) hops span

@@ -2,7 +2,7 @@
 use Rattle.std.specs.Prelude.{ℕ, ◌+◌, ◌≡◌, List}
 use Rattle.rules.specs.declared.Line.{Line}
 use Rattle.rules.specs.declared.Tally.{Tally}
-use Rattle.rules.specs.Lists.{sumBy}
+use Rattle.rules.specs.Lists.{sum_by}
 use Rattle.rules.specs.Forests.{empty}
 use Rattle.rules.specs.Answers.{after}
 use Rattle.rules.specs.Queues.{unraised}
@@ -24,7 +24,7 @@ pub record Tracks (n out : ℕ) (s : Search) (l : ResultLists) (go : Progress) :
   pub joints_is : l.joints ≡ s.joints
   pub logged : Logged n s.calls l.store go.tally
   pub examined_is : go.examined ≡ s.examined
-  pub met_is : go.met ≡ out + sumBy (λ w. w) s.queue.waits
+  pub met_is : go.met ≡ out + sum_by (λ w. w) s.queue.waits
 
 -- one span more is examined; one place more is visited
 unfoldable pub examine_one : Progress → Progress

@@ -1,4 +1,4 @@
--- A list of lines in two parts, and that a list keeps the forests well_formed.
+-- A list of lines in two parts, and that a list keeps the forests well-formed.
 use mathlib.Core.Path.{◌≡◌, refl, ap}
 use mathlib.Core.List.{List, [], ◌∷◌, ◌++◌}
 use Rattle.rules.specs.declared.Line.{Line}

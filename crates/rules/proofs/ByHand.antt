@@ -94,7 +94,7 @@ use Rattle.rules.specs.Cut.{cascading_cut, cut, cut_if, cut_out, cut_within, nod
 use Rattle.rules.specs.Fibonacci.{R, last_from}
 use Rattle.rules.specs.Forests.{count, marks, potential, trees}
 use Rattle.rules.specs.Ledger.{allowance, allowed, if_done, moves, price}
-use Rattle.rules.specs.Lists.{set_all, sumBy, tabulateFrom, without}
+use Rattle.rules.specs.Lists.{set_all, sum_by, tabulate_from, without}
 use Rattle.rules.specs.Order.{comes_before, least_in, least_of, minimum}
 use Rattle.rules.specs.Queues.{amounts_after, amounts_after_call, amounts_after_line, amounts_left, key_word}
 use Rattle.rules.specs.Words.{
@@ -116,6 +116,6 @@ unfolding worked_table run_b run_c run_d run_e run_f1 run_f2 run_f run_g run_h r
     unless_refused refused refusal carried_over some_carried_over is_empty perform raise raised_key meld move_heap delete
     delete_as decrease_key has_parent extract remove_root set_free release insert consolidate consolidate_within occupied
     link_trees climb is_free link cut_if cut_out cut_within cascading_cut node_kind cut minimum least_in least_of comes_before
-    potential marks trees count set_all without sumBy tabulateFrom amounts_after amounts_after_line amounts_after_call
+    potential marks trees count set_all without sum_by tabulate_from amounts_after amounts_after_line amounts_after_call
     amounts_left key_word encode_in words_in store_fields store_field store_size word unless_free
 worked_runs = refl

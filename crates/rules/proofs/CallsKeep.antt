@@ -29,7 +29,7 @@ use Rattle.rules.specs.Forests.{
   trees,
 }
 use Rattle.rules.specs.Ledger.{allowance, if_done, price}
-use Rattle.rules.specs.Lists.{occurs, sumBy}
+use Rattle.rules.specs.Lists.{occurs, sum_by}
 use Rattle.rules.specs.Order.{minimum, precedes}
 use Rattle.rules.specs.WellFormed.{KeysFit, WellFormed}
 use Rattle.rules.proofs.CascadeKeeps.{cut_out_formed, ordered_but}
@@ -130,7 +130,7 @@ cut_child_kept s S i l =
     (record { disjoint = S.disjoint; ordered = ordered_but s i S.disjoint S.ordered; ranked = S.ranked })
     (omega arith) (has_parent s i) (has_parent_lem s i) (λ z n. absurd (n (has_none s i z)))
 
--- so well_formed forests stay well_formed
+-- so well-formed forests stay well-formed
 pub cut_child_formed : (s : Forests) → WellFormed s → (i : ℕ) → heap_of s i ≢ 0
     → WellFormed (cut_if (has_parent s i) (heap_number s i) i s).forests
 unfolding KeysFit
@@ -163,7 +163,7 @@ delete_kept s S i l false e =
         c.paid,
         remove_root-potential h i m.forests (omega (arith, w)),
         rank_le m.forests c.formed.disjoint c.formed.ranked h i (omega (arith, w)),
-        ap (λ l. R (sumBy (λ x. cond (eqb x (suc h)) 1 0) l)) same,
+        ap (λ l. R (sum_by (λ x. cond (eqb x (suc h)) 1 0) l)) same,
       );
     }
   where

@@ -9,7 +9,7 @@ use lib.ListN.{length, get_or, set, length-set}
 use lib.Seq.{get_or-set_same, get_or-set_other}
 use Rattle.rules.specs.Cut.{NodeKind, cascading_cut, cut, cut_out, cut_within, marked, root, node_kind, unmarked}
 use Rattle.rules.specs.Forests.{Forests, children_of, heap_of, mark_of, marks, none, parent_of, set_mark}
-use Rattle.rules.specs.Lists.{delta, occurs, sumBy}
+use Rattle.rules.specs.Lists.{delta, occurs, sum_by}
 use Rattle.rules.specs.WellFormed.{Disjoint}
 use Rattle.rules.proofs.CutKeeps.{cut_disjoint, cut_ordered, cut_ranked}
 use Rattle.rules.proofs.Excused.{Formed, FormedBut, OrderedBut, RankedBut, exact, ranks_mono}
@@ -117,8 +117,8 @@ cascade_formed (suc d) marked h p s e S hp k =
     })
     ((S.disjoint.up p (λ z. omega (arith, hp)) n).1 ∙ hp) (omega (arith, cut-marks h p s, node_kind_marked s p e))
 
-sum_bits : (l : List ℕ) → ((i : ℕ) → get_or l i 0 ≤ 1) → sumBy (λ m. m) l ≤ length l
-unfolding sumBy
+sum_bits : (l : List ℕ) → ((i : ℕ) → get_or l i 0 ≤ 1) → sum_by (λ m. m) l ≤ length l
+unfolding sum_by
 sum_bits [] h = le_refl 0
 sum_bits (x ∷ xs) h = omega (arith, h 0, sum_bits xs (λ i. h (suc i)))
 

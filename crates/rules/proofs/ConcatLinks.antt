@@ -7,7 +7,7 @@ use mathlib.Core.Bool.{Bool, true, false, cond}
 use native.Mathlib.Omega.{arith}
 use lib.Dec.{eqb}
 use borrow.Author.Tests.{eqb-true, eqb-false, ne_eqb}
-use Rattle.rules.specs.Lists.{delta, occurs, sumBy}
+use Rattle.rules.specs.Lists.{delta, occurs, sum_by}
 use Rattle.rules.specs.Forests.{none}
 use Rattle.rules.specs.Words.{head_or, last_or, next_in, prev_in}
 use Rattle.rules.proofs.Occurs.{eqb_self, delta_self}
@@ -15,13 +15,13 @@ use Rattle.rules.proofs.Siblings.{Once, once_tail, head_out, last_in, member_apa
 
 -- what does not stand in a list has no neighbours there
 pub next_absent : (y : ℕ) (l : List ℕ) → occurs y l ≡ 0 → next_in y l ≡ none
-unfolding next_in occurs sumBy
+unfolding next_in occurs sum_by
 next_absent y [] n = refl
 next_absent y (z ∷ zs) n =
     rw (ne_eqb z y (λ e. omega (arith, delta_self y, ap (delta y) e))) (next_absent y zs (omega arith))
 
 pub prev_absent : (d y : ℕ) (l : List ℕ) → occurs y l ≡ 0 → prev_in d y l ≡ none
-unfolding prev_in occurs sumBy
+unfolding prev_in occurs sum_by
 prev_absent d y [] n = refl
 prev_absent d y (z ∷ zs) n =
     rw (ne_eqb z y (λ e. omega (arith, delta_self y, ap (delta y) e))) (prev_absent z y zs (omega arith))
@@ -49,7 +49,7 @@ last_any d e (z ∷ zs) m = refl
 
 pub next_before : (d y : ℕ) (a b : List ℕ) → Once a → d ≢ y → occurs y b ≡ 0
     → next_in y (a ++ b) ≡ cond (eqb (last_or d a) y) (head_or none b) (next_in y a)
-unfolding next_in last_or head_or occurs sumBy
+unfolding next_in last_or head_or occurs sum_by
 next_before d y [] b o m n = rw (ne_eqb d y m) (next_absent y b n)
 next_before d y (z ∷ zs) b o m n =
     go (eqb z y) refl (λ p. next_before z y zs b (once_tail z zs o) p n)
@@ -75,13 +75,13 @@ prev_before d y (z ∷ zs) b n = ap (cond (eqb z y) d) (prev_before z y zs b n)
 -- ---- an item that is not in a: before the first of b stands what was last
 
 pub next_behind : (y : ℕ) (a b : List ℕ) → occurs y a ≡ 0 → next_in y (a ++ b) ≡ next_in y b
-unfolding next_in occurs sumBy
+unfolding next_in occurs sum_by
 next_behind y [] b n = refl
 next_behind y (z ∷ zs) b n =
     rw (ne_eqb z y (λ e. omega (arith, delta_self y, ap (delta y) e))) (next_behind y zs b (omega arith))
 
 pub prev_behind : (d y : ℕ) (a b : List ℕ) → occurs y a ≡ 0 → prev_in d y (a ++ b) ≡ prev_in (last_or d a) y b
-unfolding prev_in last_or occurs sumBy
+unfolding prev_in last_or occurs sum_by
 prev_behind d y [] b n = refl
 prev_behind d y (z ∷ zs) b n =
     rw (ne_eqb z y (λ e. omega (arith, delta_self y, ap (delta y) e))) (prev_behind z y zs b (omega arith))

@@ -23,9 +23,9 @@ use Rattle.rules.specs.Consolidate.{
   winner,
 }
 use Rattle.rules.specs.Forests.{Forests, children_of, none, rank_of, row_of, set_row}
-use Rattle.rules.specs.Lists.{delta, occurs, sumBy}
+use Rattle.rules.specs.Lists.{delta, occurs, sum_by}
 use Rattle.rules.specs.Order.{precedes}
-use Rattle.rules.proofs.EmptyForests.{get_d_all}
+use Rattle.rules.proofs.EmptyForests.{get_or_all}
 use Rattle.rules.proofs.Excused.{Formed}
 use Rattle.rules.proofs.LinkKeeps.{anew, in_row_lem, link_formed, once, re_row, row_h}
 use Rattle.rules.proofs.Members.{heap_in, not_none}
@@ -46,7 +46,7 @@ module _ (h : ℕ) (hh : h < 8) (ps rest : List ℕ) (x : ℕ) (s : Forests) (H 
   ρ = occupied ps ++ (x ∷ rest)
 
   pub occurs_ρ : (z : ℕ) → occurs z ρ ≡ occurs z (occupied ps) + delta z x + occurs z rest
-  unfolding occurs sumBy
+  unfolding occurs sum_by
   occurs_ρ z = omega (arith, occurs-append z (occupied ps) (x ∷ rest))
 
   pub x_in : 1 ≤ occurs x ρ
@@ -96,7 +96,7 @@ module _ (h : ℕ) (hh : h < 8) (ps rest : List ℕ) (x : ℕ) (s : Forests) (H 
         → precedes s.key a l ≡ true
         → ((z : ℕ) → delta z a + delta z l ≡ delta z x + delta z y)
         → Held h (set ps r none) (a ∷ rest) (link a l s) × (rank_of (link a l s) a ≡ suc r)
-    unfolding link occurs sumBy
+    unfolding link occurs sum_by
     linked a l ia il al ra rl o e = (
       record {
         formed = link_formed s h ρ H.formed hh a l ia il al (ra ∙ sym rl) o
@@ -160,7 +160,7 @@ held_start h s hh S =
     record {
       formed = re_row s h (row_of s h) S hh (λ z. refl);
       long = refl;
-      rank = λ r n. absurd (n (get_d_all 17 r none));
+      rank = λ r n. absurd (n (get_or_all 17 r none));
     }
 
 unfoldable pub linked-row : (d h : ℕ) (s : Forests) → Linking
@@ -172,7 +172,7 @@ unfolding linked-row
 linked-held h s hh S = link_trees-held 18 (row_of s h) h _ (le_refl 18) hh (held_start h s hh S)
 
 pub consolidate_formed : (h : ℕ) (s : Forests) → h < 8 → Formed s → Formed (consolidate h s).forests
-unfolding consolidate consolidate_within linked-row occurs sumBy
+unfolding consolidate consolidate_within linked-row occurs sum_by
 consolidate_formed h s hh S =
     let w : Linking = linked-row 18 h s in
     anew w.forests h (occupied w.places ++ []) (linked-held h s hh S).formed hh (occupied w.places)

@@ -9,7 +9,7 @@ use lib.Dec.{eqb, eqb-zero-suc, eqb-suc-suc}
 use borrow.Author.Tests.{ne_eqb}
 use Rattle.rules.specs.Calls.{meld, move_heap}
 use Rattle.rules.specs.Forests.{Forests, count, heap_of, table_size}
-use Rattle.rules.specs.Lists.{delta, sumBy}
+use Rattle.rules.specs.Lists.{delta, sum_by}
 use Rattle.rules.proofs.MeldKeeps.{moved_b, moved_other}
 use Rattle.rules.proofs.Members.{heap_in}
 use Rattle.rules.proofs.Occurs.{by_item, eqb_self}
@@ -29,7 +29,7 @@ in_heap_lem g h = rw eqb-suc-suc
 
 -- a heap field set: the counts follow
 count_set : (s : Forests) (g x v : ℕ) → x < table_size s
-    → sumBy (in_heap g) (set s.heap x v) + in_heap g (heap_of s x) ≡ count s g + in_heap g v
+    → sum_by (in_heap g) (set s.heap x v) + in_heap g (heap_of s x) ≡ count s g + in_heap g v
 unfolding count in_heap
 count_set s g x v k = sum_by_set (in_heap g) s.heap x v 0 k
 

@@ -1,4 +1,4 @@
--- What cuts do to the potential. These hold of any lists whatever, well_formed or not.
+-- What cuts do to the potential. These hold of any lists whatever, well-formed or not.
 use Prim.Native.Nat.{ℕ, zero, suc, ◌+◌, ◌*◌, ◌≤◌}
 use mathlib.Core.Path.{◌≡◌, refl}
 use mathlib.Core.List.{List, [], ◌∷◌, ◌++◌}
@@ -6,12 +6,12 @@ use native.Mathlib.Omega.{arith}
 use lib.ListN.{length, get_or, set, length-append}
 use Rattle.rules.specs.Cut.{NodeKind, cascading_cut, cut, cut_out, cut_within, marked, root, node_kind, unmarked}
 use Rattle.rules.specs.Forests.{Forests, mark_of, marks, parent_of, potential, row_of, set_mark, table_size, trees}
-use Rattle.rules.specs.Lists.{sumBy}
+use Rattle.rules.specs.Lists.{sum_by}
 use Rattle.rules.proofs.NodeKind.{node_kind_marked}
 use Rattle.rules.proofs.Sums.{sum_by_set_le}
 
 -- a mark that is taken away
-pub clear : (ms : List ℕ) (i : ℕ) → sumBy (λ m. m) (set ms i 0) + get_or ms i 0 ≤ sumBy (λ m. m) ms
+pub clear : (ms : List ℕ) (i : ℕ) → sum_by (λ m. m) (set ms i 0) + get_or ms i 0 ≤ sum_by (λ m. m) ms
 clear ms i = omega (arith, sum_by_set_le (λ m. m) ms i 0 0 refl)
 
 -- a cut brings one tree more, and takes away the mark that x had

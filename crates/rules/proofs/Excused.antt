@@ -8,7 +8,7 @@ use native.Mathlib.Omega.{arith}
 use lib.ListN.{length, get_or}
 use lib.Dec.{eqb}
 use Rattle.rules.specs.Forests.{Forests, children_of, heap_of, none, parent_of, table_size}
-use Rattle.rules.specs.Lists.{occurs, sumBy, without}
+use Rattle.rules.specs.Lists.{occurs, sum_by, without}
 use Rattle.rules.specs.Order.{precedes}
 use Rattle.rules.specs.WellFormed.{ChildRanks, Disjoint, HeapOrdered, KeysFit, RankRule, WellFormed}
 use Rattle.rules.proofs.Members.{heap_in, not_none}
@@ -46,7 +46,7 @@ pub ranks_mono : (σ τ : ℕ → ℕ) (ks ks' : List (List ℕ)) (ms ms' : List
     → ((c : ℕ) → 1 ≤ occurs c l
     → length (get_or ks c []) + get_or ms c 0 + σ c ≤ length (get_or ks' c []) + get_or ms' c 0 + τ c)
     → ChildRanksBut σ ks ms j l → ChildRanksBut τ ks' ms' j l
-unfolding occurs sumBy
+unfolding occurs sum_by
 ranks_mono σ τ ks ks' ms ms' j [] h t = tt
 ranks_mono σ τ ks ks' ms ms' j (c ∷ cs) h t = (
   omega (arith, t.0, h c (omega (arith, delta_self c))),

@@ -6,7 +6,7 @@ use mathlib.Core.List.{List, [], ◌∷◌}
 use native.Mathlib.Omega.{arith}
 use lib.ListN.{length}
 use borrow.Author.Tests.{ne_eqb}
-use Rattle.rules.specs.Lists.{delta, occurs, sumBy, sum_to}
+use Rattle.rules.specs.Lists.{delta, occurs, sum_by, sum_to}
 use Rattle.rules.specs.Forests.{none}
 use Rattle.rules.specs.Words.{head_or, next_in, follow}
 use Rattle.rules.proofs.Occurs.{eqb_self, delta_self}
@@ -15,7 +15,7 @@ use Rattle.rules.proofs.Siblings.{Once, head_out, once_tail}
 
 pub follow_list : (d : ℕ) (next : ℕ → ℕ) (l : List ℕ) → length l ≤ d → Once l → occurs none l ≡ 0
     → ((y : ℕ) → 1 ≤ occurs y l → next y ≡ next_in y l) → follow d next (head_or none l) ≡ l
-unfolding follow head_or next_in occurs sumBy
+unfolding follow head_or next_in occurs sum_by
 follow_list zero next [] k o n f = refl
 follow_list (suc d) next [] k o n f = refl
 follow_list zero next (z ∷ zs) k o n f = absurd (omega arith)
@@ -28,8 +28,8 @@ follow_list (suc d) next (z ∷ zs) k o n f =
 
 -- ---- a list of items without repetition is no longer than the table
 
-pub sum_ones : (l : List ℕ) → sumBy (λ _. 1) l ≡ length l
-unfolding sumBy
+pub sum_ones : (l : List ℕ) → sum_by (λ _. 1) l ≡ length l
+unfolding sum_by
 sum_ones [] = refl
 sum_ones (x ∷ l) = omega (arith, sum_ones l)
 

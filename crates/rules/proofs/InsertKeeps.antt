@@ -1,4 +1,4 @@
--- Insertion keeps the forests well_formed.
+-- Insertion keeps the forests well-formed.
 use Prim.Native.Nat.{ℕ, suc, ◌<◌}
 use mathlib.Core.Path.{◌≡◌, sym, ◌∙◌}
 use mathlib.Core.Logic.{◌≢◌}

@@ -16,7 +16,7 @@ use Rattle.rules.specs.Answers.{after, answer, refusal, refused, unless_refused}
 use Rattle.rules.specs.Calls.{decrease_key, delete, delete_as, extract, insert, meld, move_heap, perform, raise}
 use Rattle.rules.specs.Forests.{Forests, count, heap_number, heap_of, items, table_size}
 use Rattle.rules.specs.Ledger.{if_done}
-use Rattle.rules.specs.Lists.{delta, sumBy, sum_to}
+use Rattle.rules.specs.Lists.{delta, sum_by, sum_to}
 use Rattle.rules.specs.Order.{minimum}
 use Rattle.rules.specs.Theorems.{ItemsBalance, items_inserted, items_removed, total}
 use Rattle.rules.specs.WellFormed.{Disjoint}
@@ -41,19 +41,19 @@ one_heap (suc h) k =
     (sum_to_cong 8 (λ g. in_heap g (suc h)) (λ g. delta g h * 1) (λ g _. in_heap_lem g h ∙ omega arith)
     ∙ sum_to_pick 8 h (λ _. 1) (omega arith))
 
-sum_heaps : (l : List ℕ) → ((i : ℕ) → get_or l i 0 ≤ 8) → sum_to 8 (λ g. sumBy (in_heap g) l) ≡ sumBy live l
-unfolding sumBy
+sum_heaps : (l : List ℕ) → ((i : ℕ) → get_or l i 0 ≤ 8) → sum_to 8 (λ g. sum_by (in_heap g) l) ≡ sum_by live l
+unfolding sum_by
 sum_heaps [] f = sum_to_zero 8
 sum_heaps (v ∷ l) f =
     omega (
       arith,
-      sum_to-add 8 (λ g. in_heap g v) (λ g. sumBy (in_heap g) l),
+      sum_to-add 8 (λ g. in_heap g v) (λ g. sum_by (in_heap g) l),
       one_heap v (f 0),
       sum_heaps l (λ i. f (suc i)),
     )
 
 -- the eight counts sum to the items that are in a heap
-items_live : (s : Forests) → Disjoint s → items s ≡ sumBy live s.heap
+items_live : (s : Forests) → Disjoint s → items s ≡ sum_by live s.heap
 unfolding items count in_heap
 items_live s S = sum_heaps s.heap S.heaps
 
@@ -62,7 +62,7 @@ items_left : (s t : Forests) (x : ℕ) → Disjoint s → Disjoint t → heap_of
 unfolding live
 items_left s t x S T n e =
     let k : live (heap_of s x) ≡ 1 = rw (ne_eqb (heap_of s x) 0 n) in
-    omega (arith, items_live s S, items_live t T, ap (sumBy live) e, sum_by_set live s.heap x 0 0 (heap_in s x n))
+    omega (arith, items_live s S, items_live t T, ap (sum_by live) e, sum_by_set live s.heap x 0 0 (heap_in s x n))
 
 items-entered : (s t : Forests) (h i : ℕ) → Disjoint s → Disjoint t → i < table_size s → heap_of s i ≡ 0
     → t.heap ≡ set s.heap i (suc h) → items t ≡ items s + 1
@@ -70,13 +70,13 @@ unfolding live
 items-entered s t h i S T j z e =
     let a : live (heap_of s i) ≡ 0 = rw z in
     let b : live (suc h) ≡ 1 = rw (ne_eqb (suc h) 0 (λ e. omega arith)) in
-    omega (arith, items_live s S, items_live t T, ap (sumBy live) e, sum_by_set live s.heap i (suc h) 0 j)
+    omega (arith, items_live s S, items_live t T, ap (sum_by live) e, sum_by_set live s.heap i (suc h) 0 j)
 
-items_same : (s t : Forests) → Disjoint s → Disjoint t → sumBy live t.heap ≡ sumBy live s.heap
+items_same : (s t : Forests) → Disjoint s → Disjoint t → sum_by live t.heap ≡ sum_by live s.heap
     → items t ≡ items s
 items_same s t S T e = omega (arith, items_live s S, items_live t T)
 
-meld_live : (s : Forests) (a b : ℕ) → sumBy live (map (move_heap a b) s.heap) ≡ sumBy live s.heap
+meld_live : (s : Forests) (a b : ℕ) → sum_by live (map (move_heap a b) s.heap) ≡ sum_by live s.heap
 unfolding move_heap live
 meld_live s a b =
     sum_by_map live (move_heap a b) s.heap ∙ sum_by_cong (λ v. live (move_heap a b v)) live s.heap each
@@ -100,7 +100,7 @@ perform-items s S c e = go c e S.disjoint (perform_kept s S c e).formed.disjoint
         let r = row_root s D h x (extract_ok s h e) in
         omega (arith, items_left s (extract h x s).next x D T (λ z. omega (arith, r.0)) (extract_heap h x s))
     go (DecreaseKey i k) e D T =
-        omega (arith, items_same s (decrease_key i k s).next D T (ap (sumBy live) (decrease_heap i k s)))
+        omega (arith, items_same s (decrease_key i k s).next D T (ap (sum_by live) (decrease_heap i k s)))
     go (Delete i) e D T =
         let b : Bool = eqb (minimum s (heap_number s i)) i in
         omega (arith, items_left s (delete_as b i s).next i D T (delete_ok s i e) (delete_heap b i s))

@@ -1,4 +1,4 @@
--- Every line, and every list of lines, leaves well_formed queues well_formed: their amounts too.
+-- Every line, and every list of lines, leaves well-formed queues well-formed: their amounts too.
 use Prim.Native.Nat.{ℕ, zero, suc, ◌+◌, ◌%◌, ◌<◌}
 use mathlib.Core.Path.{◌≡◌, refl, sym, ◌∙◌}
 use mathlib.Core.Logic.{◌≢◌}

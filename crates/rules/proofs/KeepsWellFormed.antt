@@ -1,4 +1,4 @@
--- Every line leaves well_formed forests well_formed: keys stay words.
+-- Every line leaves well-formed forests well-formed: keys stay words.
 use Prim.Native.Nat.{ℕ, zero, suc, ◌<◌}
 use mathlib.Core.Path.{◌≡◌, refl, ap, ◌∙◌}
 use mathlib.Core.List.{List}

@@ -1,4 +1,4 @@
--- A lowered key keeps the forests well_formed, but that its item may come before its parent.
+-- A lowered key keeps the forests well-formed, but that its item may come before its parent.
 use Prim.Native.Nat.{ℕ, ◌≤◌}
 use mathlib.Core.Path.{◌≡◌, refl, sym}
 use mathlib.Core.Logic.{◌≢◌}

@@ -9,7 +9,7 @@ use lib.ListN.{get_or, set}
 use lib.Dec.{eqb}
 use borrow.Author.Tests.{eqb-false, ne_eqb}
 use Rattle.rules.specs.Forests.{none}
-use Rattle.rules.specs.Lists.{delta, occurs, sumBy}
+use Rattle.rules.specs.Lists.{delta, occurs, sum_by}
 use Rattle.rules.specs.Order.{comes_before, key_in, least_in, least_of, lesser, precedes}
 use Rattle.rules.proofs.Minimum.{least_of_in}
 use Rattle.rules.proofs.Occurs.{delta_self}
@@ -94,7 +94,7 @@ least_append keys (x ∷ l) (y ∷ m) p q =
 -- the key of an item outside a list does not matter to its least item
 least_of_other : (keys : List ℕ) (i k x : ℕ) (l : List ℕ) → occurs i (x ∷ l) ≡ 0
     → least_of (set keys i k) x l ≡ least_of keys x l
-unfolding least_of occurs sumBy
+unfolding least_of occurs sum_by
 least_of_other keys i k x [] n = refl
 least_of_other keys i k x (y ∷ l) n =
     rw (precedes_other keys i k y x (out y (omega arith)) (out x (omega arith)))

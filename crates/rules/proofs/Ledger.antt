@@ -7,7 +7,7 @@ use Rattle.rules.specs.declared.Line.{Line}
 use Rattle.rules.specs.Answers.{after, answer, answers}
 use Rattle.rules.specs.Forests.{Forests, potential}
 use Rattle.rules.specs.Ledger.{Ledger, allowed, moves}
-use Rattle.rules.specs.Lists.{sumBy}
+use Rattle.rules.specs.Lists.{sum_by}
 use Rattle.rules.proofs.CallsKeep.{answer_kept}
 use Rattle.rules.proofs.Excused.{Formed, to_formed}
 
@@ -19,7 +19,7 @@ after_formed s S (l ∷ ls) = after_formed (answer s l).next (answer_kept s S l)
 -- the whole list, from its start
 pub all_paid : (s : Forests) → Formed s → (ls : List Line)
     → moves s ls + potential (after s ls) ≤ potential s + allowed s ls
-unfolding after moves allowed answers sumBy
+unfolding after moves allowed answers sum_by
 all_paid s S [] = omega arith
 all_paid s S (l ∷ ls) =
     let k = answer_kept s S l in

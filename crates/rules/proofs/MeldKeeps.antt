@@ -1,4 +1,4 @@
--- Joining two rows keeps the forests well_formed.
+-- Joining two rows keeps the forests well-formed.
 use Prim.Native.Nat.{ℕ, zero, suc, ◌+◌, ◌≤◌, ◌<◌}
 use mathlib.Core.Path.{◌≡◌, refl, ap, ◌∙◌}
 use mathlib.Core.Logic.{◌≢◌}

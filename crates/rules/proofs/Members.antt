@@ -9,7 +9,7 @@ use lib.ListN.{length, get_or-eq_default}
 use lib.Dec.{eqb, ltb}
 use borrow.Author.Tests.{eqb-true, eqb-false, ne_eqb, ltb-true, ltb-false, not-true}
 use Rattle.rules.specs.Forests.{Forests, children_of, heap_of, none, parent_of, row_of}
-use Rattle.rules.specs.Lists.{indicator, occurs, sumBy}
+use Rattle.rules.specs.Lists.{indicator, occurs, sum_by}
 use Rattle.rules.specs.WellFormed.{Disjoint}
 use Rattle.rules.proofs.Occurs.{and_false, delta_self, eqb_self}
 
@@ -66,7 +66,7 @@ root_child s S q x j e = S.in_children q x j ∙ rw (e, ne_eqb none q (not_none 
 
 -- a free item has no children: it need not be said
 pub free_children : (s : Forests) → Disjoint s → (x : ℕ) → x < length s.heap → heap_of s x ≡ 0 → children_of s x ≡ []
-unfolding occurs sumBy
+unfolding occurs sum_by
 free_children s S x j e = go (children_of s x) (λ z. out z (eqb (occurs z (children_of s x)) 0) refl)
   where
     out : (z : ℕ) (t : Bool) → eqb (occurs z (children_of s x)) 0 ≡ t → occurs z (children_of s x) ≡ 0

@@ -10,7 +10,7 @@ use lib.ListN.{length, get_or}
 use lib.Dec.{eqb}
 use borrow.Author.Tests.{eqb-true, eqb-false}
 use Rattle.rules.specs.Forests.{Forests, count, heap_of, none, parent_of, row_of}
-use Rattle.rules.specs.Lists.{delta, occurs, sumBy}
+use Rattle.rules.specs.Lists.{delta, occurs, sum_by}
 use Rattle.rules.specs.Order.{least_in, least_of, minimum, precedes}
 use Rattle.rules.specs.Theorems.{MinimumFirst, MinimumUnique}
 use Rattle.rules.specs.WellFormed.{Disjoint}
@@ -20,7 +20,7 @@ use Rattle.rules.proofs.Occurs.{by_item, delta_other, delta_self}
 use Rattle.rules.proofs.Order.{ord, ord_precedes, ord_total, precedes_ord, precedes-total}
 
 pub least_of_in : (key : List ℕ) (x : ℕ) (ys : List ℕ) → 1 ≤ occurs (least_of key x ys) (x ∷ ys)
-unfolding least_of occurs sumBy
+unfolding least_of occurs sum_by
 least_of_in key x [] = omega (arith, delta_self x)
 least_of_in key x (y ∷ ys) = go (precedes key y x) (least_of_in key (cond (precedes key y x) y x) ys)
   where
@@ -32,7 +32,7 @@ least_of_in key x (y ∷ ys) = go (precedes key y x) (least_of_in key (cond (pre
 
 least_of_least : (key : List ℕ) (x : ℕ) (ys : List ℕ) → ((z : ℕ) → 1 ≤ occurs z (x ∷ ys) → z ≤ 4096) → (z : ℕ)
     → 1 ≤ occurs z (x ∷ ys) → ord key (least_of key x ys) ≤ ord key z
-unfolding least_of occurs sumBy
+unfolding least_of occurs sum_by
 least_of_least key x [] b =
     by_item x (λ _. le_refl _) (λ z n k. absurd (omega (arith, delta_other z x (λ e. n (sym e)))))
 least_of_least key x (y ∷ ys) b = go (precedes key y x) refl (least_of_least key (cond (precedes key y x) y x) ys)
@@ -58,7 +58,7 @@ least_of_least key x (y ∷ ys) b = go (precedes key y x) refl (least_of_least k
 
 minimum_least : (s : Forests) → Disjoint s → (h x : ℕ) → 1 ≤ occurs x (row_of s h)
     → ord s.key (minimum s h) ≤ ord s.key x
-unfolding minimum least_in occurs sumBy
+unfolding minimum least_in occurs sum_by
 minimum_least s S h x k =
     go (row_of s h) (row_small s S h) k
   where
@@ -106,7 +106,7 @@ none_before s S h x e =
 
 -- a list in which an item stands is not empty
 some_stands : (v : ℕ) (l : List ℕ) → 1 ≤ occurs v l → 1 ≤ length l
-unfolding occurs sumBy
+unfolding occurs sum_by
 some_stands v [] k = absurd (omega arith)
 some_stands v (x ∷ xs) k = omega arith
 
@@ -141,13 +141,13 @@ root_above s S h (suc n) x e k = go (eqb (parent_of s x) none) refl (root_above 
         let u = S.disjoint.up x live m in
         ih (u.1 ∙ e) (omega (arith, parent_below s S.disjoint S.ordered x live m))
 
-some_item : (l : List ℕ) (h : ℕ) → 1 ≤ sumBy (λ v. cond (eqb v (suc h)) 1 0) l → (x : ℕ) × (get_or l x 0 ≡ suc h)
-unfolding sumBy
+some_item : (l : List ℕ) (h : ℕ) → 1 ≤ sum_by (λ v. cond (eqb v (suc h)) 1 0) l → (x : ℕ) × (get_or l x 0 ≡ suc h)
+unfolding sum_by
 some_item [] h k = absurd (omega arith)
 some_item (v ∷ l) h k = go (eqb v (suc h)) refl k (some_item l h)
   where
-    go : (t : Bool) → eqb v (suc h) ≡ t → 1 ≤ cond t 1 0 + sumBy (λ v. cond (eqb v (suc h)) 1 0) l
-        → (1 ≤ sumBy (λ v. cond (eqb v (suc h)) 1 0) l → (x : ℕ) × (get_or l x 0 ≡ suc h))
+    go : (t : Bool) → eqb v (suc h) ≡ t → 1 ≤ cond t 1 0 + sum_by (λ v. cond (eqb v (suc h)) 1 0) l
+        → (1 ≤ sum_by (λ v. cond (eqb v (suc h)) 1 0) l → (x : ℕ) × (get_or l x 0 ≡ suc h))
         → (x : ℕ) × (get_or (v ∷ l) x 0 ≡ suc h)
     go true e k ih = (0, eqb-true v (suc h) e)
     go false e k ih = let i = ih (omega arith) in (suc i.0, i.1)

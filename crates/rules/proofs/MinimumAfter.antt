@@ -11,7 +11,7 @@ use lib.Seq.{get_or-set_same, get_or-set_other}
 use lib.Dec.{eqb}
 use borrow.Author.Tests.{eqb-true, eqb-false}
 use Rattle.rules.specs.Forests.{Forests, count, heap_number, heap_of, key_of, none, row_of}
-use Rattle.rules.specs.Lists.{occurs, sumBy}
+use Rattle.rules.specs.Lists.{occurs, sum_by}
 use Rattle.rules.specs.Order.{least_in, minimum, precedes}
 use Rattle.rules.specs.Theorems.{IsMinimum}
 use Rattle.rules.specs.WellFormed.{Disjoint, WellFormed}
@@ -22,7 +22,7 @@ use Rattle.rules.proofs.Order.{before_keys, is_precedes, precedes_irrefl, preced
 
 -- a heap without items has no minimum
 no_minimum : (t : Forests) → Disjoint t → (g : ℕ) → ((x : ℕ) → heap_of t x ≡ suc g → ⊥) → minimum t g ≡ none
-unfolding minimum least_in occurs sumBy
+unfolding minimum least_in occurs sum_by
 no_minimum t D g f = go (row_of t g) (λ x i. f x (row_root t D g x i).0)
   where
     go : (l : List ℕ) → ((x : ℕ) → 1 ≤ occurs x l → ⊥) → least_in t.key l ≡ none
@@ -30,8 +30,8 @@ no_minimum t D g f = go (row_of t g) (λ x i. f x (row_root t D g x i).0)
     go (x ∷ xs) f = absurd (f x (omega (arith, delta_self x)))
 
 -- a heap with an item has a count of at least 1
-pub count_one : (l : List ℕ) (g x : ℕ) → get_or l x 0 ≡ suc g → 1 ≤ sumBy (λ v. cond (eqb v (suc g)) 1 0) l
-unfolding sumBy
+pub count_one : (l : List ℕ) (g x : ℕ) → get_or l x 0 ≡ suc g → 1 ≤ sum_by (λ v. cond (eqb v (suc g)) 1 0) l
+unfolding sum_by
 count_one [] g x e = absurd (omega arith)
 count_one (v ∷ l) g zero e = rw (e, eqb_self (suc g)) (omega arith)
 count_one (v ∷ l) g (suc x) e = omega (arith, count_one l g x e)

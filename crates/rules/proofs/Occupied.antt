@@ -10,20 +10,20 @@ use lib.Dec.{eqb}
 use borrow.Author.Tests.{ne_eqb}
 use Rattle.rules.specs.Consolidate.{occupied}
 use Rattle.rules.specs.Forests.{none}
-use Rattle.rules.specs.Lists.{delta, occurs, sumBy}
+use Rattle.rules.specs.Lists.{delta, occurs, sum_by}
 use Rattle.rules.proofs.Sums.{sum_by_set}
 
 -- how often z stands at a place
 stand : ℕ → ℕ → ℕ
 stand z p = cond (eqb p none) 0 (delta z p)
 
-occurs-occupied : (z : ℕ) (ps : List ℕ) → occurs z (occupied ps) ≡ sumBy (stand z) ps
-unfolding occurs occupied sumBy stand
+occurs-occupied : (z : ℕ) (ps : List ℕ) → occurs z (occupied ps) ≡ sum_by (stand z) ps
+unfolding occurs occupied sum_by stand
 occurs-occupied z [] = refl
 occurs-occupied z (p ∷ ps) = go (eqb p none) (occurs-occupied z ps)
   where
-    go : (t : Bool) → occurs z (occupied ps) ≡ sumBy (stand z) ps
-        → occurs z (cond t (occupied ps) (p ∷ occupied ps)) ≡ cond t 0 (delta z p) + sumBy (stand z) ps
+    go : (t : Bool) → occurs z (occupied ps) ≡ sum_by (stand z) ps
+        → occurs z (cond t (occupied ps) (p ∷ occupied ps)) ≡ cond t 0 (delta z p) + sum_by (stand z) ps
     go true e = omega arith
     go false e = omega arith
 

@@ -7,7 +7,7 @@ use mathlib.Core.Bool.{Bool, true, false, ◌&&◌, true≢false}
 use native.Mathlib.Omega.{arith}
 use lib.Dec.{eqb}
 use borrow.Author.Tests.{eqb-true, eqb-false, eq-eqb, ne_eqb}
-use Rattle.rules.specs.Lists.{delta, occurs, sumBy, without}
+use Rattle.rules.specs.Lists.{delta, occurs, sum_by, without}
 use Rattle.rules.proofs.Sums.{sum_by_append, sum_by_without}
 
 -- one item, and all others
@@ -34,11 +34,11 @@ unfolding occurs
 occurs-append x l m = sum_by_append (delta x) l m
 
 pub occurs_nil : (x : ℕ) → occurs x [] ≡ 0
-unfolding occurs sumBy
+unfolding occurs sum_by
 occurs_nil x = refl
 
 pub occurs_one : (x y : ℕ) → occurs x (y ∷ []) ≡ delta x y
-unfolding occurs sumBy
+unfolding occurs sum_by
 occurs_one x y = omega arith
 
 pub occurs-without : (y x : ℕ) (l : List ℕ) → 1 ≤ occurs x l → delta y x + occurs y (without x l) ≡ occurs y l

@@ -28,10 +28,10 @@ use Rattle.rules.specs.declared.Field.TheVariants.{
   Rank,
   State,
 }
-use Rattle.rules.specs.Lists.{tabulateFrom, tabulate}
+use Rattle.rules.specs.Lists.{tabulate_from, tabulate}
 use Rattle.rules.specs.SetWord.{field_number}
 use Rattle.rules.specs.Words.{store_size, field_size, item_place, place_in, fields}
-use Rattle.rules.proofs.Tabulate.{get_d_tabulate}
+use Rattle.rules.proofs.Tabulate.{get_or_tabulate}
 
 pub field_number_lem : (f : Field) → get_or fields (field_number f) State ≡ f
 field_number_lem FirstTree = refl
@@ -52,12 +52,12 @@ pub number_injective : (f g : Field) → field_number f ≡ field_number g → f
 number_injective f g e = sym (field_number_lem f) ∙ ap (λ k. get_or fields k State) e ∙ field_number_lem g
 
 number_onto : (k : ℕ) → k < length fields → field_number (get_or fields k State) ≡ k
-unfolding tabulateFrom
+unfolding tabulate_from
 number_onto k h =
     let e : map field_number fields ≡ tabulate (length fields) (λ i. i) = refl in
     sym (get_or-map field_number fields k State)
     ∙ ap (λ l. get_or l k (field_number State)) e
-    ∙ get_d_tabulate (length fields) (λ i. i) k (field_number State) h
+    ∙ get_or_tabulate (length fields) (λ i. i) k (field_number State) h
 
 -- ---- the words of the items
 

@@ -1,4 +1,4 @@
--- What linking, taking, insertion and joining do to the potential. These hold of any lists whatever, well_formed or
+-- What linking, taking, insertion and joining do to the potential. These hold of any lists whatever, well-formed or
 -- not.
 use Prim.Native.Nat.{ℕ, zero, suc, ◌+◌, ◌≤◌, zero-le}
 use mathlib.Core.Path.{◌≡◌, refl, sym, ap}
@@ -25,7 +25,7 @@ use Rattle.rules.specs.Consolidate.{
   winner,
 }
 use Rattle.rules.specs.Forests.{Forests, children_of, marks, none, potential, rank_of, row_of, trees}
-use Rattle.rules.specs.Lists.{occurs, set_all, sumBy, without}
+use Rattle.rules.specs.Lists.{occurs, set_all, sum_by, without}
 use Rattle.rules.proofs.CutPotential.{clear}
 use Rattle.rules.proofs.Linking.{link_trees_keeps}
 use Rattle.rules.proofs.Sums.{length_without, sum_by_set_le}
@@ -44,13 +44,13 @@ busy_le x = go (eqb x none)
     go true = zero-le
     go false = le_refl 1
 
-pub length-occupied : (ps : List ℕ) → length (occupied ps) ≡ sumBy busy ps
-unfolding occupied sumBy busy
+pub length-occupied : (ps : List ℕ) → length (occupied ps) ≡ sum_by busy ps
+unfolding occupied sum_by busy
 length-occupied [] = refl
 length-occupied (x ∷ xs) = go (eqb x none) (length-occupied xs)
   where
-    go : (t : Bool) → length (occupied xs) ≡ sumBy busy xs
-        → length (cond t (occupied xs) (x ∷ occupied xs)) ≡ cond t 0 1 + sumBy busy xs
+    go : (t : Bool) → length (occupied xs) ≡ sum_by busy xs
+        → length (cond t (occupied xs) (x ∷ occupied xs)) ≡ cond t 0 1 + sum_by busy xs
     go true ih = omega arith
     go false ih = omega arith
 
@@ -60,7 +60,7 @@ taken_busy ps r e = rw e
 
 -- links made and places taken by one tree: what was there, and one more
 pub climb-count : (d : ℕ) (f : Bool) (r x : ℕ) (w : Linking) → is_free w.places r ≡ f
-    → (climb d f r x w).links + sumBy busy (climb d f r x w).places ≤ w.links + sumBy busy w.places + 1
+    → (climb d f r x w).links + sum_by busy (climb d f r x w).places ≤ w.links + sum_by busy w.places + 1
 unfolding climb busy
 climb-count zero f r x w e = omega arith
 climb-count (suc d) true r x w e = omega (arith, sum_by_set_le busy w.places r x none refl, busy_le x)
@@ -74,7 +74,7 @@ climb-count (suc d) false r x w e =
     )
 
 link_trees-count : (d : ℕ) (xs : List ℕ) (w : Linking)
-    → (link_trees d xs w).links + sumBy busy (link_trees d xs w).places ≤ w.links + sumBy busy
+    → (link_trees d xs w).links + sum_by busy (link_trees d xs w).places ≤ w.links + sum_by busy
     w.places + length xs
 unfolding link_trees
 link_trees-count d [] w = omega arith
@@ -96,25 +96,25 @@ link_trees-marks d xs w =
 -- each link takes one tree away
 consolidate-potential : (h : ℕ) (s : Forests)
     → (consolidate h s).links + potential (consolidate h s).forests ≤ potential s
-unfolding consolidate consolidate_within potential trees sumBy busy marks
+unfolding consolidate consolidate_within potential trees sum_by busy marks
 consolidate-potential h s =
     let z : Linking = record { places = replicate 17 none; links = 0; forests = s } in
     let w : Linking = link_trees 18 (row_of s h) z in
     let e : w.forests.rows ≡ s.rows = link_trees_rows 18 (row_of s h) z in
-    let n : sumBy busy z.places ≡ 0 = refl in
+    let n : sum_by busy z.places ≡ 0 = refl in
     omega (
       arith,
       link_trees-count 18 (row_of s h) z,
       link_trees-marks 18 (row_of s h) z,
       length-occupied w.places,
       sum_by_set_le length w.forests.rows h (occupied w.places) [] refl,
-      ap (sumBy length) e,
+      ap (sum_by length) e,
       ap (λ l. length (get_or l h [])) e,
     )
 
 -- ---- a root leaves: its children are trees now
 
-clear_all : (cs ms : List ℕ) → sumBy (λ m. m) (set_all cs 0 ms) ≤ sumBy (λ m. m) ms
+clear_all : (cs ms : List ℕ) → sum_by (λ m. m) (set_all cs 0 ms) ≤ sum_by (λ m. m) ms
 unfolding set_all
 clear_all [] ms = le_refl _
 clear_all (c ∷ cs) ms = omega (arith, clear_all cs (set ms c 0), clear ms c)

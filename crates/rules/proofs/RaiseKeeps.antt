@@ -1,4 +1,4 @@
--- A raise of a heap: the keys after it, that it keeps the forests well_formed, and that every heap keeps its minimum.
+-- A raise of a heap: the keys after it, that it keeps the forests well-formed, and that every heap keeps its minimum.
 use Prim.Native.Nat.{ℕ, suc, ◌+◌, ◌≤◌, ◌<◌}
 use mathlib.Core.Path.{◌≡◌, refl, sym, ◌∙◌}
 use mathlib.Core.Logic.{◌≢◌}
@@ -10,20 +10,20 @@ use lib.Dec.{eqb, ltb}
 use borrow.Author.Tests.{eqb-true, eqb-false, ltb-true, ltb-false, ne_eqb}
 use Rattle.rules.specs.Calls.{raise, raised_key}
 use Rattle.rules.specs.Forests.{Forests, heap_of, key_of, marks, potential, row_of, table_size, trees}
-use Rattle.rules.specs.Lists.{delta, occurs, sumBy}
+use Rattle.rules.specs.Lists.{delta, occurs, sum_by}
 use Rattle.rules.specs.Order.{least_in, least_of, minimum, precedes}
 use Rattle.rules.specs.WellFormed.{Disjoint, KeysFit}
 use Rattle.rules.proofs.Excused.{Formed, OrderedBut, RankedBut}
 use Rattle.rules.proofs.Members.{heap_in, row_root}
 use Rattle.rules.proofs.Occurs.{delta_self, eqb_self}
 use Rattle.rules.proofs.Order.{before_keys, before_raised}
-use Rattle.rules.proofs.Tabulate.{get_d_tabulate, length_tabulate}
+use Rattle.rules.proofs.Tabulate.{get_or_tabulate, length_tabulate}
 
 -- the least of a list depends on the order of its items alone
 least_of_same : (key key' : List ℕ) (x : ℕ) (ys : List ℕ)
     → ((a b : ℕ) → 1 ≤ occurs a (x ∷ ys) → 1 ≤ occurs b (x ∷ ys) → precedes key a b ≡ precedes key' a b)
     → least_of key x ys ≡ least_of key' x ys
-unfolding least_of occurs sumBy
+unfolding least_of occurs sum_by
 least_of_same key key' x [] f = refl
 least_of_same key key' x (y ∷ ys) f =
     rw (f y x (omega (arith, delta_self y)) (omega (arith, delta_self x)))
@@ -46,7 +46,7 @@ module _ (h d : ℕ) (s : Forests) where
 
   raised_in : (i : ℕ) → i < table_size s → key_of (raise h d s) i ≡ raised_key h d s i
   unfolding raise
-  raised_in i k = get_d_tabulate (table_size s) (raised_key h d s) i 0 k
+  raised_in i k = get_or_tabulate (table_size s) (raised_key h d s) i 0 k
 
   pub raise_key : (i : ℕ) → heap_of s i ≡ suc h → key_of (raise h d s) i ≡ key_of s i + d
   unfolding raised_key

@@ -10,7 +10,7 @@ use lib.Dec.{eqb, eqb-zero-suc}
 use borrow.Author.Tests.{eqb-true, eqb-false}
 use Rattle.rules.specs.Fibonacci.{F, R}
 use Rattle.rules.specs.Forests.{Forests, children_of, count, heap_of, mark_of, none, parent_of, rank_of, row_of}
-use Rattle.rules.specs.Lists.{delta, indicator, occurs, sumBy, sum_to}
+use Rattle.rules.specs.Lists.{delta, indicator, occurs, sum_by, sum_to}
 use Rattle.rules.specs.WellFormed.{Disjoint}
 use Rattle.rules.proofs.Excused.{ChildRanksBut, RankedBut, exact}
 use Rattle.rules.proofs.Fibonacci.{F_mono, F_rec, R-max}
@@ -37,8 +37,8 @@ weight s i = F (suc (suc (rank_of s i)))
 -- the weights of an item's children sum to all of its own but 1
 pub children_weight : (s : Forests) → ((x : ℕ) → mark_of s x ≤ 1) → (j : ℕ) (cs : List ℕ)
     → ChildRanksBut exact s.children s.mark j cs
-    → F (suc (suc (j + length cs))) ≤ F (suc (suc j)) + sumBy (weight s) cs
-unfolding sumBy
+    → F (suc (suc (j + length cs))) ≤ F (suc (suc j)) + sum_by (weight s) cs
+unfolding sum_by
 children_weight s b j [] t = let e : j + 0 ≡ j = omega arith in rw e (omega arith)
 children_weight s b j (c ∷ cs) t =
     let e : j + suc (length cs) ≡ suc j + length cs = omega arith in
@@ -63,10 +63,10 @@ module _ (s : Forests) (S : Disjoint s) (K : RankedBut exact s) (h : ℕ) where
   H : ℕ → ℕ
   H i = cond (eqb (heap_of s i) (suc h)) 1 0
 
-  item_weight : (i : ℕ) → i < N → weight s i ≤ 1 + sumBy (weight s) (children_of s i)
+  item_weight : (i : ℕ) → i < N → weight s i ≤ 1 + sum_by (weight s) (children_of s i)
   unfolding RankedBut N
   item_weight i j =
-      let k : F (suc (suc (rank_of s i))) ≤ F 2 + sumBy (weight s) (children_of s i) =
+      let k : F (suc (suc (rank_of s i))) ≤ F 2 + sum_by (weight s) (children_of s i) =
       rw zero-add at (children_weight s S.bit 0 (children_of s i) (K i j)) in
       omega (arith, F_two)
 
@@ -123,16 +123,16 @@ module _ (s : Forests) (S : Disjoint s) (K : RankedBut exact s) (h : ℕ) where
                 ap (λ y. y * W) q,
               ))
 
-  rows_weight : sumBy (weight s) (row_of s h) ≤ count s h
+  rows_weight : sum_by (weight s) (row_of s h) ≤ count s h
   unfolding N H count
   rows_weight =
       omega (
         arith,
         sum_by_occurs N (weight s) (row_of s h) out_row,
-        sum_to_le N (λ i. H i * weight s i) (λ i. H i + H i * sumBy (weight s) (children_of s i))
+        sum_to_le N (λ i. H i * weight s i) (λ i. H i + H i * sum_by (weight s) (children_of s i))
             (λ i j. omega (arith, mul-le-mul_left (H i) (item_weight i j))),
-        sum_to-add N H (λ i. H i * sumBy (weight s) (children_of s i)),
-        sum_to_cong N (λ i. H i * sumBy (weight s) (children_of s i))
+        sum_to-add N H (λ i. H i * sum_by (weight s) (children_of s i)),
+        sum_to_cong N (λ i. H i * sum_by (weight s) (children_of s i))
             (λ i. sum_to N (λ x. H i * (occurs x (children_of s i) * weight s x)))
             (λ i j. ap (λ y. H i * y) (sum_by_occurs N (weight s) (children_of s i) (out_children i j))
             ∙ sym (sum_to-mul N (H i) (λ x. occurs x (children_of s i) * weight s x))),
@@ -146,7 +146,7 @@ module _ (s : Forests) (S : Disjoint s) (K : RankedBut exact s) (h : ℕ) where
       )
 
 -- the sum over a list is at least any part
-part_le : (f : ℕ → ℕ) (x : ℕ) (l : List ℕ) → 1 ≤ occurs x l → f x ≤ sumBy f l
+part_le : (f : ℕ → ℕ) (x : ℕ) (l : List ℕ) → 1 ≤ occurs x l → f x ≤ sum_by f l
 part_le f x l k = omega (arith, sum_by_without f x l k)
 
 -- a root's rank is at most R of the items in its heap

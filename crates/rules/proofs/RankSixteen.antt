@@ -9,19 +9,19 @@ use lib.ListN.{length}
 use lib.Dec.{eqb}
 use Rattle.rules.specs.Fibonacci.{R, last_from}
 use Rattle.rules.specs.Forests.{Forests, count, rank_of, row_of, table_size}
-use Rattle.rules.specs.Lists.{occurs, sumBy}
+use Rattle.rules.specs.Lists.{occurs, sum_by}
 use Rattle.rules.specs.WellFormed.{Disjoint}
 use Rattle.rules.proofs.Excused.{Formed}
 use Rattle.rules.proofs.Fibonacci.{R_mono}
 use Rattle.rules.proofs.RankBound.{rank_le}
 
-count_le : (l : List ℕ) (h : ℕ) → sumBy (λ x. cond (eqb x (suc h)) 1 0) l ≤ length l
-unfolding sumBy
+count_le : (l : List ℕ) (h : ℕ) → sum_by (λ x. cond (eqb x (suc h)) 1 0) l ≤ length l
+unfolding sum_by
 count_le [] h = le_refl 0
 count_le (x ∷ xs) h = go (eqb x (suc h)) (count_le xs h)
   where
-    go : (t : Bool) → sumBy (λ x. cond (eqb x (suc h)) 1 0) xs ≤ length xs
-        → cond t 1 0 + sumBy (λ x. cond (eqb x (suc h)) 1 0) xs ≤ suc (length xs)
+    go : (t : Bool) → sum_by (λ x. cond (eqb x (suc h)) 1 0) xs ≤ length xs
+        → cond t 1 0 + sum_by (λ x. cond (eqb x (suc h)) 1 0) xs ≤ suc (length xs)
     go true k = omega arith
     go false k = omega arith
 

@@ -8,7 +8,7 @@ use mathlib.Core.Bool.{Bool, true, false, cond}
 use native.Mathlib.Omega.{arith}
 use lib.Dec.{eqb}
 use borrow.Author.Tests.{eqb-true, eqb-false, ne_eqb}
-use Rattle.rules.specs.Lists.{occurs, sumBy, without}
+use Rattle.rules.specs.Lists.{occurs, sum_by, without}
 use Rattle.rules.specs.Forests.{none}
 use Rattle.rules.specs.Words.{head_or, last_or, next_in, prev_in}
 use Rattle.rules.proofs.Occurs.{eqb_self, delta_other, occurs_one, occurs-without}
@@ -46,7 +46,7 @@ stands y l = go (eqb (occurs y l) 0) refl
 
 -- the ends of a list are none, or stand in it
 pub at_end : (z y : ℕ) (l : List ℕ) → 1 ≤ occurs z (none ∷ l) → y ≢ none → occurs y l ≡ 0 → z ≢ y
-unfolding occurs sumBy
+unfolding occurs sum_by
 at_end z y l k m n = member_apart z y (none ∷ l) k (omega (arith, delta_other y none (λ e. m (sym e))))
 
 other_out : (x y : ℕ) → y ≢ x → occurs y (x ∷ []) ≡ 0

@@ -7,14 +7,14 @@ use mathlib.Core.Bool.{Bool, true, false, cond}
 use native.Mathlib.Omega.{arith}
 use lib.Dec.{eqb}
 use borrow.Author.Tests.{eqb-true, eqb-false, ne_eqb}
-use Rattle.rules.specs.Lists.{delta, occurs, sumBy, without}
+use Rattle.rules.specs.Lists.{delta, occurs, sum_by, without}
 use Rattle.rules.specs.Forests.{none}
 use Rattle.rules.specs.Words.{head_or, last_or, next_in, prev_in}
 use Rattle.rules.proofs.Occurs.{eqb_self, delta_self}
 use Rattle.rules.proofs.Siblings.{Once, once_tail, head_out, tail_in, member_apart}
 
 pub prev_in_lem : (d x : ℕ) (l : List ℕ) → 1 ≤ occurs x l → 1 ≤ occurs (prev_in d x l) (d ∷ l)
-unfolding prev_in occurs sumBy
+unfolding prev_in occurs sum_by
 prev_in_lem d x [] k = absurd (omega arith)
 prev_in_lem d x (z ∷ zs) k = go (eqb z x) refl (λ i. prev_in_lem z x zs i)
   where
@@ -26,7 +26,7 @@ prev_in_lem d x (z ∷ zs) k = go (eqb z x) refl (λ i. prev_in_lem z x zs i)
 
 pub head_without : (d x : ℕ) (l : List ℕ) → occurs d l ≡ 0 → Once l → 1 ≤ occurs x l
     → head_or none (without x l) ≡ cond (eqb d (prev_in d x l)) (next_in x l) (head_or none l)
-unfolding head_or prev_in next_in without occurs sumBy
+unfolding head_or prev_in next_in without occurs sum_by
 head_without d x [] n o k = absurd (omega arith)
 head_without d x (z ∷ zs) n o k = go (eqb z x) refl
   where
@@ -40,7 +40,7 @@ head_without d x (z ∷ zs) n o k = go (eqb z x) refl
 
 pub next-without : (d x y : ℕ) (l : List ℕ) → occurs d l ≡ 0 → Once l → 1 ≤ occurs x l → 1 ≤ occurs y l → y ≢ x
     → next_in y (without x l) ≡ cond (eqb y (prev_in d x l)) (next_in x l) (next_in y l)
-unfolding head_or prev_in next_in without occurs sumBy
+unfolding head_or prev_in next_in without occurs sum_by
 next-without d x y [] n o k j m = absurd (omega arith)
 next-without d x y (z ∷ zs) n o k j m =
     go (eqb z x) (eqb z y) refl refl (λ a b. next-without z x y zs (head_out z zs o) (once_tail z zs o) a b m)
@@ -61,16 +61,16 @@ next-without d x y (z ∷ zs) n o k j m =
 
 -- none stands in the list
 none_tail : (z : ℕ) (zs : List ℕ) → occurs none (z ∷ zs) ≡ 0 → occurs none zs ≡ 0
-unfolding occurs sumBy
+unfolding occurs sum_by
 none_tail z zs n = omega arith
 
 pub none_head : (z : ℕ) (zs : List ℕ) → occurs none (z ∷ zs) ≡ 0 → z ≢ none
-unfolding occurs sumBy
+unfolding occurs sum_by
 none_head z zs n e = omega (arith, delta_self none, ap (delta none) e)
 
 pub last_without : (d x : ℕ) (l : List ℕ) → occurs none l ≡ 0 → 1 ≤ occurs x l
     → last_or d (without x l) ≡ cond (eqb (next_in x l) none) (prev_in d x l) (last_or d l)
-unfolding last_or head_or prev_in next_in without occurs sumBy
+unfolding last_or head_or prev_in next_in without occurs sum_by
 last_without d x [] n k = absurd (omega arith)
 last_without d x (z ∷ zs) n k = go (eqb z x) refl (λ i. last_without z x zs (none_tail z zs n) i)
   where
@@ -87,7 +87,7 @@ last_without d x (z ∷ zs) n k = go (eqb z x) refl (λ i. last_without z x zs (
 
 -- what follows x stands in the list, or is none
 pub next_out : (x y : ℕ) (l : List ℕ) → occurs y l ≡ 0 → y ≢ none → next_in x l ≢ y
-unfolding next_in head_or occurs sumBy
+unfolding next_in head_or occurs sum_by
 next_out x y [] n m = λ e. m (sym e)
 next_out x y (z ∷ zs) n m = go (eqb z x) zs (omega arith) (next_out x y zs (omega arith) m)
   where
@@ -98,7 +98,7 @@ next_out x y (z ∷ zs) n m = go (eqb z x) zs (omega arith) (next_out x y zs (om
 
 pub prev_without : (d x y : ℕ) (l : List ℕ) → occurs none l ≡ 0 → Once l → 1 ≤ occurs x l → 1 ≤ occurs y l → y ≢ x
     → prev_in d y (without x l) ≡ cond (eqb y (next_in x l)) (prev_in d x l) (prev_in d y l)
-unfolding head_or prev_in next_in without occurs sumBy
+unfolding head_or prev_in next_in without occurs sum_by
 prev_without d x y [] n o k j m = absurd (omega arith)
 prev_without d x y (z ∷ zs) n o k j m =
     go (eqb z x) (eqb z y) refl refl (λ a b. prev_without z x y zs (none_tail z zs n) (once_tail z zs o) a b m)

@@ -1,4 +1,4 @@
--- How large the numbers of an answer can be, from well_formed forests.
+-- How large the numbers of an answer can be, from well-formed forests.
 use Prim.Native.Nat.{ℕ, zero, suc, ◌+◌, ◌*◌, ◌≤◌, ◌<◌, zero-le}
 use mathlib.Core.Path.{◌≡◌, refl}
 use mathlib.Core.List.{List, [], ◌∷◌}
@@ -15,7 +15,7 @@ use Rattle.rules.specs.Answers.{answer, refusal, refused, unless_refused}
 use Rattle.rules.specs.Calls.{decrease_key, delete, delete_as, extract, perform}
 use Rattle.rules.specs.Forests.{Forests, heap_number, key_of, potential, row_of, table_size, trees}
 use Rattle.rules.specs.Ledger.{price}
-use Rattle.rules.specs.Lists.{sumBy}
+use Rattle.rules.specs.Lists.{sum_by}
 use Rattle.rules.specs.Order.{minimum}
 use Rattle.rules.specs.Theorems.{InRange}
 use Rattle.rules.specs.WellFormed.{Disjoint, KeysFit, WellFormed}
@@ -46,8 +46,8 @@ pub record Small (a : Answer) : Type 0 where
 -- ---- the potential
 
 rows_length : (rows : List (List ℕ)) (n k : ℕ) → length rows ≡ k → ((h : ℕ) → length (get_or rows h []) ≤ n)
-    → sumBy length rows ≤ k * n
-unfolding sumBy
+    → sum_by length rows ≤ k * n
+unfolding sum_by
 rows_length [] n k e f = zero-le
 rows_length (r ∷ rows) n zero e f = absurd (omega arith)
 rows_length (r ∷ rows) n (suc k) e f = omega (arith, f 0, rows_length rows n k (omega arith) (λ h. f (suc h)))

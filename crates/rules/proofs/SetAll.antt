@@ -9,7 +9,7 @@ use lib.ListN.{length, get_or, set, length-set}
 use lib.Seq.{get_or-set_same, get_or-set_other}
 use lib.Dec.{eqb}
 use borrow.Author.Tests.{eqb-true, eqb-false}
-use Rattle.rules.specs.Lists.{delta, occurs, set_all, sumBy}
+use Rattle.rules.specs.Lists.{delta, occurs, set_all, sum_by}
 use Rattle.rules.proofs.Occurs.{delta_other, delta_self}
 
 -- a value set elsewhere is kept where it stands
@@ -31,7 +31,7 @@ keep_all [] v y d l e = e
 keep_all (c ∷ cs) v y d l e = keep_all cs v y d (set l c v) (keep l c y v d e)
 
 pub set_all_in : (cs : List ℕ) (v y d : ℕ) (l : List ℕ) → y < length l → 1 ≤ occurs y cs → get_or (set_all cs v l) y d ≡ v
-unfolding set_all occurs sumBy
+unfolding set_all occurs sum_by
 set_all_in [] v y d l k h = absurd (omega arith)
 set_all_in (c ∷ cs) v y d l k h = go (eqb c y) refl (set_all_in cs v y d (set l c v))
   where
@@ -42,7 +42,7 @@ set_all_in (c ∷ cs) v y d l k h = go (eqb c y) refl (set_all_in cs v y d (set 
     go false e ih = ih (rw length-set k) (omega (arith, delta_other y c (eqb-false c y e)))
 
 pub set_all_out : (cs : List ℕ) (v y d : ℕ) (l : List ℕ) → occurs y cs ≡ 0 → get_or (set_all cs v l) y d ≡ get_or l y d
-unfolding set_all occurs sumBy
+unfolding set_all occurs sum_by
 set_all_out [] v y d l h = refl
 set_all_out (c ∷ cs) v y d l h =
     let n : y ≢ c = λ e. omega (arith, delta_self y, ap (delta y) e) in

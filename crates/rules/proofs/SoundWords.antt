@@ -15,7 +15,7 @@ module _ (o : Layout) where
   pub items-encode_in : (q : Queues) → items_in (encode_in o q) ≡ table_size q.forests
   items-encode_in q = items_in_lem (encode_in o q) (table_size q.forests) (encode_length o q)
 
-  -- the words of well_formed queues are theirs again
+  -- the words of well-formed queues are theirs again
   pub queues_encode_in : (q : Queues) → WellFormedQueues q → queues_in o (encode_in o q) ≡ q
   queues_encode_in q W = ap (λ n. decode n (look_in o n (encode_in o q))) (items-encode_in q) ∙ decode_encode o q W
 
@@ -26,7 +26,7 @@ module _ {o : Layout} (w : List ℕ) (S : SoundIn o w) where
   same_queues : queues_in o w ≡ S.queues
   same_queues = ap (queues_in o) S.words ∙ queues_encode_in o S.queues S.well_formed
 
-  -- of sound words the queues are well_formed, and the words are theirs
+  -- of sound words the queues are well-formed, and the words are theirs
   pub sound_queues : WellFormedQueues (queues_in o w)
   sound_queues = rw same_queues S.well_formed
 

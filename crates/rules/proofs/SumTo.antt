@@ -9,7 +9,7 @@ use native.Mathlib.Omega.{arith}
 use lib.ListN.{length, get_or}
 use lib.Dec.{eqb, ltb}
 use borrow.Author.Tests.{eqb-true, eqb-false, ne_eqb, ltb-true, ltb-false}
-use Rattle.rules.specs.Lists.{delta, occurs, sumBy, sum_to}
+use Rattle.rules.specs.Lists.{delta, occurs, sum_by, sum_to}
 use Rattle.rules.proofs.Occurs.{delta_self}
 
 pub sum_to_le : (n : ℕ) (f g : ℕ → ℕ) → ((x : ℕ) → x < n → f x ≤ g x) → sum_to n f ≤ sum_to n g
@@ -61,8 +61,8 @@ sum_to_pick (suc n) y f h = go (eqb y n) refl (sum_to_pick n y f)
 
 -- the sum over a list, by how often each number stands there
 pub sum_by_occurs : (n : ℕ) (f : ℕ → ℕ) (l : List ℕ) → ((x : ℕ) → n ≤ x → occurs x l ≡ 0)
-    → sumBy f l ≡ sum_to n (λ x. occurs x l * f x)
-unfolding occurs sumBy
+    → sum_by f l ≡ sum_to n (λ x. occurs x l * f x)
+unfolding occurs sum_by
 sum_by_occurs n f [] h = sym (sum_to_zero n) ∙ sum_to_cong n (λ _. 0) (λ x. 0 * f x) (λ x _. omega arith)
 sum_by_occurs n f (y ∷ l) h =
     let k : y < n = low (ltb y n) refl in
@@ -86,7 +86,7 @@ sum_to_shift (suc n) f = omega (arith, sum_to_shift n f)
 
 -- the sum over a list, by its places
 pub sumBy-places {ℓ} : {A : Type ℓ} (f : A → ℕ) (d : A) (l : List A)
-    → sumBy f l ≡ sum_to (length l) (λ i. f (get_or l i d))
-unfolding sumBy sum_to
+    → sum_by f l ≡ sum_to (length l) (λ i. f (get_or l i d))
+unfolding sum_by sum_to
 sumBy-places f d [] = refl
 sumBy-places f d (x ∷ l) = omega (arith, sum_to_shift (length l) (λ i. f (get_or (x ∷ l) i d)), sumBy-places f d l)

@@ -25,7 +25,7 @@ use Rattle.rules.specs.Calls.{
 use Rattle.rules.specs.Consolidate.{climb, consolidate, consolidate_within, is_free, link, link_trees, occupied}
 use Rattle.rules.specs.Cut.{cascading_cut, cut, cut_if, cut_out, cut_within, node_kind}
 use Rattle.rules.specs.Forests.{count}
-use Rattle.rules.specs.Lists.{set_all, sumBy, tabulateFrom, without}
+use Rattle.rules.specs.Lists.{set_all, sum_by, tabulate_from, without}
 use Rattle.rules.specs.Order.{comes_before, least_in, least_of, minimum}
 use Rattle.rules.specs.Queues.{amounts_after, amounts_after_call, amounts_after_line, amounts_left, key_from, key_word}
 use Rattle.rules.specs.Turn.{relaid}
@@ -65,7 +65,7 @@ pub turn_worked : TurnWorked
 unfolding lines_turned empty_heap_words heaps_with new_words old_words new_cut relaid after answer unless_refused refused
     refusal carried_over some_carried_over is_empty perform raise raised_key decrease_key has_parent extract remove_root
     set_free release insert consolidate consolidate_within occupied link_trees climb is_free link cut_if cut_out cut_within
-    cascading_cut node_kind cut minimum least_in least_of comes_before count set_all without sumBy tabulateFrom
+    cascading_cut node_kind cut minimum least_in least_of comes_before count set_all without sum_by tabulate_from
     amounts_after amounts_after_line amounts_after_call amounts_left key_from key_word encode_in words_in store_fields
     store_field store_size items_in word unless_free state_of state_heap state_mark siblings prev_in next_in last_or head_or
     decode_forests list_from follow read_key

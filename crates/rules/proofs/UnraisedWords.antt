@@ -1,4 +1,4 @@
--- Queues with all amounts 0 are well_formed where their forests are, and their words are the base's with a 0 after each
+-- Queues with all amounts 0 are well-formed where their forests are, and their words are the base's with a 0 after each
 -- heap's four.
 use Prim.Native.Nat.{ℕ, zero, suc, ◌+◌, ◌-◌, ◌*◌, ◌<◌}
 use mathlib.Core.Path.{◌≡◌, refl, sym, ap, ◌∙◌}
@@ -32,9 +32,9 @@ use Rattle.rules.specs.Queues.{amount_of, key_word, unraised}
 use Rattle.rules.specs.Unraised.{UnraisedWords, base_words, column, columns, four_words, item_words, with_zeros}
 use Rattle.rules.specs.WellFormed.{KeysFit, WellFormed, WellFormedQueues}
 use Rattle.rules.specs.Words.{encode_in, field_size, look_in, store_size, unless_free, word}
-use Rattle.rules.proofs.Flatten.{EachLong, each_map, each_tabulate, get_d_flatten, length_flatten}
+use Rattle.rules.proofs.Flatten.{EachLong, each_map, each_tabulate, get_or_flatten, length_flatten}
 use Rattle.rules.proofs.KeyWords.{key_words}
-use Rattle.rules.proofs.Tabulate.{get_d_tabulate, length_tabulate}
+use Rattle.rules.proofs.Tabulate.{get_or_tabulate, length_tabulate}
 use Rattle.rules.proofs.Words.{words_equal}
 
 pub zero_at : (n h : ℕ) → ◌≡◌ {A = ℕ} (get_or (replicate n 0) h 0) 0
@@ -42,7 +42,7 @@ zero_at zero h = refl
 zero_at (suc n) zero = refl
 zero_at (suc n) (suc h) = zero_at n h
 
--- well_formed forests with all amounts 0 are well_formed queues
+-- well-formed forests with all amounts 0 are well-formed queues
 pub unraised_formed : (s : Forests) → WellFormed s → WellFormedQueues (unraised s)
 unraised_formed s W =
     record {
@@ -94,8 +94,8 @@ module _ (s : Forests) where
   of_heap j p i v a b e q =
       get_or-append (flatten (tabulate 8 five)) (flatten (columns s)) 0 p (omega (arith, heads_length))
       ∙ ap (λ r. get_or (flatten (tabulate 8 five)) r 0) (omega arith)
-      ∙ get_d_flatten 5 (tabulate 8 five) fives_long i j (omega (arith, length_tabulate 8 five)) b
-      ∙ ap (λ l. get_or l j 0) (get_d_tabulate 8 five i [] a)
+      ∙ get_or_flatten 5 (tabulate 8 five) fives_long i j (omega (arith, length_tabulate 8 five)) b
+      ∙ ap (λ l. get_or l j 0) (get_or_tabulate 8 five i [] a)
       ∙ q
 
   -- word i of column c, at place p
@@ -105,9 +105,9 @@ module _ (s : Forests) where
   of_item c p i f a b e q =
       ap (λ r. get_or (with_zeros s) r 0) (omega (arith, heads_length))
       ∙ get_or-append-add (flatten (tabulate 8 five)) (flatten (columns s)) (c * n + i) 0
-      ∙ get_d_flatten n (columns s) columns_long c i b a
+      ∙ get_or_flatten n (columns s) columns_long c i b a
       ∙ ap (λ l. get_or l i 0) q
-      ∙ get_d_tabulate n f i 0 a
+      ∙ get_or_tabulate n f i 0 a
 
   -- with amount 0 the key word is the key, that of a free item too
   key_word_lem : WellFormed s → (i : ℕ) → key_of s i ≡ word (amount_of (unraised s)) s Key i

@@ -75,17 +75,17 @@ has_parent s i = not (eqb (parent_of s i) none)
 unfoldable pub decrease_key : ℕ → ℕ → Forests → Outcome
 decrease_key i k before =
     let lowered = set_key i k before in
-    let beforeParent = has_parent lowered i && precedes lowered.key i (parent_of lowered i) in
-    let cutFree = cut_if beforeParent (heap_number before i) i lowered in
-    done i k 0 cutFree.cuts cutFree.forests
+    let before_parent = has_parent lowered i && precedes lowered.key i (parent_of lowered i) in
+    let cut_free = cut_if before_parent (heap_number before i) i lowered in
+    done i k 0 cut_free.cuts cut_free.forests
 
 -- X: a heap's minimum leaves as by T. Any other is cut if it has a parent, and then leaves its row with no linking.
 unfoldable pub delete_as : Bool → ℕ → Forests → Outcome
 delete_as true i before = extract (heap_number before i) i before
 delete_as false i before =
     let h = heap_number before i in
-    let cutFree = cut_if (has_parent before i) h i before in
-    done i (key_of before i) 0 cutFree.cuts (remove_root h i cutFree.forests)
+    let cut_free = cut_if (has_parent before i) h i before in
+    done i (key_of before i) 0 cut_free.cuts (remove_root h i cut_free.forests)
 
 unfoldable pub delete : ℕ → Forests → Outcome
 delete i s = delete_as (eqb (minimum s (heap_number s i)) i) i s

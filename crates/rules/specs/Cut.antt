@@ -42,17 +42,17 @@ cascading_cut zero st h p s = record { cuts = 0; forests = s }
 cascading_cut (suc d) root h p s = record { cuts = 0; forests = s }
 cascading_cut (suc d) unmarked h p s = record { cuts = 0; forests = set_mark p 1 s }
 cascading_cut (suc d) marked h p s =
-    let cutFree = cut h p s in
+    let cut_free = cut h p s in
     let above = parent_of s p in
-    let further = cascading_cut d (node_kind cutFree above) h above cutFree in
+    let further = cascading_cut d (node_kind cut_free above) h above cut_free in
     record { cuts = suc further.cuts; forests = further.forests }
 
 -- x is cut, and its parent is then treated as one that lost a child.
 unfoldable pub cut_within : ℕ → ℕ → ℕ → Forests → Cuts
 cut_within d h x s =
-    let cutFree = cut h x s in
+    let cut_free = cut h x s in
     let above = parent_of s x in
-    let further = cascading_cut d (node_kind cutFree above) h above cutFree in
+    let further = cascading_cut d (node_kind cut_free above) h above cut_free in
     record { cuts = suc further.cuts; forests = further.forests }
 
 unfoldable pub cut_out : ℕ → ℕ → Forests → Cuts

@@ -1,6 +1,6 @@
 -- The eight heaps over one table of items, as plain lists (scope paper, Queue rules).
 use Rattle.std.specs.Prelude.{ℕ, suc, ◌+◌, ◌-◌, ◌*◌, List, [], length, get_or, set, replicate, eqb}
-use Rattle.rules.specs.Lists.{indicator, sumBy, sum_to}
+use Rattle.rules.specs.Lists.{indicator, sum_by, sum_to}
 
 -- A heap is a row of trees; rows are indexed by heap, the other lists by item.
 pub record Forests : Type 0 where
@@ -131,17 +131,17 @@ set_heap i h s =
 
 -- n of the allowance: the items of heap h
 unfoldable pub count : Forests → ℕ → ℕ
-count s h = sumBy (λ v. indicator (eqb v (suc h))) s.heap
+count s h = sum_by (λ v. indicator (eqb v (suc h))) s.heap
 
 -- the items of all eight heaps
 unfoldable pub items : Forests → ℕ
 items s = sum_to 8 (count s)
 
 unfoldable pub trees : Forests → ℕ
-trees s = sumBy length s.rows
+trees s = sum_by length s.rows
 
 unfoldable pub marks : Forests → ℕ
-marks s = sumBy (λ m. m) s.mark
+marks s = sum_by (λ m. m) s.mark
 
 -- the potential, which the paper calls the charge
 unfoldable pub potential : Forests → ℕ

@@ -5,7 +5,7 @@ use Rattle.rules.specs.declared.Call.TheVariants.{Insert, FindMin, ExtractMin, D
 use Rattle.rules.specs.declared.Answer.{Answer}
 use Rattle.rules.specs.declared.Line.{Line}
 use Rattle.rules.specs.declared.Line.TheVariants.{Yields, NoCall}
-use Rattle.rules.specs.Lists.{sumBy}
+use Rattle.rules.specs.Lists.{sum_by}
 use Rattle.rules.specs.Forests.{Forests, heap_number, count, potential}
 use Rattle.rules.specs.Answers.{refusal, answer, answers, after}
 use Rattle.rules.specs.Fibonacci.{R}
@@ -32,7 +32,7 @@ allowance s l = if_done (price s) s l
 
 -- the links and cuts that answers show; those that a list of lines is answered, and the sum of its allowances
 abbrev pub moves_in : List Answer → ℕ
-moves_in told = sumBy (λ a. a.links + a.cuts) told
+moves_in told = sum_by (λ a. a.links + a.cuts) told
 
 unfoldable pub moves : Forests → List Line → ℕ
 moves s ls = moves_in (answers s ls)
@@ -41,7 +41,7 @@ unfoldable pub allowed : Forests → List Line → ℕ
 allowed s [] = 0
 allowed s (l ∷ ls) = allowance s l + allowed (answer s l).next ls
 
--- Any well_formed forests, any list of lines, any two moments: i lines stand before the first, n between the two.
+-- Any well-formed forests, any list of lines, any two moments: i lines stand before the first, n between the two.
 abbrev pub Ledger : Type 0
 Ledger =
     (start : Forests) → WellFormed start → (ls : List Line) (i n : ℕ) →

@@ -6,9 +6,9 @@ abbrev pub indicator : Bool → ℕ
 indicator t = cond t 1 0
 
 -- the sum of f over a list, and over 0 to n - 1
-unfoldable pub sumBy {ℓ} : {A : Type ℓ} → (A → ℕ) → List A → ℕ
-sumBy f [] = 0
-sumBy f (x ∷ xs) = f x + sumBy f xs
+unfoldable pub sum_by {ℓ} : {A : Type ℓ} → (A → ℕ) → List A → ℕ
+sum_by f [] = 0
+sum_by f (x ∷ xs) = f x + sum_by f xs
 
 unfoldable pub sum_to : ℕ → (ℕ → ℕ) → ℕ
 sum_to zero f = 0
@@ -19,7 +19,7 @@ unfoldable pub delta : ℕ → ℕ → ℕ
 delta x y = indicator (eqb y x)
 
 unfoldable pub occurs : ℕ → List ℕ → ℕ
-occurs x l = sumBy (delta x) l
+occurs x l = sum_by (delta x) l
 
 -- a list without the first place where x stands
 unfoldable pub without : ℕ → List ℕ → List ℕ
@@ -32,9 +32,9 @@ set_all [] v l = l
 set_all (i ∷ is) v l = set_all is v (set l i v)
 
 -- f k, f (k + 1), .. : n of them
-unfoldable pub tabulateFrom {ℓ} : {A : Type ℓ} → ℕ → ℕ → (ℕ → A) → List A
-tabulateFrom k zero f = []
-tabulateFrom k (suc n) f = f k ∷ tabulateFrom (suc k) n f
+unfoldable pub tabulate_from {ℓ} : {A : Type ℓ} → ℕ → ℕ → (ℕ → A) → List A
+tabulate_from k zero f = []
+tabulate_from k (suc n) f = f k ∷ tabulate_from (suc k) n f
 
 abbrev pub tabulate {ℓ} : {A : Type ℓ} → ℕ → (ℕ → A) → List A
-tabulate n f = tabulateFrom 0 n f
+tabulate n f = tabulate_from 0 n f

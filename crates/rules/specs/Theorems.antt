@@ -29,7 +29,7 @@ use Rattle.rules.specs.WellFormed.{WellFormed, WellFormedQueues, is_root_of}
 use Rattle.rules.specs.Ledger.{if_done}
 use Rattle.rules.specs.Words.{look_in, encode_in, encode, decode, queues_of, forests_of, store_size, Sound}
 
--- The empty forests of a fresh run are well_formed.
+-- The empty forests of a fresh run are well-formed.
 abbrev pub EmptyWellFormed : Type 0
 EmptyWellFormed = (n : ℕ) → n ≤ 4096 → WellFormed (empty n)
 
@@ -50,11 +50,11 @@ abbrev pub AllInRange : List Line → Type 0
 AllInRange [] = Unit {0}
 AllInRange (l ∷ ls) = InRange l × AllInRange ls
 
--- Every line, done or refused, leaves well_formed forests well_formed, and the table as long as it was.
+-- Every line, done or refused, leaves well-formed forests well-formed, and the table as long as it was.
 abbrev pub KeepsWellFormed : Type 0
 KeepsWellFormed = (s : Forests) → WellFormed s → (l : Line) → InRange l → WellFormed (answer s l).next
 
--- and well_formed queues too
+-- and well-formed queues too
 abbrev pub KeepsQueues : Type 0
 KeepsQueues = (q : Queues) → WellFormedQueues q → (l : Line) → InRange l → WellFormedQueues (after_line q l)
 

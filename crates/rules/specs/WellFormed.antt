@@ -1,5 +1,5 @@
 -- Well-formed forests: eight disjoint forests in heap order, with their marks and ranks (scope paper, Store, "Sound");
--- and well_formed queues, with their amounts.
+-- and well-formed queues, with their amounts.
 use Rattle.std.specs.Prelude.{ℕ, suc, ◌+◌, ◌-◌, ◌≤◌, ◌<◌, ◌≡◌, ◌≢◌, List, [], ◌∷◌, Bool, true, not, ◌&&◌, length, eqb}
 use Rattle.rules.specs.Lists.{indicator, occurs}
 use Rattle.rules.specs.Forests.{

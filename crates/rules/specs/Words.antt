@@ -230,7 +230,7 @@ queues_of = queues_in ByItem
 abbrev pub forests_of : List ℕ → Forests
 forests_of w = (queues_of w).forests
 
--- Sound: the words are exactly those of well_formed queues.
+-- Sound: the words are exactly those of well-formed queues.
 pub record SoundIn (o : Layout) (w : List ℕ) : Type 0 where
   pub queues : Queues
   pub well_formed : WellFormedQueues queues

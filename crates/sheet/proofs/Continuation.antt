@@ -18,29 +18,29 @@ use Rattle.sheet.proofs.Queues.{empty_formed}
 use Rattle.sheet.proofs.Runs.{fresh_done, kept_done, kept_encoded, parts, run_room}
 
 -- from the run of A on, whichever kind it is
-continued : (store : List ℕ) (q : Queues) → WellFormedQueues q → (a b outA outB outAB : List ℕ) → closed a ≡ true
-    → limit_code store a outA ≡ 0 → limit_code (encode (after_lines q (lines_of a))) b outB ≡ 0
-    → limit_code store (a ++ b) outAB ≡ 0
-    → SameAs (done_run q (lines_of a) outA) (kept_run (encode (after_lines q (lines_of a))) b outB)
-    (done_run q (lines_of (a ++ b)) outAB)
-continued store q W a b outA outB outAB c la lb lab =
+continued : (store : List ℕ) (q : Queues) → WellFormedQueues q → (a b out_a out_b out_ab : List ℕ) → closed a ≡ true
+    → limit_code store a out_a ≡ 0 → limit_code (encode (after_lines q (lines_of a))) b out_b ≡ 0
+    → limit_code store (a ++ b) out_ab ≡ 0
+    → SameAs (done_run q (lines_of a) out_a) (kept_run (encode (after_lines q (lines_of a))) b out_b)
+    (done_run q (lines_of (a ++ b)) out_ab)
+continued store q W a b out_a out_b out_ab c la lb lab =
     let t : Queues = after_lines q (lines_of a) in
-    rw (kept_encoded t (after_queues q W (lines_of a) (lines_range a)) b outB lb)
-    (parts q W.forests a b outA outB outAB c (run_room store a outA la) (run_room (encode t) b outB lb)
-    (run_room store (a ++ b) outAB lab))
+    rw (kept_encoded t (after_queues q W (lines_of a) (lines_range a)) b out_b lb)
+    (parts q W.forests a b out_a out_b out_ab c (run_room store a out_a la) (run_room (encode t) b out_b lb)
+    (run_room store (a ++ b) out_ab lab))
 
 pub continues : Continues
 unfolding done_run
-continues store a b outA outB outAB c la lb lab =
+continues store a b out_a out_b out_ab c la lb lab =
     let n : ℕ = items_in store in
-    let W = empty_formed n (within store a outA la).sized.small in
-    let e = fresh_done store a outA la in
-    rw (e, fresh_done store (a ++ b) outAB lab)
-    (continued store (empty_queues n) W a b outA outB outAB c la (rw e at lb) lab)
+    let W = empty_formed n (within store a out_a la).sized.small in
+    let e = fresh_done store a out_a la in
+    rw (e, fresh_done store (a ++ b) out_ab lab)
+    (continued store (empty_queues n) W a b out_a out_b out_ab c la (rw e at lb) lab)
 
 pub kept_continues : KeptContinues
 unfolding done_run
-kept_continues store a b outA outB outAB S c la lb lab =
-    let e = kept_done store a outA la S in
-    rw (e, kept_done store (a ++ b) outAB lab S)
-    (continued store (queues_of store) (sound_queues store S) a b outA outB outAB c la (rw e at lb) lab)
+kept_continues store a b out_a out_b out_ab S c la lb lab =
+    let e = kept_done store a out_a la S in
+    rw (e, kept_done store (a ++ b) out_ab lab S)
+    (continued store (queues_of store) (sound_queues store S) a b out_a out_b out_ab c la (rw e at lb) lab)

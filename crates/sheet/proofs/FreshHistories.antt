@@ -5,7 +5,7 @@ use mathlib.Core.List.{List, ◌∷◌}
 use native.Mathlib.Omega.{arith}
 use lib.ListN.{replicate}
 use Rattle.rules.specs.Forests.{empty, marks, potential, trees}
-use Rattle.rules.specs.Lists.{sumBy}
+use Rattle.rules.specs.Lists.{sum_by}
 use Rattle.rules.specs.Queues.{Queues, empty_queues}
 use Rattle.rules.specs.Words.{encode, forests_of, items_in}
 use Rattle.rules.proofs.SoundWords.{queues_encode}
@@ -20,10 +20,10 @@ use Rattle.sheet.proofs.FreshIsKept.{fresh_is_kept}
 use Rattle.sheet.proofs.Histories.{history_accounted}
 
 empty-potential : (n : ℕ) → potential (empty n) ≡ 0
-unfolding potential trees marks sumBy
+unfolding potential trees marks sum_by
 empty-potential n = rw (zeros n)
   where
-    zeros : (n : ℕ) → sumBy (λ m. m) (replicate n 0) ≡ 0
+    zeros : (n : ℕ) → sum_by (λ m. m) (replicate n 0) ≡ 0
     zeros zero = refl
     zeros (suc n) = omega (arith, zeros n)
 

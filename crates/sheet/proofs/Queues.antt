@@ -1,4 +1,4 @@
--- The queues of runs: the empty ones are well_formed, and a list of lines in two parts.
+-- The queues of runs: the empty ones are well-formed, and a list of lines in two parts.
 use Prim.Native.Nat.{ℕ, ◌≤◌}
 use mathlib.Core.Path.{◌≡◌, refl}
 use mathlib.Core.List.{List, [], ◌∷◌, ◌++◌}

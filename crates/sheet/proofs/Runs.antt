@@ -1,4 +1,4 @@
--- Runs that are done: from well_formed queues, what a run of one part and then of the other does.
+-- Runs that are done: from well-formed queues, what a run of one part and then of the other does.
 use Prim.Native.Nat.{ℕ, ◌*◌, ◌≤◌}
 use mathlib.Core.Path.{◌≡◌, refl, sym, ap, ◌∙◌}
 use mathlib.Core.List.{List, ◌++◌}
@@ -37,7 +37,7 @@ pub kept_done : (store sheet out : List ℕ) → limit_code store sheet out ≡ 
 unfolding kept_run unless_limit
 kept_done store sheet out e S = rw (e, sound_accepted store S)
 
--- on the words of well_formed queues
+-- on the words of well-formed queues
 pub kept_encoded : (q : Queues) → WellFormedQueues q → (sheet out : List ℕ) → limit_code (encode q) sheet out ≡ 0
     → kept_run (encode q) sheet out ≡ done_run q (lines_of sheet) out
 kept_encoded q W sheet out e =
@@ -56,13 +56,13 @@ pub run_room : (store sheet out : List ℕ) → limit_code store sheet out ≡ 0
 run_room store sheet out e = omega (arith, (within store sheet out e).room, lines-length sheet)
 
 -- A and then B from the queues that A left is A followed by B.
-pub parts : (q : Queues) → WellFormed q.forests → (a b outA outB outAB : List ℕ) → closed a ≡ true
-    → 32 * length (lines_of a) ≤ length outA → 32 * length (lines_of b) ≤ length outB
-    → 32 * length (lines_of (a ++ b)) ≤ length outAB
-    → SameAs (done_run q (lines_of a) outA) (done_run (after_lines q (lines_of a)) (lines_of b) outB)
-    (done_run q (lines_of (a ++ b)) outAB)
+pub parts : (q : Queues) → WellFormed q.forests → (a b out_a out_b out_ab : List ℕ) → closed a ≡ true
+    → 32 * length (lines_of a) ≤ length out_a → 32 * length (lines_of b) ≤ length out_b
+    → 32 * length (lines_of (a ++ b)) ≤ length out_ab
+    → SameAs (done_run q (lines_of a) out_a) (done_run (after_lines q (lines_of a)) (lines_of b) out_b)
+    (done_run q (lines_of (a ++ b)) out_ab)
 unfolding done_run
-parts q W a b outA outB outAB c ka kb kab =
+parts q W a b out_a out_b out_ab c ka kb kab =
     let s : Forests = q.forests in
     let e : lines_of (a ++ b) ≡ lines_of a ++ lines_of b = lines_of_append a b c in
     let t : Forests = after s (lines_of a) in
@@ -74,9 +74,9 @@ parts q W a b outA outB outAB c ka kb kab =
       bytes = rw (e, p) (sym (length-append (printed (answers s (lines_of a))) (printed (answers t (lines_of b)))));
       store = sym (ap (λ ls. encode (after_lines q ls)) e ∙ ap encode (lines-append q (lines_of a) (lines_of b)));
       answers = rw (
-        wrote s W (lines_of a) (lines_range a) outA ka,
-        wrote t T (lines_of b) (lines_range b) outB kb,
-        wrote s W (lines_of (a ++ b)) (lines_range (a ++ b)) outAB kab,
+        wrote s W (lines_of a) (lines_range a) out_a ka,
+        wrote t T (lines_of b) (lines_range b) out_b kb,
+        wrote s W (lines_of (a ++ b)) (lines_range (a ++ b)) out_ab kab,
         e,
         p,
       );

@@ -43,18 +43,18 @@ pub record SameAs (first second whole : Run) : Type 0 where
 -- one fresh run of both sheets does, where each of the three runs is within the limits.
 abbrev pub Continues : Type 0
 Continues =
-    (store a b outA outB outAB : List ℕ) → closed a ≡ true →
-    let first : Run = fresh_run store a outA in
-    limit_code store a outA ≡ 0 → limit_code first.store b outB ≡ 0 → limit_code store (a ++ b) outAB ≡ 0
-    → SameAs first (kept_run first.store b outB) (fresh_run store (a ++ b) outAB)
+    (store a b out_a out_b out_ab : List ℕ) → closed a ≡ true →
+    let first : Run = fresh_run store a out_a in
+    limit_code store a out_a ≡ 0 → limit_code first.store b out_b ≡ 0 → limit_code store (a ++ b) out_ab ≡ 0
+    → SameAs first (kept_run first.store b out_b) (fresh_run store (a ++ b) out_ab)
 
 -- The same where the first run is a kept one, on a sound store.
 abbrev pub KeptContinues : Type 0
 KeptContinues =
-    (store a b outA outB outAB : List ℕ) → Sound store → closed a ≡ true →
-    let first : Run = kept_run store a outA in
-    limit_code store a outA ≡ 0 → limit_code first.store b outB ≡ 0 → limit_code store (a ++ b) outAB ≡ 0
-    → SameAs first (kept_run first.store b outB) (kept_run store (a ++ b) outAB)
+    (store a b out_a out_b out_ab : List ℕ) → Sound store → closed a ≡ true →
+    let first : Run = kept_run store a out_a in
+    limit_code store a out_a ≡ 0 → limit_code first.store b out_b ≡ 0 → limit_code store (a ++ b) out_ab ≡ 0
+    → SameAs first (kept_run first.store b out_b) (kept_run store (a ++ b) out_ab)
 
 -- A fresh run is a kept run on the empty store, so a list of calls that starts with one starts from a sound store.
 abbrev pub FreshIsKept : Type 0

@@ -1,7 +1,7 @@
 -- The table of examples holds, by computation.
 use mathlib.Core.Path.{refl}
 use Rattle.rules.specs.Forests.{count}
-use Rattle.rules.specs.Lists.{sumBy, sum_to, tabulateFrom}
+use Rattle.rules.specs.Lists.{sum_by, sum_to, tabulate_from}
 use Rattle.rules.specs.Order.{comes_before, least_of, least_in, minimum}
 use Rattle.rules.specs.Queues.{key_from, key_word}
 use Rattle.rules.specs.Words.{
@@ -74,5 +74,5 @@ unfolding ExamplesHold examples by_check but sample full old_full raised small o
     child_ranks_ok child_rank_ok minimum_right parent_ok in_heap_order parent_in_heap root_unmarked list_ok links_ok names_owner
     list_from follow read_key decode_forests key_from count_at item_key mark_at heap_at all_to encode_in key_word words_in
     store_fields store_field word state_mark state_heap state_of unless_free siblings prev_in next_in last_or head_or minimum
-    least_in least_of comes_before sum_to sumBy tabulateFrom count
+    least_in least_of comes_before sum_to sum_by tabulate_from count
 examples_hold = refl

@@ -25,7 +25,7 @@ use Rattle.rules.specs.Queues.{amount_of}
 use Rattle.rules.specs.Words.{state_heap, state_mark, list_from, read_key, decode_forests, decode}
 use Rattle.rules.proofs.Order.{before_keys}
 use Rattle.rules.proofs.SumTo.{sum_to_cong, sumBy-places}
-use Rattle.rules.proofs.Tabulate.{length_tabulate, get_d_tabulate}
+use Rattle.rules.proofs.Tabulate.{length_tabulate, get_or_tabulate}
 use Rattle.store.specs.ItemOrder.{item_key}
 use Rattle.store.specs.Says.{Values}
 use Rattle.soundness.specs.Check.{heap_at, mark_at, count_at}
@@ -38,27 +38,27 @@ children_read n v i = cond (eqb (v State i) 0) [] (list_from n v (v FirstChild i
 module _ (n : ℕ) (v : Values) where
   key_at : (i : ℕ) → i < n → key_of (decode_forests n v) i ≡ read_key v i
   unfolding decode_forests
-  key_at i k = get_d_tabulate n (read_key v) i 0 k
+  key_at i k = get_or_tabulate n (read_key v) i 0 k
 
   pub parent_at : (i : ℕ) → i < n → parent_of (decode_forests n v) i ≡ v Parent i
   unfolding decode_forests
-  parent_at i k = get_d_tabulate n (v Parent) i 0 k
+  parent_at i k = get_or_tabulate n (v Parent) i 0 k
 
   pub heap_at_lem : (i : ℕ) → i < n → heap_of (decode_forests n v) i ≡ heap_at n v i
   unfolding decode_forests heap_at
-  heap_at_lem i k = get_d_tabulate n (λ i. state_heap (v State i)) i 0 k
+  heap_at_lem i k = get_or_tabulate n (λ i. state_heap (v State i)) i 0 k
 
   pub mark_at_lem : (i : ℕ) → i < n → mark_of (decode_forests n v) i ≡ mark_at n v i
   unfolding decode_forests mark_at
-  mark_at_lem i k = get_d_tabulate n (λ i. state_mark (v State i)) i 0 k
+  mark_at_lem i k = get_or_tabulate n (λ i. state_mark (v State i)) i 0 k
 
   pub row-at : (h : ℕ) → h < 8 → row_of (decode_forests n v) h ≡ list_from n v (v FirstTree h)
   unfolding decode_forests
-  row-at h k = get_d_tabulate 8 (λ h. list_from n v (v FirstTree h)) h [] k
+  row-at h k = get_or_tabulate 8 (λ h. list_from n v (v FirstTree h)) h [] k
 
   pub children_at_lem : (i : ℕ) → i < n → children_of (decode_forests n v) i ≡ children_read n v i
   unfolding decode_forests
-  children_at_lem i k = get_d_tabulate n (children_read n v) i [] k
+  children_at_lem i k = get_or_tabulate n (children_read n v) i [] k
 
   pub length_rows : length (decode_forests n v).rows ≡ 8
   unfolding decode_forests
@@ -131,7 +131,7 @@ module _ (n : ℕ) (v : Values) where
   length_amounts = length_tabulate 8 (v Amount)
 
   pub amount_at : (h : ℕ) → h < 8 → amount_of (decode n v) h ≡ v Amount h
-  amount_at h k = get_d_tabulate 8 (v Amount) h 0 k
+  amount_at h k = get_or_tabulate 8 (v Amount) h 0 k
 
   pub out_amount : (h : ℕ) → 8 ≤ h → amount_of (decode n v) h ≡ 0
   out_amount h k = get_or-eq_default (decode n v).amounts 0 {n = h} (rw length_amounts k)

@@ -1,4 +1,4 @@
--- What the words of well_formed queues say of items and lists, in the terms of the check.
+-- What the words of well-formed queues say of items and lists, in the terms of the check.
 use Prim.Native.Nat.{ℕ, suc, ◌≤◌, ◌<◌}
 use mathlib.Core.Path.{◌≡◌, refl, sym, ap, ◌∙◌}
 use mathlib.Core.Logic.{◌≢◌}

@@ -7,7 +7,7 @@ use mathlib.Core.Bool.{Bool, true, false, cond}
 use native.Mathlib.Omega.{arith}
 use lib.Dec.{eqb}
 use borrow.Author.Tests.{eqb-true, eqb-false}
-use Rattle.rules.specs.Lists.{indicator, sumBy, delta, occurs}
+use Rattle.rules.specs.Lists.{indicator, sum_by, delta, occurs}
 use Rattle.rules.specs.Words.{prev_in}
 use Rattle.rules.proofs.Occurs.{delta_self, delta_other}
 use Rattle.rules.proofs.Siblings.{Once, tail_in}
@@ -19,7 +19,7 @@ Prevs v q [] = Unit {0}
 Prevs v q (x ∷ l) = (v x ≡ q) × Prevs v x l
 
 pub prevs_in : (v : ℕ → ℕ) (q x : ℕ) (l : List ℕ) → Prevs v q l → 1 ≤ occurs x l → prev_in q x l ≡ v x
-unfolding prev_in occurs sumBy
+unfolding prev_in occurs sum_by
 prevs_in v q x [] p k = absurd (omega arith)
 prevs_in v q x (y ∷ l) p k = go (eqb y x) refl (λ i. prevs_in v y x l p.1 i)
   where
@@ -29,7 +29,7 @@ prevs_in v q x (y ∷ l) p k = go (eqb y x) refl (λ i. prevs_in v y x l p.1 i)
 
 -- An item that stood twice would have what stands before its first place before its second.
 pub prevs_once : (v : ℕ → ℕ) (q : ℕ) (l : List ℕ) → occurs q l ≡ 0 → Prevs v q l → Once l
-unfolding occurs sumBy
+unfolding occurs sum_by
 prevs_once v q [] n p z = omega arith
 prevs_once v q (y ∷ l) n p z = go (eqb (occurs y l) 0) refl (λ m. prevs_once v y l m p.1 z)
   where

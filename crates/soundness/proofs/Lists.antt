@@ -8,7 +8,7 @@ use native.Mathlib.Omega.{arith}
 use lib.Dec.{eqb}
 use borrow.Author.Tests.{eqb-true, ltb-true, lt-ltb, eq-eqb, ne_eqb}
 use Rattle.rules.specs.declared.Field.TheVariants.{Parent, Next, Prev}
-use Rattle.rules.specs.Lists.{sumBy, occurs}
+use Rattle.rules.specs.Lists.{sum_by, occurs}
 use Rattle.rules.specs.Forests.{none}
 use Rattle.rules.specs.Words.{head_or, last_or, next_in, prev_in}
 use Rattle.rules.proofs.Occurs.{and_split, delta_self, eqb_self}
@@ -56,7 +56,7 @@ module _ (n : ℕ) (v : Values) (l : Siblings) where
   links_all : (prev : ℕ) (xs : List ℕ) → links_ok n v l prev xs ≡ true
       → ((y : ℕ) → 1 ≤ occurs y xs → Owned y) × Prevs (v Prev) prev xs
       × ((y : ℕ) → 1 ≤ occurs y xs → next_in y xs ≡ v Next y)
-  unfolding links_ok occurs sumBy next_in
+  unfolding links_ok occurs sum_by next_in
   links_all prev [] e = (λ y i. absurd (omega arith), tt, λ y i. absurd (omega arith))
   links_all prev (x ∷ xs) e =
       let a = and_split _ _ e in
@@ -97,7 +97,7 @@ module _ (n : ℕ) (v : Values) (l : Siblings) where
   links_pass : (prev : ℕ) (xs : List ℕ) → Once xs → ((y : ℕ) → 1 ≤ occurs y xs → Owned y)
       → ((y : ℕ) → 1 ≤ occurs y xs → v Prev y ≡ prev_in prev y xs)
       → ((y : ℕ) → 1 ≤ occurs y xs → v Next y ≡ next_in y xs) → links_ok n v l prev xs ≡ true
-  unfolding links_ok occurs sumBy head_or prev_in next_in
+  unfolding links_ok occurs sum_by head_or prev_in next_in
   links_pass prev [] o own pv nx = refl
   links_pass prev (y ∷ ys) o own pv nx =
       let i : 1 ≤ occurs y (y ∷ ys) = omega (arith, delta_self y) in

@@ -1,4 +1,4 @@
--- The forests that are read from a store that passes are well_formed.
+-- The forests that are read from a store that passes are well-formed.
 use Prim.Native.Nat.{ℕ, suc, ◌-◌, ◌≤◌, ◌<◌, zero-le}
 use mathlib.Core.Path.{◌≡◌, sym, ◌∙◌}
 use mathlib.Core.Logic.{◌≢◌}

@@ -9,7 +9,7 @@ use lib.ListN.{length}
 use lib.Dec.{eqb, eqb-zero-suc}
 use borrow.Author.Tests.{eq-eqb, ne_eqb}
 use Rattle.rules.specs.declared.Field.TheVariants.{Parent, Prev, Rank, State}
-use Rattle.rules.specs.Lists.{indicator, sumBy, sum_to, occurs}
+use Rattle.rules.specs.Lists.{indicator, sum_by, sum_to, occurs}
 use Rattle.rules.specs.Forests.{Forests, none, row_of, children_of, rank_of}
 use Rattle.rules.specs.WellFormed.{is_root_of, is_child_of}
 use Rattle.rules.specs.Words.{decode_forests}
@@ -67,7 +67,7 @@ module _ (n : ℕ) (v : Values) (A : Passed n v) where
       rw (heap_at_lem n v x o.inside, parent_at n v x o.inside, o.heap, o.parent, eqb_self (suc h)))
 
   children_bound : (p : ℕ) → p < n → (x : ℕ) → occurs x (children_of s p) ≤ indicator (is_child_of s p x)
-  unfolding occurs sumBy
+  unfolding occurs sum_by
   children_bound p k x =
       by_zero (heap_at n v p) (λ e. rw (no_children p k e) zero-le) (λ m.
       let r = children_list p k m in
@@ -86,7 +86,7 @@ module _ (n : ℕ) (v : Values) (A : Passed n v) where
   row_out h k = none_out (row_at n v h) (row_of s h) (row_list h k)
 
   children_out : (p : ℕ) → p < n → (x : ℕ) → n ≤ x → occurs x (children_of s p) ≡ 0
-  unfolding occurs sumBy
+  unfolding occurs sum_by
   children_out p k x j =
       by_zero (heap_at n v p) (λ e. rw (no_children p k e))
       (λ m. none_out (children_at n v p) (children_of s p) (children_list p k m) x j)
@@ -123,7 +123,7 @@ module _ (n : ℕ) (v : Values) (A : Passed n v) where
       )
 
   pub in_row_lem : (h x : ℕ) → occurs x (row_of s h) ≡ indicator (is_root_of s h x)
-  unfolding occurs sumBy
+  unfolding occurs sum_by
   in_row_lem h x =
       by_place n x
       (λ i.

@@ -1,4 +1,4 @@
--- The queues that are read from a store that passes are well_formed.
+-- The queues that are read from a store that passes are well-formed.
 use Prim.Native.Nat.{ℕ, ◌<◌}
 use mathlib.Core.Path.{◌≡◌, ◌∙◌}
 use native.Mathlib.Omega.{arith}

@@ -6,7 +6,7 @@ use mathlib.Core.Bool.{true}
 use native.Mathlib.Omega.{arith}
 use borrow.Author.Tests.{leb-true, le-leb}
 use Rattle.rules.specs.declared.Field.TheVariants.{Rank}
-use Rattle.rules.specs.Lists.{sumBy, occurs}
+use Rattle.rules.specs.Lists.{sum_by, occurs}
 use Rattle.rules.specs.Forests.{Forests, mark_of, rank_of}
 use Rattle.rules.specs.WellFormed.{ChildRanks}
 use Rattle.rules.proofs.Occurs.{and_split, delta_self}
@@ -20,7 +20,7 @@ module _ (n : ℕ) (v : Values) (s : Forests) where
 
   pub ranks_rule : (i : ℕ) (l : List ℕ) → ((c : ℕ) → 1 ≤ occurs c l → SameRank c) → child_ranks_ok n v i l ≡ true
       → ChildRanks s i l
-  unfolding child_ranks_ok child_rank_ok occurs sumBy
+  unfolding child_ranks_ok child_rank_ok occurs sum_by
   ranks_rule i [] f e = tt
   ranks_rule i (c ∷ l) f e =
       let a = and_split _ _ e in
@@ -31,7 +31,7 @@ module _ (n : ℕ) (v : Values) (s : Forests) where
 
   pub rule_ranks : (i : ℕ) (l : List ℕ) → ((c : ℕ) → 1 ≤ occurs c l → SameRank c) → ChildRanks s i l
       → child_ranks_ok n v i l ≡ true
-  unfolding child_ranks_ok child_rank_ok occurs sumBy
+  unfolding child_ranks_ok child_rank_ok occurs sum_by
   rule_ranks i [] f t = refl
   rule_ranks i (c ∷ l) f t =
       let g = f c (omega (arith, delta_self c)) in

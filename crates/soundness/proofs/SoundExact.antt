@@ -1,4 +1,4 @@
--- The check says yes of the words of well_formed queues, and of no others.
+-- The check says yes of the words of well-formed queues, and of no others.
 use mathlib.Core.Path.{◌≡◌, refl, sym, ap, ◌∙◌}
 use mathlib.Core.Bool.{Bool, true, false, true≢false}
 use Rattle.rules.specs.declared.Layout.TheVariants.{ByItem, ByKind}

@@ -41,14 +41,14 @@ lists_sum m n rows out =
     ∙ sum_to_cong n (λ x. occurs x (rows h) * 1) (λ x. occurs x (rows h)) (λ x _. omega arith))
     ∙ sum_to_swap m n (λ h x. occurs x (rows h))
 
-module _ (m n : ℕ) (rows children : ℕ → List ℕ) (rowDue childDue : ℕ → ℕ → ℕ)
+module _ (m n : ℕ) (rows children : ℕ → List ℕ) (row_due child_due : ℕ → ℕ → ℕ)
     (rows_out : (h : ℕ) → h < m → (x : ℕ) → n ≤ x → occurs x (rows h) ≡ 0)
     (children_out : (p : ℕ) → p < n → (x : ℕ) → n ≤ x → occurs x (children p) ≡ 0) where
   abbrev here : ℕ → ℕ
   here x = sum_to m (λ h. occurs x (rows h)) + sum_to n (λ p. occurs x (children p))
 
   abbrev due : ℕ → ℕ
-  due x = sum_to m (λ h. rowDue h x) + sum_to n (λ p. childDue p x)
+  due x = sum_to m (λ h. row_due h x) + sum_to n (λ p. child_due p x)
 
   pub both_sum : sum_to m (λ h. length (rows h)) + sum_to n (λ p. length (children p)) ≡ sum_to n here
   both_sum =
@@ -60,26 +60,26 @@ module _ (m n : ℕ) (rows children : ℕ → List ℕ) (rowDue childDue : ℕ �
             (λ x. sum_to m (λ h. occurs x (rows h))) (λ x. sum_to n (λ p. occurs x (children p))),
       )
 
-  module _ (rows-le : (h : ℕ) → h < m → (x : ℕ) → occurs x (rows h) ≤ rowDue h x)
-      (children-le : (p : ℕ) → p < n → (x : ℕ) → occurs x (children p) ≤ childDue p x)
+  module _ (rows-le : (h : ℕ) → h < m → (x : ℕ) → occurs x (rows h) ≤ row_due h x)
+      (children-le : (p : ℕ) → p < n → (x : ℕ) → occurs x (children p) ≤ child_due p x)
       (all : sum_to m (λ h. length (rows h)) + sum_to n (λ p. length (children p)) ≡ sum_to n due) where
-    rows_low : (x : ℕ) → sum_to m (λ h. occurs x (rows h)) ≤ sum_to m (λ h. rowDue h x)
-    rows_low x = sum_to_le m (λ h. occurs x (rows h)) (λ h. rowDue h x) (λ h k. rows-le h k x)
+    rows_low : (x : ℕ) → sum_to m (λ h. occurs x (rows h)) ≤ sum_to m (λ h. row_due h x)
+    rows_low x = sum_to_le m (λ h. occurs x (rows h)) (λ h. row_due h x) (λ h k. rows-le h k x)
 
-    children_low : (x : ℕ) → sum_to n (λ p. occurs x (children p)) ≤ sum_to n (λ p. childDue p x)
-    children_low x = sum_to_le n (λ p. occurs x (children p)) (λ p. childDue p x) (λ p k. children-le p k x)
+    children_low : (x : ℕ) → sum_to n (λ p. occurs x (children p)) ≤ sum_to n (λ p. child_due p x)
+    children_low x = sum_to_le n (λ p. occurs x (children p)) (λ p. child_due p x) (λ p k. children-le p k x)
 
     even : (x : ℕ) → x < n → here x ≡ due x
     even = sum_to_tight n here due (λ x _. omega (arith, rows_low x, children_low x)) (omega (arith, both_sum, all))
 
-    pub tight_rows : (x h : ℕ) → x < n → h < m → occurs x (rows h) ≡ rowDue h x
+    pub tight_rows : (x h : ℕ) → x < n → h < m → occurs x (rows h) ≡ row_due h x
     tight_rows x h i k =
-        sum_to_tight m (λ h. occurs x (rows h)) (λ h. rowDue h x) (λ h k. rows-le h k x)
+        sum_to_tight m (λ h. occurs x (rows h)) (λ h. row_due h x) (λ h k. rows-le h k x)
         (omega (arith, even x i, rows_low x, children_low x)) h k
 
-    pub tight_children : (x p : ℕ) → x < n → p < n → occurs x (children p) ≡ childDue p x
+    pub tight_children : (x p : ℕ) → x < n → p < n → occurs x (children p) ≡ child_due p x
     tight_children x p i k =
-        sum_to_tight n (λ p. occurs x (children p)) (λ p. childDue p x) (λ p k. children-le p k x)
+        sum_to_tight n (λ p. occurs x (children p)) (λ p. child_due p x) (λ p k. children-le p k x)
         (omega (arith, even x i, rows_low x, children_low x)) p k
 
 indicator-delta : (x y : ℕ) → indicator (eqb y x) ≡ delta x y * 1

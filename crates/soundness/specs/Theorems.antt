@@ -9,7 +9,7 @@ use Rattle.rules.specs.Turn.{turn}
 use Rattle.rules.specs.Words.{SoundIn, encode_in, is_store, queues_in}
 use Rattle.soundness.specs.Check.{sound_words, sound_words_in}
 
--- In either order the check says yes of the words of well_formed queues, and of no others.
+-- In either order the check says yes of the words of well-formed queues, and of no others.
 unfoldable pub SoundExact : Type 0
 SoundExact = (o : Layout) (w : List ℕ) → (sound_words_in o w ≡ true) ↔ SoundIn o w
 
@@ -21,12 +21,12 @@ pub record Decoded (o : Layout) (w : List ℕ) : Type 0 where
 unfoldable pub SoundDecoded : Type 0
 SoundDecoded = (o : Layout) (w : List ℕ) → sound_words_in o w ≡ true → Decoded o w
 
--- What is refused is the words of no well_formed queues.
+-- What is refused is the words of no well-formed queues.
 unfoldable pub RefusedUnsound : Type 0
 RefusedUnsound =
     (o : Layout) (w : List ℕ) → sound_words_in o w ≡ false → (q : Queues) → WellFormedQueues q → w ≢ encode_in o q
 
--- The words of well_formed queues pass.
+-- The words of well-formed queues pass.
 unfoldable pub EncodedAccepted : Type 0
 EncodedAccepted = (o : Layout) (q : Queues) → WellFormedQueues q → sound_words_in o (encode_in o q) ≡ true
 

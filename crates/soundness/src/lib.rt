@@ -1,4 +1,4 @@
-//! When the words of a store are sound: tests on words alone, and that they accept the words of well_formed queues and
+//! When the words of a store are sound: tests on words alone, and that they accept the words of well-formed queues and
 //! no others. The code of the check is in `audit`.
 #![tactic(auto)]
 

@@ -71,21 +71,21 @@ one_length lists w place day same both early is_same is-both is-early z =
     }
 
 module _
-    (places start minute : ℕ) (lists : SpanLists) (w : Windows) (best_n last_n joints_n listedN storeN : ℕ)
+    (places start minute : ℕ) (lists : SpanLists) (w : Windows) (best_n last_n joints_n listed_n store_n : ℕ)
     (place day same both early : ℕ)
     (is-place : place ≡ cond (eqb places 0 || ltb 4096 places) 14 (cond (leb places start) 15 0))
     (is-day : day ≡ cond (not (leb minute last_minute)) 24 0)
     (is_same : same ≡ cond (not (span_lists_fit lists && window_lists_fit (length lists.from) (at_minute minute w))) 16 0)
     (is-both : both ≡ first_code day same) (is-early : early ≡ first_code place both) where
   abbrev code : ℕ
-  code = feed_code (map_at places start minute lists w) best_n last_n joints_n listedN storeN
+  code = feed_code (map_at places start minute lists w) best_n last_n joints_n listed_n store_n
 
   abbrev of_spans : ℕ
   of_spans = spans_code places lists (at_minute minute w)
 
   -- what the tests from 17 on find
   late : ℕ
-  late = cond (not (result_lists_fit places best_n last_n joints_n storeN)) 17 (cond (ltb listedN places) 22 of_spans)
+  late = cond (not (result_lists_fit places best_n last_n joints_n store_n)) 17 (cond (ltb listed_n places) 22 of_spans)
 
   in_order : code ≡ first_code early late
   unfolding feed_code minute_fits late
@@ -98,8 +98,8 @@ module _
   code_early n = sym (in_order ∙ rw (ne_eqb early 0 n))
 
   pub code_late : early ≡ 0 → (results list lent : ℕ)
-      → results ≡ cond (not (result_lists_fit places best_n last_n joints_n storeN)) 17 0
-      → list ≡ cond (ltb listedN places) 22 0
+      → results ≡ cond (not (result_lists_fit places best_n last_n joints_n store_n)) 17 0
+      → list ≡ cond (ltb listed_n places) 22 0
       → lent ≡ first_code results list → (spans c : ℕ) → spans ≡ of_spans → c ≡ first_code lent spans → c ≡ code
   unfolding late
   code_late z results list lent is-results is-list is-lent spans c is-spans r =
@@ -107,4 +107,4 @@ module _
       (sym
       (in_order
       ∙ rw (eq-eqb early 0 z)
-      (last_tests (result_lists_fit places best_n last_n joints_n storeN) (ltb listedN places) of_spans)))
+      (last_tests (result_lists_fit places best_n last_n joints_n store_n) (ltb listed_n places) of_spans)))

@@ -29,7 +29,7 @@ use Rattle.store.specs.Families.{list_of, append_to, word_but, with_links, Shape
 use Rattle.store.proofs.AppendLinks.{next_law, prev_law}
 use Rattle.store.proofs.KeptWords.{kept_but}
 use Rattle.store.proofs.Listed.{none_out}
-use Rattle.store.proofs.SetAt.{get_d_set, set_at}
+use Rattle.store.proofs.SetAt.{get_or_set, set_at}
 
 module _ (n : ℕ) (amounts counts minima : ℕ → ℕ) (t : Forests) (x a b : ℕ) (S : Shape n t) (k : x < n) where
   -- the words of kind f after the append are those of the forests after it
@@ -56,7 +56,7 @@ module _ (n : ℕ) (amounts counts minima : ℕ → ℕ) (t : Forests) (x a b : 
       (sym (head_appended x (row_of t h) (none_out n t (Row h) S F))))
       (λ j i. set_at t.rows h j _ (row_of t h ++ (x ∷ [])) (λ _. last_or none) (omega (arith, F.present, S.rows8))
       (sym (last_appended x (row_of t h))))
-      (λ j i. sym (get_d_set t.parent x j none 0 (omega (arith, S.parent_n))))
+      (λ j i. sym (get_or_set t.parent x j none 0 (omega (arith, S.parent_n))))
       (λ j i. next_law n t (Row h) x S F k out J amounts _ a j refl i)
       (λ j i. prev_law n t (Row h) x S F k out J amounts _ b j refl i)
       (λ f o j i.
@@ -78,7 +78,7 @@ module _ (n : ℕ) (amounts counts minima : ℕ → ℕ) (t : Forests) (x a b : 
       (λ j i. set_at t.children p j _ (children_of t p ++ (x ∷ [])) (λ q l. unless_free t q (last_or none l))
       (omega (arith, F.present.0, S.children_n))
       (rw live (sym (last_appended x (children_of t p)))))
-      (λ j i. sym (get_d_set t.parent x j p 0 (omega (arith, S.parent_n))))
+      (λ j i. sym (get_or_set t.parent x j p 0 (omega (arith, S.parent_n))))
       (λ j i. next_law n t (Children p) x S F k out J amounts _ a j (rw live) i)
       (λ j i. prev_law n t (Children p) x S F k out J amounts _ b j (rw live) i)
       (λ j i. set_at t.children p j _ (children_of t p ++ (x ∷ [])) (λ _. length)

@@ -25,13 +25,13 @@ use Rattle.rules.specs.declared.Field.TheVariants.{
   State,
 }
 use Rattle.rules.specs.Kinds.{is_one_of, Apart}
-use Rattle.rules.specs.Lists.{sumBy}
+use Rattle.rules.specs.Lists.{sum_by}
 use Rattle.rules.specs.Forests.{none, empty, count}
 use Rattle.rules.specs.Order.{least_in, minimum}
 use Rattle.rules.specs.Queues.{amount_of, empty_queues}
 use Rattle.rules.specs.Words.{field_size, at, head_or, last_or, state_of, unless_free, word, words_of, encode, encode_in}
 use Rattle.rules.proofs.ByKind.{apart_from, by_kinds}
-use Rattle.rules.proofs.EmptyForests.{get_d_all}
+use Rattle.rules.proofs.EmptyForests.{get_or_all}
 use Rattle.rules.proofs.Words.{words_equal}
 use Rattle.store.specs.Says.{Sized, Values, Says, Changes}
 use Rattle.store.specs.Empty.{empty_heap}
@@ -80,7 +80,7 @@ emptied_more k =
     rw (e Amount refl, e Count refl, e FirstTree refl, e LastTree refl, e Minimum refl))
 
 count-empty : (n h : ℕ) → count (empty n) h ≡ 0
-unfolding count sumBy
+unfolding count sum_by
 count-empty zero h = refl
 count-empty (suc n) h = rw (eqb-zero-suc h) (omega (arith, count-empty n h))
 
@@ -88,19 +88,19 @@ count-empty (suc n) h = rw (eqb-zero-suc h) (omega (arith, count-empty n h))
 emptied_all : (n : ℕ) (f : Field) (i : ℕ) → i < field_size n f → emptied 8 f i
     ≡ word (amount_of (empty_queues n)) (empty n) f i
 unfolding word head_or last_or minimum least_in unless_free state_of
-emptied_all n FirstTree i k = rw (lt-ltb i 8 k, get_d_all 8 i)
-emptied_all n LastTree i k = rw (lt-ltb i 8 k, get_d_all 8 i)
-emptied_all n Minimum i k = rw (lt-ltb i 8 k, get_d_all 8 i)
+emptied_all n FirstTree i k = rw (lt-ltb i 8 k, get_or_all 8 i)
+emptied_all n LastTree i k = rw (lt-ltb i 8 k, get_or_all 8 i)
+emptied_all n Minimum i k = rw (lt-ltb i 8 k, get_or_all 8 i)
 emptied_all n Count i k = sym (count-empty n i)
-emptied_all n Amount i k = sym (get_d_all 8 i 0)
-emptied_all n Key i k = rw (get_d_all {A = ℕ} n i 0)
-emptied_all n Parent i k = sym (get_d_all n i 0)
-emptied_all n FirstChild i k = rw (get_d_all {A = ℕ} n i 0)
-emptied_all n LastChild i k = rw (get_d_all {A = ℕ} n i 0)
-emptied_all n Next i k = rw (get_d_all {A = ℕ} n i 0)
-emptied_all n Prev i k = rw (get_d_all {A = ℕ} n i 0)
-emptied_all n Rank i k = rw (get_d_all {A = List ℕ} n i [])
-emptied_all n State i k = rw (get_d_all {A = ℕ} n i 0)
+emptied_all n Amount i k = sym (get_or_all 8 i 0)
+emptied_all n Key i k = rw (get_or_all {A = ℕ} n i 0)
+emptied_all n Parent i k = sym (get_or_all n i 0)
+emptied_all n FirstChild i k = rw (get_or_all {A = ℕ} n i 0)
+emptied_all n LastChild i k = rw (get_or_all {A = ℕ} n i 0)
+emptied_all n Next i k = rw (get_or_all {A = ℕ} n i 0)
+emptied_all n Prev i k = rw (get_or_all {A = ℕ} n i 0)
+emptied_all n Rank i k = rw (get_or_all {A = List ℕ} n i [])
+emptied_all n State i k = rw (get_or_all {A = ℕ} n i 0)
 
 -- ---- the steps
 
@@ -108,7 +108,7 @@ pub none_emptied : (n : ℕ) (w w' : List ℕ) → Sized n w → w' ≡ replicat
 none_emptied n w w' s e =
     rw e (record {
       sized = record { size = length-replicate (length w) 0 ∙ s.size; small = s.small };
-      says = λ f i k. get_d_all (length w) (at n f i) 0 ∙ emptied_none f i;
+      says = λ f i k. get_or_all (length w) (at n f i) 0 ∙ emptied_none f i;
     })
 
 pub more_emptied : {n : ℕ} {w w' : List ℕ} (h : ℕ) → Says n w (emptied h) → Changes n w (empty_heap h) w'

@@ -7,7 +7,7 @@ use native.Mathlib.Omega.{arith}
 use lib.ListN.{length}
 use borrow.Author.Tests.{ne_eqb}
 use Rattle.rules.specs.declared.Field.TheVariants.{Next, Prev, Rank}
-use Rattle.rules.specs.Lists.{occurs, sumBy}
+use Rattle.rules.specs.Lists.{occurs, sum_by}
 use Rattle.rules.specs.Forests.{Forests, none, heap_of, rank_of}
 use Rattle.rules.specs.Words.{look, last_or, next_in, prev_in, unless_free, word}
 use Rattle.rules.proofs.Members.{heap_in}
@@ -29,7 +29,7 @@ present_inside n t (Children q) p = p.0
 
 -- a list with a member is not empty
 member_long : (x : ℕ) (l : List ℕ) → 1 ≤ occurs x l → 1 ≤ length l
-unfolding occurs sumBy
+unfolding occurs sum_by
 member_long x [] k = absurd (omega arith)
 member_long x (y ∷ l) k = omega arith
 
@@ -47,7 +47,7 @@ module _ (n : ℕ) (t : Forests) (o : Owner) (S : Shape n t) (F : Family n t o) 
 
   -- the ends of a list and the links of its members are in the table, or none
   member_link : (z : ℕ) → 1 ≤ occurs z (none ∷ list_of t o) → Link n z
-  unfolding occurs sumBy
+  unfolding occurs sum_by
   member_link z k m = member z (omega (arith, delta_other z none (λ e. m (sym e))))
 
   last_link : Link n (last_or none (list_of t o))

@@ -21,7 +21,7 @@ use Rattle.store.specs.Families.{word_but, with_links, Shape, Holds}
 use Rattle.store.proofs.Says.{says_as}
 use Rattle.store.proofs.Holds.{reshape}
 use Rattle.store.proofs.KeptWords.{kept_but}
-use Rattle.store.proofs.SetAt.{get_d_set}
+use Rattle.store.proofs.SetAt.{get_or_set}
 
 -- a function with one value changed
 abbrev pub instead : (ℕ → ℕ) → ℕ → ℕ → ℕ → ℕ
@@ -38,7 +38,7 @@ module _ (n : ℕ) (amounts counts minima : ℕ → ℕ) (t : Forests) (x a b : 
   key_word_lem h i k l e =
       by_kinds (Key ∷ [])
       (λ f. (j : ℕ) → key_stored h i k (words counts minima t) f j ≡ words counts minima (set_key i k t) f j)
-      (λ j. rw (get_d_set t.key i j k 0 (omega (arith, S.key_n))) (go j (eqb i j) refl))
+      (λ j. rw (get_or_set t.key i j k 0 (omega (arith, S.key_n))) (go j (eqb i j) refl))
       (λ f o j. rw (
         apart_from (Key ∷ []) f o Key refl,
         kept_but (rows ∷ children ∷ parents ∷ marks ∷ heaps ∷ []) (Key ∷ []) amounts counts minima t (set_key i k t) refl
@@ -60,7 +60,7 @@ module _ (n : ℕ) (amounts counts minima : ℕ → ℕ) (t : Forests) (x a b : 
       by_kinds (State ∷ [])
       (λ f. (j : ℕ) → set_word State i (state_of (heap_of t i) m) (words counts minima t) f j
       ≡ words counts minima (set_mark i m t) f j)
-      (λ j. rw (get_d_set t.mark i j m 0 (omega (arith, S.mark_n))) (go j (eqb i j) refl))
+      (λ j. rw (get_or_set t.mark i j m 0 (omega (arith, S.mark_n))) (go j (eqb i j) refl))
       (λ f o j. rw (
         apart_from (State ∷ []) f o State refl,
         kept_but (rows ∷ children ∷ parents ∷ keys ∷ heaps ∷ []) (State ∷ []) amounts counts minima t
