@@ -9,7 +9,8 @@ ghost use Rattle.paths.specs.Feed.{result_lists, feed_result};
 ghost use Rattle.feed.specs.Shown.{word_field, entry_row, feed_text, program_text, Shows};
 ghost use Rattle.feed.specs.Shown.{entry_most, figures_most, Roomy, WroteRow, TableReady, TableWrote};
 
-use libc::{STDIN_FILENO, STDOUT_FILENO};
+use input::read_full;
+use std::io;
 use store::NONE;
 use text::output::{put_byte, put_field};
 
@@ -147,10 +148,10 @@ fn answer_text(text: &[u8], out: &mut [u8]) -> usize
 }
 
 // A text of 60,001 bytes is one byte too long.
-fn main() {
+fn main(rt: HostRuntime) -> io::Result<()> {
     let mut text = [0u8; 60001];
-    let read = io::read_full(STDIN_FILENO, &mut text);
+    let read = read_full(&mut rt.stdin(), &mut text)?;
     let mut out = [0u8; 46000];
     let bytes = answer_text(&text[..read], &mut out);
-    io::write_all(STDOUT_FILENO, &out[..bytes]);
+    rt.write_all(&out[..bytes])
 }
