@@ -20,6 +20,7 @@ APART = {"same_code", "key_in"}
 LEMMAS = {
     "count_at": "count_at_lem",
     "sumBy": "sum_by",
+    "sumBy-places": "sum_by_places",
     "tabulateFrom": "tabulate_from",
     "listedN": "listed_n",
     "storeN": "store_n",
@@ -29,9 +30,6 @@ LEMMAS = {
     "outA": "out_a",
     "outB": "out_b",
     "outAB": "out_ab",
-    "nI": "n_i",
-    "nT": "n_t",
-    "nD": "n_d",
     "cutFree": "cut_free",
     "rowDue": "row_due",
     "childDue": "child_due",

@@ -11,7 +11,7 @@ use borrow.Author.Tests.{eqb-true, eqb-false}
 use Rattle.rules.specs.Lists.{indicator, sum_by}
 use Rattle.rules.specs.Forests.{none}
 use Rattle.rules.proofs.Follow.{sum_ones}
-use Rattle.rules.proofs.SumTo.{sum_to_cong, sum_by_occurs, sumBy-places}
+use Rattle.rules.proofs.SumTo.{sum_to_cong, sum_by_occurs, sum_by_places}
 use Rattle.paths.specs.Table.{is_reached, Listing}
 use Rattle.paths.specs.Search.{hide_waiting}
 use Rattle.paths.specs.Ceiling.{reached_places}
@@ -56,7 +56,7 @@ pub listed_reached : (best listed : List ℕ) → Listing best listed → length
 unfolding reached_places
 listed_reached best listed L =
     sym (sum_ones listed) ∙ sum_by_occurs (length best) (λ _. 1) listed (λ p h. L.once p ∙ not_in p h)
-    ∙ sum_to_cong (length best) _ _ (λ p _. omega (arith, L.once p)) ∙ sym (sumBy-places is_reached none best)
+    ∙ sum_to_cong (length best) _ _ (λ p _. omega (arith, L.once p)) ∙ sym (sum_by_places is_reached none best)
   where
     not_in : (p : ℕ) → length best ≤ p → is_reached (get_or best p none) ≡ 0
     not_in p h = ap is_reached (get_or-eq_default best none h) ∙ none_reached

@@ -18,7 +18,7 @@ use Rattle.rules.proofs.Members.{out_heap}
 use Rattle.rules.proofs.Occurs.{and_false, and_true}
 use Rattle.rules.proofs.SumTo.{
   sum_by_occurs,
-  sumBy-places,
+  sum_by_places,
   sum_to-add,
   sum_to_cong,
   sum_to_le,
@@ -142,7 +142,7 @@ module _ (s : Forests) (S : Disjoint s) (K : RankedBut exact s) (h : ℕ) where
             (λ x. H x * weight s x) once,
         sum_to-add N (λ x. sum_to N (λ i. H i * (occurs x (children_of s i) * weight s x)))
             (λ x. occurs x (row_of s h) * weight s x),
-        sumBy-places (λ x. cond (eqb x (suc h)) 1 0) 0 s.heap,
+        sum_by_places (λ x. cond (eqb x (suc h)) 1 0) 0 s.heap,
       )
 
 -- the sum over a list is at least any part

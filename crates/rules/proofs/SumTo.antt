@@ -85,8 +85,8 @@ sum_to_shift zero f = omega arith
 sum_to_shift (suc n) f = omega (arith, sum_to_shift n f)
 
 -- the sum over a list, by its places
-pub sumBy-places {ℓ} : {A : Type ℓ} (f : A → ℕ) (d : A) (l : List A)
+pub sum_by_places {ℓ} : {A : Type ℓ} (f : A → ℕ) (d : A) (l : List A)
     → sum_by f l ≡ sum_to (length l) (λ i. f (get_or l i d))
 unfolding sum_by sum_to
-sumBy-places f d [] = refl
-sumBy-places f d (x ∷ l) = omega (arith, sum_to_shift (length l) (λ i. f (get_or (x ∷ l) i d)), sumBy-places f d l)
+sum_by_places f d [] = refl
+sum_by_places f d (x ∷ l) = omega (arith, sum_to_shift (length l) (λ i. f (get_or (x ∷ l) i d)), sum_by_places f d l)

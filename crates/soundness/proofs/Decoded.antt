@@ -24,7 +24,7 @@ use Rattle.rules.specs.Order.{comes_before, precedes}
 use Rattle.rules.specs.Queues.{amount_of}
 use Rattle.rules.specs.Words.{state_heap, state_mark, list_from, read_key, decode_forests, decode}
 use Rattle.rules.proofs.Order.{before_keys}
-use Rattle.rules.proofs.SumTo.{sum_to_cong, sumBy-places}
+use Rattle.rules.proofs.SumTo.{sum_to_cong, sum_by_places}
 use Rattle.rules.proofs.Tabulate.{length_tabulate, get_or_tabulate}
 use Rattle.store.specs.ItemOrder.{item_key}
 use Rattle.store.specs.Says.{Values}
@@ -122,7 +122,7 @@ module _ (n : ℕ) (v : Values) where
   pub count_at_lem : (h : ℕ) → count (decode_forests n v) h ≡ count_at n v (suc h)
   unfolding count count_at
   count_at_lem h =
-      sumBy-places (λ g. indicator (eqb g (suc h))) 0 (decode_forests n v).heap
+      sum_by_places (λ g. indicator (eqb g (suc h))) 0 (decode_forests n v).heap
       ∙ rw length_heap
       (sum_to_cong n (λ i. indicator (eqb (heap_of (decode_forests n v) i) (suc h)))
       (λ i. indicator (eqb (heap_at n v i) (suc h))) (λ i k. rw (heap_at_lem i k)))
