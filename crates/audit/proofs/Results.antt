@@ -1,14 +1,17 @@
--- What the answers of the code's functions say: 0 where a test failed, else one more than a number.
-use Prim.Native.Nat.{ℕ, suc, ◌+◌, ◌-◌, ◌≤◌, ◌<◌}
+-- What the answers of the code's functions say: a number, or none where a test failed.
+use Prim.Native.Nat.{ℕ, ◌+◌, ◌≤◌, ◌<◌}
 use mathlib.Core.Path.{◌≡◌, refl, sym, ◌∙◌}
 use mathlib.Core.Logic.{◌≢◌}
 use mathlib.Core.List.{List}
-use mathlib.Core.Bool.{Bool, true, false, cond, ◌&&◌, ◌||◌}
+use mathlib.Core.Bool.{Bool, true, false, ◌&&◌, ◌||◌}
 use native.Mathlib.Numerals.{add-one}
 use native.Mathlib.Omega.{arith}
 use lib.ListN.{length}
-use lib.Dec.{eqb, ltb, eqb-zero-suc, eqb-suc-suc}
+use lib.Dec.{eqb, ltb}
 use borrow.Author.Tests.{ne_eqb, le-leb}
+use Rattle.std.specs.Prelude.{Option, Some, None}
+use Rattle.std.specs.Option.{option_eq}
+use Rattle.std.proofs.lemmas.Option.{cond_some, none-some}
 use Rattle.rules.specs.declared.Layout.{Layout}
 use Rattle.rules.specs.declared.Field.TheVariants.{FirstTree, LastTree, Count, Amount, Key, Rank, State}
 use Rattle.rules.specs.Forests.{none}
@@ -32,33 +35,29 @@ use Rattle.soundness.specs.Check.{
   all_ok,
   sound_words_in,
 }
-use Rattle.audit.specs.Promises.{RowInside, AtMost, if_ok, siblings_ok, length_if_ok, heap_if_ok}
+use Rattle.audit.specs.Promises.{RowInside, if_ok, siblings_ok, length_if_ok, heap_if_ok}
 use Rattle.soundness.proofs.Passed.{by_zero}
 use Rattle.soundness.proofs.Booleans.{all_to-at}
 use Rattle.soundness.proofs.ItemTests.{is_member}
 use Rattle.soundness.proofs.Lists.{is_listed}
 
-pub ok_is : (ok : Bool) (v r : ℕ) → ok ≡ true → r ≡ v → r + 1 ≡ if_ok ok v
-ok_is ok v r e f = rw e (omega arith)
+pub ok_is : (ok : Bool) (v r : ℕ) → ok ≡ true → r ≡ v → Some r ≡ if_ok ok v
+ok_is ok v r e f = rw (e, f)
 
-pub ok_not : (ok : Bool) (v : ℕ) → ok ≡ false → 0 ≡ if_ok ok v
+pub ok_not : (ok : Bool) (v : ℕ) → ok ≡ false → None ≡ if_ok ok v
 ok_not ok v e = rw e
 
-pub ok_zero : (ok : Bool) (v r : ℕ) → r ≡ if_ok ok v → r ≡ 0 → ok ≡ false
-ok_zero true v r e f = absurd (omega arith)
-ok_zero false v r e f = refl
-
-pub ok_more : (ok : Bool) (v r : ℕ) → r ≡ if_ok ok v → r ≢ 0 → (ok ≡ true) × (r - 1 ≡ v)
-ok_more true v r e f = (refl, omega arith)
-ok_more false v r e f = absurd (f e)
+pub ok_none : (ok : Bool) (v : ℕ) → None ≡ if_ok ok v → ok ≡ false
+ok_none true v e = absurd (none-some v e)
+ok_none false v e = refl
 
 -- ---- an item
 
 -- the tests of its children, as their number tells them
-joined : (p a b : Bool) (k rank : ℕ) → (p && eqb (if_ok (a && b) k) (suc rank)) ≡ (p && a && eqb k rank && b)
-joined true true true k rank = eqb-suc-suc k rank ∙ sym (and_true (eqb k rank))
-joined true true false k rank = eqb-zero-suc rank ∙ sym (and_false (eqb k rank))
-joined true false b k rank = eqb-zero-suc rank
+joined : (p a b : Bool) (k rank : ℕ) → (p && option_eq eqb (if_ok (a && b) k) (Some rank)) ≡ (p && a && eqb k rank && b)
+joined true true true k rank = sym (and_true (eqb k rank))
+joined true true false k rank = sym (and_false (eqb k rank))
+joined true false b k rank = refl
 joined false a b k rank = refl
 
 module _ (n : ℕ) (v : Values) (i : ℕ) where
@@ -69,10 +68,10 @@ module _ (n : ℕ) (v : Values) (i : ℕ) where
       && child_ranks_ok n v 1 (list_at n v (children_at n v i))
 
   pub children_tests : (p : Bool) (rank : ℕ) → i < n → n ≤ 4096
-      → (p && eqb (length_if_ok n v (children_at n v i)) (rank + 1)) ≡ tests p rank
+      → (p && option_eq eqb (length_if_ok n v (children_at n v i)) (Some rank)) ≡ tests p rank
   unfolding siblings_ok
   children_tests p rank k small =
-      rw (add-one, ne_eqb i none (λ e. omega arith)) (joined p (list_ok n v (children_at n v i)) _ _ rank)
+      rw (ne_eqb i none (λ e. omega arith)) (joined p (list_ok n v (children_at n v i)) _ _ rank)
 
   pub member_tests : v State i ≢ 0 → v State i ≤ 16 → v Key i ≤ 4294967295
       → tests (parent_ok n v i) (v Rank i) ≡ item_ok n v i
@@ -84,36 +83,33 @@ module _ (n : ℕ) (v : Values) (i : ℕ) where
 
 module _ (n : ℕ) (v : Values) (h : ℕ) where
   -- the answer on its row
-  abbrev pub row_if_ok : ℕ
+  abbrev pub row_if_ok : Option ℕ
   row_if_ok = if_ok (list_ok n v (row_at n v h)) (length (list_at n v (row_at n v h)))
 
-  pub row-answer : (heap first last r : ℕ) → heap ≡ h + 1 → first ≡ v FirstTree h → last ≡ v LastTree h
+  pub row-answer : (heap first last : ℕ) (r : Option ℕ) → heap ≡ h + 1 → first ≡ v FirstTree h → last ≡ v LastTree h
       → r ≡ length_if_ok n v (record { heap = heap; parent = none; first = first; last = last }) → r ≡ row_if_ok
   unfolding siblings_ok
   row-answer heap first last r e f g q = q ∙ rw (e, f, g, add-one h, and_true)
 
-  pub row_wrong : (r : ℕ) → r ≡ row_if_ok → r ≡ 0 → 0 ≡ heap_if_ok n v h
+  pub row_wrong : None ≡ row_if_ok → None ≡ heap_if_ok n v h
   unfolding heap_ok
-  row_wrong r e z = rw (ok_zero (list_ok n v (row_at n v h)) (length (list_at n v (row_at n v h))) r e z)
+  row_wrong e = rw (ok_none (list_ok n v (row_at n v h)) _ e)
 
   -- what is tested besides, and the answer then
-  pub heap_tests : (r : ℕ) → r ≡ row_if_ok → r ≢ 0 → {x : ℕ} → AtMost (v Amount h) 4294967295 x → (t : Bool)
+  pub heap_tests : (k : ℕ) → Some k ≡ row_if_ok → v Amount h ≤ 4294967295 → (t : Bool)
       → (minimum_right n v h && count_right n v h && (ltb 0 (v Count h) || eqb (v Amount h) 0)) ≡ t
-      → cond t r 0 ≡ heap_if_ok n v h
+      → if_ok t k ≡ heap_if_ok n v h
   unfolding heap_ok amount_right
-  heap_tests r e m a t q =
-      let l : list_ok n v (row_at n v h) ≡ true =
-      (ok_more (list_ok n v (row_at n v h)) (length (list_at n v (row_at n v h))) r e m).0 in
-      rw (e, l, le-leb (v Amount h) 4294967295 (omega (arith, a.is, a.most)), q)
+  heap_tests k e a t q =
+      let l = cond_some (list_ok n v (row_at n v h)) _ k (sym e) in
+      rw (l.0, l.1, le-leb (v Amount h) 4294967295 a, q)
 
-  pub row_inside : h < 8 → (r : ℕ) → r ≡ row_if_ok → r ≢ 0 → RowInside n v h
-  row_inside k r e m =
+  pub row_inside : h < 8 → (k : ℕ) → Some k ≡ row_if_ok → RowInside n v h
+  row_inside m k e =
       record {
-        heap = k;
+        heap = m;
         inside = λ x i.
-            let o =
-            (is_listed n v (row_at n v h)
-            (ok_more (list_ok n v (row_at n v h)) (length (list_at n v (row_at n v h))) r e m).0).own x i in
+            let o = (is_listed n v (row_at n v h) (cond_some (list_ok n v (row_at n v h)) _ k (sym e)).0).own x i in
             (o.inside, o.heap);
       }
 

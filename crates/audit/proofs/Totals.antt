@@ -11,10 +11,9 @@ use lib.ListN.{length, get_or, set, replicate, length-set, length-replicate}
 use lib.Seq.{get_or-set_same, get_or-set_other}
 use lib.Dec.{eqb}
 use borrow.Author.Tests.{eqb-true, eqb-false}
-use Rattle.rules.specs.declared.Layout.{Layout}
 use Rattle.rules.specs.declared.Field.TheVariants.{State}
 use Rattle.rules.specs.Lists.{indicator, sum_to}
-use Rattle.rules.specs.Words.{look_in, state_heap}
+use Rattle.rules.specs.Words.{state_heap}
 use Rattle.store.specs.Says.{Values}
 use Rattle.soundness.specs.Check.{all_to, heap_at}
 use Rattle.audit.specs.Promises.{StatesLow}
@@ -90,8 +89,8 @@ module _ (n : ℕ) (v : Values) where
           ∙ omega (arith, next g, C.each g h)
 
 -- the heap that a state word names is a place among the counts
-pub heap_index : (o : Layout) (n : ℕ) (w : List ℕ) → StatesLow o n w → (i state heap : ℕ) → i < n
-    → state ≡ look_in o n w State i → heap ≡ state_heap state → heap < 9
-heap_index o n w L i state heap k e f =
+pub heap_index : (n : ℕ) (v : Values) → StatesLow n v → (i state heap : ℕ) → i < n → state ≡ v State i
+    → heap ≡ state_heap state → heap < 9
+heap_index n v L i state heap k e f =
     let a : state ≤ 16 = omega (arith, L.low i k) in
     omega (arith, heap_low state a)

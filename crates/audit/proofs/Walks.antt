@@ -10,6 +10,7 @@ use native.Mathlib.Omega.{arith}
 use lib.ListN.{length}
 use lib.Dec.{eqb, leb}
 use borrow.Author.Tests.{eqb-true, leb-true, leb-false, le-leb, lt-leb, eq-eqb, ne_eqb}
+use Rattle.std.specs.Prelude.{Option, Some, None}
 use Rattle.rules.specs.declared.Field.TheVariants.{Next}
 use Rattle.rules.specs.Forests.{none}
 use Rattle.rules.specs.Words.{head_or, last_or, follow, list_from}
@@ -71,7 +72,7 @@ module _ (n : ℕ) (v : Values) (l : Siblings) where
       && (eqb l.parent none || child_ranks_ok n v i xs)
 
   -- the answer, if j items are passed
-  unfoldable pub length_from : ℕ → ℕ → ℕ → ℕ
+  unfoldable pub length_from : ℕ → ℕ → ℕ → Option ℕ
   length_from j prev x =
       if_ok (rest_ok prev (suc j) x (follow (n - j) (next n v) x)) (j + length (follow (n - j) (next n v) x))
 
@@ -103,13 +104,13 @@ module _ (n : ℕ) (v : Values) (l : Siblings) where
   rest_ended prev i x = rw (or-true, and_true)
 
   -- the ways out of the walk, whose answer is a
-  pub walk_refused : (j prev x a : ℕ) → j < n → x ≢ none → link_ok n v l prev (j + 1) x ≡ false
-      → length_from j prev x ≡ a → 0 ≡ a
+  pub walk_refused : (j prev x : ℕ) (a : Option ℕ) → j < n → x ≢ none → link_ok n v l prev (j + 1) x ≡ false
+      → length_from j prev x ≡ a → None ≡ a
   unfolding length_from
   walk_refused j prev x a h m e i =
       sym (rw (one_more n v j x h m, rest_fails prev (suc j) x _ (rw add-one at e))) ∙ i
 
-  pub walk_ended : (j prev x a : ℕ) → ((n ≤ j) ⊎ (x ≡ none)) → length_from j prev x ≡ a
+  pub walk_ended : (j prev x : ℕ) (a : Option ℕ) → ((n ≤ j) ⊎ (x ≡ none)) → length_from j prev x ≡ a
       → if_ok (eqb x none && eqb l.last prev) j ≡ a
   unfolding length_from
   walk_ended j prev x a o i =
@@ -117,7 +118,7 @@ module _ (n : ℕ) (v : Values) (l : Siblings) where
       sym (rw (nothing_left n v j x o, rest_ended prev (suc j) x, z)) ∙ i
 
   -- an empty list
-  pub walk_empty : (eqb l.first none && eqb l.last none) ≡ true → 1 ≡ length_if_ok n v l
+  pub walk_empty : (eqb l.first none && eqb l.last none) ≡ true → Some 0 ≡ length_if_ok n v l
   walk_empty e =
       rw e at (walk_ended 0 none l.first _ (inr (eqb-true l.first none (and_split _ _ e).0)) walk_start)
 

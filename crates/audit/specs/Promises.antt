@@ -1,12 +1,12 @@
 -- What the functions of the check ask of their arguments, and promise of their answers.
-use Rattle.std.specs.Prelude.{ℕ, suc, ◌≤◌, ◌<◌, ◌≡◌, List, Bool, cond, ◌&&◌, ◌||◌, length, get_or, eqb}
-use Rattle.rules.specs.declared.Layout.{Layout}
+use Rattle.std.specs.Prelude.{ℕ, suc, ◌≤◌, ◌<◌, ◌≡◌, List, Bool, cond, Option, Some, None, ◌&&◌, ◌||◌, length, get_or, eqb}
 use Rattle.rules.specs.declared.Field.TheVariants.{Prev, State}
 use Rattle.rules.specs.Lists.{occurs}
 use Rattle.rules.specs.Forests.{none}
 use Rattle.rules.specs.Words.{look_in}
-use Rattle.store.specs.Says.{Sized, Values}
+use Rattle.store.specs.Says.{Values}
 use Rattle.soundness.specs.declared.Siblings.{Siblings}
+use Rattle.audit.specs.declared.view.View.{View}
 use Rattle.soundness.specs.Check.{
   all_to,
   heap_at,
@@ -23,22 +23,20 @@ use Rattle.soundness.specs.Check.{
   ranks_at,
 }
 
--- item i is in the table
-pub record Item (n : ℕ) (w : List ℕ) (i : ℕ) : Type 0 where
-  pub sized : Sized n w
-  pub inside : i < n
+-- what the words of a view say
+abbrev pub values : View → Values
+values s = look_in s.layout s.n s.words.now
 
 -- the state word of item i is this, and that of an item of one of eight heaps
-pub record HasState (o : Layout) (n : ℕ) (w : List ℕ) (i state : ℕ) : Type 0 where
-  pub item : Item n w i
+pub record HasState (n : ℕ) (v : Values) (i state : ℕ) : Type 0 where
+  pub inside : i < n
   pub live : 1 ≤ state
   pub low : state ≤ 16
-  pub is : state ≡ look_in o n w State i
+  pub is : state ≡ v State i
 
 -- the states of all items are those of eight heaps
-pub record StatesLow (o : Layout) (n : ℕ) (w : List ℕ) : Type 0 where
-  pub sized : Sized n w
-  pub low : (i : ℕ) → i < n → look_in o n w State i ≤ 16
+pub record StatesLow (n : ℕ) (v : Values) : Type 0 where
+  pub low : (i : ℕ) → i < n → v State i ≤ 16
 
 -- r is the number v, at most m
 pub record AtMost (v m r : ℕ) : Type 0 where
@@ -63,19 +61,19 @@ link_ok n v l prev i x =
 unfoldable pub siblings_ok : ℕ → Values → Siblings → Bool
 siblings_ok n v l = list_ok n v l && (eqb l.parent none || child_ranks_ok n v 1 (list_at n v l))
 
--- one more than a number if the test holds, else 0
-abbrev pub if_ok : Bool → ℕ → ℕ
-if_ok ok k = cond ok (suc k) 0
+-- a number if the test holds
+abbrev pub if_ok : Bool → ℕ → Option ℕ
+if_ok ok k = cond ok (Some k) None
 
 -- the answers on one list, on all items, on one heap and on all heaps
-abbrev pub length_if_ok : ℕ → Values → Siblings → ℕ
+abbrev pub length_if_ok : ℕ → Values → Siblings → Option ℕ
 length_if_ok n v l = if_ok (siblings_ok n v l) (length (list_at n v l))
 
-abbrev pub ranks_if_ok : ℕ → Values → ℕ
+abbrev pub ranks_if_ok : ℕ → Values → Option ℕ
 ranks_if_ok n v = if_ok (all_to n (item_ok n v)) (ranks_at n v)
 
-abbrev pub heap_if_ok : ℕ → Values → ℕ → ℕ
+abbrev pub heap_if_ok : ℕ → Values → ℕ → Option ℕ
 heap_if_ok n v h = if_ok (heap_ok n v h) (length (list_at n v (row_at n v h)))
 
-abbrev pub trees_if_ok : ℕ → Values → ℕ
+abbrev pub trees_if_ok : ℕ → Values → Option ℕ
 trees_if_ok n v = if_ok (all_to 8 (heap_ok n v)) (trees_at n v)

@@ -2,30 +2,25 @@
 //! no list. Its time grows with the number of items: an item passes in one list only, the one that its own words name.
 #![tactic(auto)]
 
-ghost use Rattle.std.specs.Prelude.{◌≡◌, suc, ◌<◌};
+ghost use Rattle.std.specs.Prelude.{◌≡◌, suc, ◌<◌, ◌≤◌, IfSome};
 ghost use Rattle.rules.specs.Order.{minimum};
-ghost use Rattle.rules.specs.Words.{look_in, state_heap, state_mark, decode_forests};
-ghost use Rattle.store.specs.Says.{Sized, Within};
-ghost use Rattle.soundness.specs.Check.{parent_ok, free_zero, item_ok, count_at, all_ok, sound_words_in, sound_words};
-ghost use Rattle.audit.specs.Promises.{Item, HasState, StatesLow, RowInside, AtMost, Counts};
+ghost use Rattle.rules.specs.Words.{state_heap, state_mark, decode_forests};
+ghost use Rattle.soundness.specs.Check.{parent_ok, free_zero, item_ok, count_at, all_ok, sound_words_in};
+ghost use Rattle.audit.specs.Promises.{values, HasState, StatesLow, RowInside, AtMost, Counts};
 ghost use Rattle.audit.specs.Promises.{link_ok, length_if_ok, ranks_if_ok, heap_if_ok, trees_if_ok};
+
+mod view;
 
 use rules::{Field, Layout};
 use soundness::Siblings;
-use store::order::{lesser_in, precedes_in};
+use store::order::{lesser_of, precedes};
 use store::{get_in, is_store, items_of};
+use view::View;
 
-const NONE: usize = 4294967295;
+// No item, as a number of any width.
+const NONE: usize = store::NONE as usize;
 
-// Word i of a kind, as a number of any width.
-fn word_at(store: &[u32], layout: Layout, n: usize, field: Field, i: usize) -> usize
-    requires { Within n store.now field i }
-    ensures { AtMost (look_in layout n store.now field i) 4294967295 result }
-{
-    get_in(store, layout, n, field, i as u32) as usize
-}
-
-// The heap that a state word names: 0 for a free item, else 1 + its number.
+// The heap that a state word names: 0 for a free item, else 1 + its number. State words are stored so, as numbers.
 fn heap_of(state: usize) -> usize
     ensures { AtMost (state_heap state) state result }
 {
@@ -39,25 +34,16 @@ fn mark_of(state: usize) -> usize
 }
 
 // Item x may be the i-th (from 1) of a list, after item prev.
-fn link_ok(
-    store: &[u32],
-    layout: Layout,
-    n: usize,
-    l: Siblings,
-    prev: usize,
-    i: usize,
-    x: usize,
-) -> bool
-    requires { Sized n store.now }
-    ensures { result ≡ link_ok n (look_in layout n store.now) l prev i x }
+fn link_ok(view: &View, l: Siblings, prev: usize, i: usize, x: usize) -> bool
+    ensures { result ≡ link_ok view.now.n (values view.now) l prev i x }
 {
-    if x >= n {
+    if x >= view.n {
         return false;
     }
-    let state = word_at(store, layout, n, Field::State, x);
-    let parent = word_at(store, layout, n, Field::Parent, x);
-    let before = word_at(store, layout, n, Field::Prev, x);
-    let rank = word_at(store, layout, n, Field::Rank, x);
+    let state = view.word(Field::State, x);
+    let parent = view.word(Field::Parent, x);
+    let before = view.word(Field::Prev, x);
+    let rank = view.word(Field::Rank, x);
     let heap = heap_of(state);
     let mark = mark_of(state);
     (heap == l.heap)
@@ -66,74 +52,81 @@ fn link_ok(
         & ((l.parent == NONE) | (i <= rank + mark + 1))
 }
 
-// One more than the length of a list of siblings, 0 if it is not right.
-fn walk_list(store: &[u32], layout: Layout, n: usize, l: Siblings) -> usize
-    requires { Sized n store.now }
-    ensures { AtMost (length_if_ok n (look_in layout n store.now) l) 4097 result }
+// The length of a list of siblings, if it is right. Inlined, since for most items it is a few steps.
+#[inline(always)]
+fn walk_list(view: &View, l: Siblings) -> Option<usize>
+    ensures is { result ≡ length_if_ok view.now.n (values view.now) l }
+    ensures most { IfSome result (λ k. k ≤ 4096) }
 {
     let mut prev = NONE;
     let mut x = l.first;
+    // A `while`, since what it has counted at its end is the answer.
     let mut j: usize = 0;
-    while j < n {
+    while j < view.n {
         if x == NONE {
             break;
         }
-        let ok = link_ok(store, layout, n, l, prev, j + 1, x);
-        if !ok {
-            return 0;
+        if !link_ok(view, l, prev, j + 1, x) {
+            return None;
         }
         prev = x;
-        x = word_at(store, layout, n, Field::Next, x);
+        x = view.word(Field::Next, x);
         j += 1;
     }
     if (x == NONE) & (l.last == prev) {
-        j + 1
+        Some(j)
     } else {
-        0
+        None
     }
 }
 
 // The same of the children of an item: most have none, and then there is no list to walk along.
-fn children_length(store: &[u32], layout: Layout, n: usize, l: Siblings) -> usize
-    requires { Sized n store.now }
-    ensures { AtMost (length_if_ok n (look_in layout n store.now) l) 4097 result }
+fn children_length(view: &View, l: Siblings) -> Option<usize>
+    ensures { result ≡ length_if_ok view.now.n (values view.now) l }
 {
     if (l.first == NONE) & (l.last == NONE) {
-        return 1;
+        return Some(0);
     }
-    walk_list(store, layout, n, l)
+    walk_list(view, l)
 }
 
 // A root is unmarked; any other item has a parent in its heap that comes before it.
-fn parent_ok(store: &[u32], layout: Layout, n: usize, i: usize, state: usize) -> bool
-    requires { HasState layout n store.now i state }
-    ensures { result ≡ parent_ok n (look_in layout n store.now) i }
+fn parent_ok(view: &View, i: usize, state: usize) -> bool
+    requires { HasState view.now.n (values view.now) i state }
+    ensures { result ≡ parent_ok view.now.n (values view.now) i }
 {
-    let parent = word_at(store, layout, n, Field::Parent, i);
+    let parent = view.word(Field::Parent, i);
     if parent == NONE {
         return mark_of(state) == 0;
     }
-    if parent >= n {
+    if parent >= view.n {
         return false;
     }
     let heap = heap_of(state);
-    let above = heap_of(word_at(store, layout, n, Field::State, parent));
-    let before = precedes_in(store, layout, n, (heap - 1) as u32, parent as u32, i as u32);
+    let above = heap_of(view.word(Field::State, parent));
+    let before = precedes(
+        view.words,
+        view.layout,
+        view.n,
+        (heap - 1) as u32,
+        parent as u32,
+        i as u32,
+    );
     (above == heap) & before
 }
 
 // All words of a free item are 0.
-fn free_zero(store: &[u32], layout: Layout, n: usize, i: usize) -> bool
-    requires { Item n store.now i }
-    ensures { result ≡ free_zero n (look_in layout n store.now) i }
+fn free_zero(view: &View, i: usize) -> bool
+    requires { i < view.now.n }
+    ensures { result ≡ free_zero view.now.n (values view.now) i }
 {
-    let key = word_at(store, layout, n, Field::Key, i);
-    let parent = word_at(store, layout, n, Field::Parent, i);
-    let first = word_at(store, layout, n, Field::FirstChild, i);
-    let last = word_at(store, layout, n, Field::LastChild, i);
-    let next = word_at(store, layout, n, Field::Next, i);
-    let prev = word_at(store, layout, n, Field::Prev, i);
-    let rank = word_at(store, layout, n, Field::Rank, i);
+    let key = view.word(Field::Key, i);
+    let parent = view.word(Field::Parent, i);
+    let first = view.word(Field::FirstChild, i);
+    let last = view.word(Field::LastChild, i);
+    let next = view.word(Field::Next, i);
+    let prev = view.word(Field::Prev, i);
+    let rank = view.word(Field::Rank, i);
     (key == 0)
         & (parent == 0)
         & (first == 0)
@@ -144,173 +137,146 @@ fn free_zero(store: &[u32], layout: Layout, n: usize, i: usize) -> bool
 }
 
 // An item of a heap has as many children as its rank says.
-fn item_ok(store: &[u32], layout: Layout, n: usize, i: usize) -> bool
-    requires { Item n store.now i }
-    ensures { result ≡ item_ok n (look_in layout n store.now) i }
+fn item_ok(view: &View, i: usize) -> bool
+    requires { i < view.now.n }
+    ensures { result ≡ item_ok view.now.n (values view.now) i }
 {
-    let state = word_at(store, layout, n, Field::State, i);
+    let state = view.word(Field::State, i);
     if state == 0 {
-        return free_zero(store, layout, n, i);
+        return free_zero(view, i);
     }
     if state > 16 {
         return false;
     }
-    let placed = parent_ok(store, layout, n, i, state);
+    let placed = parent_ok(view, i, state);
     let heap = heap_of(state);
-    let first = word_at(store, layout, n, Field::FirstChild, i);
-    let last = word_at(store, layout, n, Field::LastChild, i);
+    let first = view.word(Field::FirstChild, i);
+    let last = view.word(Field::LastChild, i);
     let length = children_length(
-        store,
-        layout,
-        n,
+        view,
         Siblings {
-            heap: heap,
+            heap,
             parent: i,
-            first: first,
-            last: last,
+            first,
+            last,
         },
     );
-    let rank = word_at(store, layout, n, Field::Rank, i);
-    placed & (length == rank + 1)
+    let rank = view.word(Field::Rank, i);
+    placed & (length == Some(rank))
 }
 
-// One more than the sum of all ranks, 0 if some item is not right.
-fn ranks(store: &[u32], layout: Layout, n: usize) -> usize
-    requires { Sized n store.now }
-    ensures { AtMost (ranks_if_ok n (look_in layout n store.now)) 17592186040321 result }
+// The sum of all ranks, if every item is right.
+fn ranks(view: &View) -> Option<usize>
+    ensures is { result ≡ ranks_if_ok view.now.n (values view.now) }
+    ensures most { IfSome result (λ k. k ≤ 17592186040320) }
 {
     let mut sum: usize = 0;
-    let mut i: usize = 0;
-    while i < n {
-        let ok = item_ok(store, layout, n, i);
-        if !ok {
-            return 0;
+    for i in 0..view.n {
+        if !item_ok(view, i) {
+            return None;
         }
-        sum += word_at(store, layout, n, Field::Rank, i);
-        i += 1;
+        sum += view.word(Field::Rank, i);
     }
-    sum + 1
+    Some(sum)
 }
 
-// How many items are free, and how many are in each heap.
-fn counts(store: &[u32], layout: Layout, n: usize) -> [usize; 9]
-    requires { StatesLow layout n store.now }
-    ensures { Counts n (look_in layout n store.now) result }
+// How many items are free, and how many are in each heap: by the number that `heap_of` gives.
+fn counts(view: &View) -> [usize; 9]
+    requires { StatesLow view.now.n (values view.now) }
+    ensures { Counts view.now.n (values view.now) result }
 {
     let mut counts: [usize; 9] = [0; 9];
-    let mut i: usize = 0;
-    while i < n {
-        let heap = heap_of(word_at(store, layout, n, Field::State, i));
+    for i in 0..view.n {
+        let heap = heap_of(view.word(Field::State, i));
         counts[heap] += 1;
-        i += 1;
     }
     counts
 }
 
 // The least of the roots of heap h, NONE where there is none.
-fn least_root(store: &[u32], layout: Layout, n: usize, h: usize) -> u32
-    requires sized { Sized n store.now }
-    requires row_inside { RowInside n (look_in layout n store.now) h }
-    ensures { result ≡ minimum (decode_forests n (look_in layout n store.now)) h }
+fn least_root(view: &View, h: usize) -> u32
+    requires row_inside { RowInside view.now.n (values view.now) h }
+    ensures { result ≡ minimum (decode_forests view.now.n (values view.now)) h }
 {
     let mut least = store::NONE;
-    let mut x = get_in(store, layout, n, Field::FirstTree, h as u32);
-    let mut j: usize = 0;
-    while j < n {
+    let mut x = get_in(view.words, view.layout, view.n, Field::FirstTree, h as u32);
+    for _ in 0..view.n {
         if x == store::NONE {
             break;
         }
-        least = lesser_in(store, layout, n, h as u32, least, x);
-        x = get_in(store, layout, n, Field::Next, x);
-        j += 1;
+        least = lesser_of(view.words, view.layout, view.n, h as u32, least, x);
+        x = get_in(view.words, view.layout, view.n, Field::Next, x);
     }
     least
 }
 
-// One more than the number of trees of a heap that has so many items, 0 if the heap is not right.
-fn heap_length(store: &[u32], layout: Layout, n: usize, h: usize, count: usize) -> usize
-    requires sized { Sized n store.now }
+// The number of trees of a heap that has so many items, if the heap is right. One copy of the code, not one for each heap.
+#[inline(never)]
+fn heap_length(view: &View, h: usize, count: usize) -> Option<usize>
     requires h_bound { h < 8 }
-    requires count_value { count ≡ count_at n (look_in layout n store.now) (suc h) }
-    ensures { AtMost (heap_if_ok n (look_in layout n store.now) h) 4097 result }
+    requires count_value { count ≡ count_at view.now.n (values view.now) (suc h) }
+    ensures is { result ≡ heap_if_ok view.now.n (values view.now) h }
+    ensures most { IfSome result (λ k. k ≤ 4096) }
 {
-    let first = word_at(store, layout, n, Field::FirstTree, h);
-    let last = word_at(store, layout, n, Field::LastTree, h);
+    let first = view.word(Field::FirstTree, h);
+    let last = view.word(Field::LastTree, h);
     let length = walk_list(
-        store,
-        layout,
-        n,
+        view,
         Siblings {
             heap: h + 1,
             parent: NONE,
-            first: first,
-            last: last,
+            first,
+            last,
         },
-    );
-    if length == 0 {
-        return 0;
-    }
-    let least = get_in(store, layout, n, Field::Minimum, h as u32);
-    let root = least_root(store, layout, n, h);
-    let items = word_at(store, layout, n, Field::Count, h);
-    let amount = word_at(store, layout, n, Field::Amount, h);
+    )?;
+    let least = get_in(view.words, view.layout, view.n, Field::Minimum, h as u32);
+    let root = least_root(view, h);
+    let items = view.word(Field::Count, h);
+    let amount = view.word(Field::Amount, h);
     if (least == root) & (items == count) & ((items > 0) | (amount == 0)) {
-        length
+        Some(length)
     } else {
-        0
+        None
     }
 }
 
-// One more than the number of all trees, 0 if some heap is not right.
-fn trees(store: &[u32], layout: Layout, n: usize, counts: [usize; 9]) -> usize
-    requires sized { Sized n store.now }
-    requires counts { Counts n (look_in layout n store.now) counts }
-    ensures { AtMost (trees_if_ok n (look_in layout n store.now)) 32769 result }
+// The number of all trees, if every heap is right.
+fn trees(view: &View, counts: [usize; 9]) -> Option<usize>
+    requires counts { Counts view.now.n (values view.now) counts }
+    ensures is { result ≡ trees_if_ok view.now.n (values view.now) }
+    ensures most { IfSome result (λ k. k ≤ 32768) }
 {
     let mut sum: usize = 0;
-    let mut h: usize = 0;
-    while h < 8 {
-        let length = heap_length(store, layout, n, h, counts[h + 1]);
-        if length == 0 {
-            return 0;
-        }
-        sum += length - 1;
-        h += 1;
+    for h in 0..8 {
+        sum += heap_length(view, h, counts[h + 1])?;
     }
-    sum + 1
+    Some(sum)
 }
 
 // Every item and every heap is right, and each item stands in a list or is free.
-fn all_ok(store: &[u32], layout: Layout, n: usize) -> bool
-    requires { Sized n store.now }
-    ensures { result ≡ all_ok n (look_in layout n store.now) }
+fn all_ok(view: &View) -> bool
+    ensures { result ≡ all_ok view.now.n (values view.now) }
 {
-    let ranks = ranks(store, layout, n);
-    if ranks == 0 {
+    let Some(ranks) = ranks(view) else {
         return false;
-    }
-    let counts = counts(store, layout, n);
-    let trees = trees(store, layout, n, counts);
-    if trees == 0 {
+    };
+    let counts = counts(view);
+    let Some(trees) = trees(view, counts) else {
         return false;
-    }
-    trees - 1 + (ranks - 1) + counts[0] == n
+    };
+    trees + ranks + counts[0] == view.n
 }
 
 // Whether any words are those of a sound store, in either order.
-pub fn sound_in(store: &[u32], layout: Layout) -> bool
+pub fn sound(store: &[u32], layout: Layout) -> bool
     ensures { result ≡ sound_words_in layout store.now }
 {
     if !is_store(store) {
         return false;
     }
-    let n = items_of(store);
-    all_ok(store, layout, n)
-}
-
-// The same in the order in use.
-pub fn sound(store: &[u32]) -> bool
-    ensures { result ≡ sound_words store.now }
-{
-    sound_in(store, Layout::ByItem)
+    all_ok(&View {
+        words: store,
+        layout,
+        n: items_of(store),
+    })
 }

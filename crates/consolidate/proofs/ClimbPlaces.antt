@@ -37,15 +37,6 @@ apart_by {b} {a} {z} e f = go (eqb a z) refl (sym f ∙ e)
     go true q y = absurd (true≢false y)
     go false q y = eqb-false a z q
 
--- and its negation
-pub was_false : (b : Bool) → not b ≡ true → b ≡ false
-was_false true e = absurd (true≢false (sym e))
-was_false false e = refl
-
-pub was_true : (b : Bool) → not b ≡ false → b ≡ true
-was_true true e = refl
-was_true false e = absurd (true≢false e)
-
 module _ {n h base : ℕ} {rest : List ℕ} {amounts : ℕ → ℕ} {goal : Linking} {w ps held : List ℕ} {x r links taken : ℕ}
     (G : Climbing n h base rest amounts goal w ps x r links) (O : OnTheWay held ps taken r) where
   inside : r < length ps
@@ -53,6 +44,11 @@ module _ {n h base : ℕ} {rest : List ℕ} {amounts : ℕ → ℕ} {goal : Link
 
   pub place_taken : TakenAt ps taken r
   place_taken = record { places = omega (arith, G.state.long); inside = inside; number = O.number }
+
+  -- the test of the number says that it is taken
+  pub stands : {b : Bool} → ((qs : List ℕ) → TakenAt qs taken r → b ≡ not (eqb (get_or qs r 0) none)) → b ≡ true
+      → get_or ps r 0 ≢ none
+  stands f e = apart_by (f ps place_taken) e
 
   module _ {y : ℕ} (e : y ≡ get_or held r 0) (d : get_or ps r 0 ≢ none) where
     -- the holder is read from the places as they were

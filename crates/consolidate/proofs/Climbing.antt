@@ -13,7 +13,7 @@ use Rattle.rules.specs.Words.{look}
 use Rattle.rules.proofs.Default.{get_or_any}
 use Rattle.rules.proofs.ConsolidateKeeps.{Held, rank_low, held_put, x_heap}
 use Rattle.rules.proofs.Excused.{to_formed, well_formed}
-use Rattle.consolidate.specs.Consolidating.{Consolidating, Climbed, climb_tree}
+use Rattle.consolidate.specs.Consolidating.{ClimbReady, Consolidating, Climbed, climb_tree}
 use Rattle.consolidate.specs.Released.{released}
 use Rattle.consolidate.proofs.Beside.{Reads, beside_rank}
 use Rattle.consolidate.proofs.MoveWords.{released_other}
@@ -46,6 +46,14 @@ pub record Climbing (n h base : ℕ) (rest : List ℕ) (amounts : ℕ → ℕ) (
   pub enough : 18 ≤ fuel + r
   pub whole : climb fuel (is_free ps r) r x (record { places = ps; links = made; forests = here }) ≡ goal
 
+-- the same, to whatever goal
+pub record OnItsWay (n h : ℕ) (w ps : List ℕ) (x r links : ℕ) : Type 0 where
+  pub base : ℕ
+  pub rest : List ℕ
+  pub amounts : ℕ → ℕ
+  pub goal : Linking
+  pub climbing : Climbing n h base rest amounts goal w ps x r links
+
 -- a tree comes to the places
 pub climb_starts : (n h base k : ℕ) (rest w ps : List ℕ) (amounts : ℕ → ℕ) (t : Forests) (x links r : ℕ)
     → Consolidating n h w ps (x ∷ rest) rest amounts t → links ≡ base + k → links + length (occupied ps) ≤ 4096
@@ -65,6 +73,17 @@ climb_starts n h base k rest w ps amounts t x links r C e f q =
       enough = omega arith;
       whole = refl;
     })
+
+pub on_its_way : {n h : ℕ} {w ps : List ℕ} {x links r : ℕ} → ClimbReady n h w ps x links → r ≡ look n w Rank x
+    → OnItsWay n h w ps x r links
+on_its_way {links = links} p q =
+    record {
+      base = 0;
+      rest = p.rest;
+      amounts = p.amounts;
+      goal = _;
+      climbing = climb_starts _ _ 0 links p.rest _ _ p.amounts p.forests _ _ _ p.state (omega arith) p.fits q;
+    }
 
 module _ {n h base : ℕ} {rest : List ℕ} {amounts : ℕ → ℕ} {goal : Linking} {w ps : List ℕ} {x r links : ℕ}
     (G : Climbing n h base rest amounts goal w ps x r links) where

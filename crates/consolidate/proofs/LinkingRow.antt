@@ -38,6 +38,12 @@ pub record LinkingRow (n h base : ℕ) (amounts : ℕ → ℕ) (goal : Linking) 
   pub fits : links + length (occupied ps) + length rest ≤ 4096
   pub whole : link_trees 18 rest (record { places = ps; links = made; forests = here }) ≡ goal
 
+-- the same, from no links on and to whatever goal
+pub record SomeRow (n h : ℕ) (w ps : List ℕ) (x links : ℕ) : Type 0 where
+  pub amounts : ℕ → ℕ
+  pub goal : Linking
+  pub linking : LinkingRow n h 0 amounts goal w ps x links
+
 -- all trees of the row are to come, and all places are free
 pub walk_starts : {n h m : ℕ} {w cs : List ℕ} {amounts : ℕ → ℕ} {t : Forests} (x : ℕ) → Gathered n h m w cs amounts t
     → WellFormed t → h < 8 → x ≡ look n w FirstTree h

@@ -3,7 +3,7 @@ use Prim.Native.Nat.{ℕ, zero, suc, ◌+◌, ◌<◌}
 use mathlib.Core.Path.{◌≡◌, refl, sym, ap, subst, ◌∙◌}
 use mathlib.Core.Logic.{◌≢◌}
 use mathlib.Core.List.{List, [], ◌∷◌, ◌++◌, append_assoc, append-nil}
-use mathlib.Core.Bool.{Bool, true, false, cond}
+use mathlib.Core.Bool.{Bool, true, false, cond, not}
 use native.Mathlib.Numerals.{add-one}
 use native.Mathlib.Omega.{arith}
 use lib.Dec.{eqb}
@@ -23,6 +23,7 @@ use Rattle.store.specs.Says.{Changes}
 use Rattle.linking_places.specs.Taken.{taken_of}
 use Rattle.linking_places.proofs.Taken.{a_tree}
 use Rattle.consolidate.specs.Consolidating.{Consolidating}
+use Rattle.consolidate.proofs.ClimbPlaces.{apart_by}
 use Rattle.consolidate.specs.Released.{released}
 use Rattle.consolidate.specs.Writing.{Coming, WritingRow}
 use Rattle.consolidate.proofs.RowWords.{beside_ends, beside_minimum, beside_row}
@@ -62,6 +63,13 @@ module _ {n h : ℕ} {w ps : List ℕ} {amounts : ℕ → ℕ} {t : Forests} (C 
   pub places_formed : WellFormed (set_row h (occupied ps) t)
   places_formed = subst (λ l. WellFormed (set_row h l t)) (append-nil (occupied ps)) C.formed
 
+  -- a place from r on is taken, by the number
+  pub goes_on : {taken r : ℕ} {b : Bool} → taken ≡ taken_of ps
+      → ((qs : List ℕ) → taken ≡ taken_of qs → b ≡ not (eqb (taken_of (drop r qs)) 0)) → b ≡ true → r < 17
+  goes_on {taken} {r} e f q =
+      let k = some_taken ps r (apart_by (f ps e) q) in
+      omega (arith, k, C.long)
+
   pub places_row : row_of (set_row h (occupied ps) t) h ≡ occupied ps
   places_row =
       get_or-set_same t.rows h (occupied ps) []
@@ -84,6 +92,15 @@ module _ {n h : ℕ} {w ps : List ℕ} {amounts : ℕ → ℕ} {t : Forests} (C 
         };
         least = refl;
       }
+
+-- those at the places below r are written
+pub record WrittenTo (n h : ℕ) (w ps : List ℕ) (r m : ℕ) : Type 0 where
+  pub amounts : ℕ → ℕ
+  pub forests : Forests
+  pub disjoint : Disjoint forests
+  pub keys : KeysFit forests
+  pub row : row_of forests h ≡ occupied ps
+  pub state : WritingRow n h w (occupied (take r ps)) m amounts forests
 
 -- ---- one place
 

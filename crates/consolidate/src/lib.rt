@@ -19,90 +19,65 @@ ghost use Rattle.consolidate.specs.Writing.{TreeReady, WritesTree};
 use linking_places::{
     any_from, free_place, free_places, hold, holder, is_taken, leave, take_place,
 };
-use rules::{Field, Tally};
+use rules::{Field, Layout, Tally};
 use store::keys::{key_of, settle_amount};
 use store::order::{lesser_of, precedes};
 use store::{NONE, Owner, append, concat, free_item, get, put, remove};
 
-// Two items of a heap in their order.
-#[derive(Clone, Copy)]
-struct Pair {
-    first: u32,
-    second: u32,
-}
-
-fn in_order(s: &[u32], n: usize, h: u32, a: u32, b: u32) -> Pair
+// Two items of heap h in their order.
+fn in_order(s: &[u32], n: usize, h: u32, a: u32, b: u32) -> (u32, u32)
     requires h_bound { h < 8 }
     requires within { Within n s.now Key a }
     requires within_2 { Within n s.now Key b }
-    ensures first_value { result.first ≡ cond (comes_before (item_key h (look n s.now)) a b) a b }
-    ensures second_value { result.second ≡ cond (comes_before (item_key h (look n s.now)) a b) b a }
+    ensures first_value { result.0 ≡ cond (comes_before (item_key h (look n s.now)) a b) a b }
+    ensures second_value { result.1 ≡ cond (comes_before (item_key h (look n s.now)) a b) b a }
 {
-    if precedes(s, n, h, a, b) {
-        Pair {
-            first: a,
-            second: b,
-        }
+    if precedes(s, Layout::ByItem, n, h, a, b) {
+        (a, b)
     } else {
-        Pair {
-            first: b,
-            second: a,
-        }
+        (b, a)
     }
 }
 
-// The links made so far in a row, which places are taken, and the places.
+// The links made so far in a row, the places, and the number of those that are taken.
 #[derive(Clone, Copy)]
 struct Linked {
     links: u32,
     taken: u32,
     places: [u16; 17],
+    ghost taken_places: { taken ≡ taken_of (trees_of places) },
 }
 
 // A tree of heap h comes to the places: it is linked with the holder of the place of its rank, and the winner climbs
-// one rank, until it rests at a free place. `taken` tells whether a place is taken before it is known by which tree;
+// one rank, until it rests at a free place. The number tells whether a place is taken before it is known by which tree;
 // holders are read from the places as they were before.
-fn climb(
-    s: &mut [u32],
-    n: usize,
-    h: u32,
-    held: [u16; 17],
-    held_taken: u32,
-    tree: u32,
-    made: u32,
-) -> Linked
-    requires climb_ready { ClimbReady n h s.old (trees_of held) tree made }
-    requires held_taken_value { held_taken ≡ taken_of (trees_of held) }
-    ensures climbs { Climbs n h s.old (trees_of held) tree made
+fn climb(s: &mut [u32], n: usize, h: u32, before: Linked, tree: u32) -> Linked
+    requires { ClimbReady n h s.old (trees_of before.places) tree before.links }
+    ensures { Climbs n h s.old (trees_of before.places) tree before.links
         s.new (trees_of result.places) result.links }
-    ensures taken_value { result.taken ≡ taken_of (trees_of result.places) }
 {
+    let held = before.places;
     let mut places = held;
-    let mut taken = held_taken;
+    let mut taken = before.taken;
+    let mut links = before.links;
     let mut x = tree;
-    let mut links = made;
     let mut r = get(s, n, Field::Rank, x) as u16;
-    let rank = loop {
-        if !is_taken(taken, r) {
-            break r;
-        }
+    while is_taken(taken, r) {
         let y = holder(&held, r);
-        let pair = in_order(s, n, h, y, x);
-        let w = pair.first;
-        append(s, n, Owner::Children(w), pair.second);
+        let (winner, loser) = in_order(s, n, h, y, x);
+        append(s, n, Owner::Children(winner), loser);
+        // A call's result that holds an array goes through a variable of its own: the check covers no other form.
         let left = leave(places, y);
         places = left;
         taken = free_place(taken, r);
         links += 1;
-        x = w;
+        x = winner;
         r += 1;
-    };
-    let now_taken = take_place(taken, rank);
-    let now_held = hold(places, rank, x);
+    }
     Linked {
         links,
-        taken: now_taken,
-        places: now_held,
+        taken: take_place(taken, r),
+        places: hold(places, r, x),
     }
 }
 
@@ -123,27 +98,22 @@ fn link_row(s: &mut [u32], n: usize, h: u32) -> Linked
     requires { ConsolidateReady n s.old h 0 }
     ensures links_row { LinksRow n s.old h s.new (trees_of result.places) result.links }
     ensures links_bound { result.links ≤ 4096 }
-    ensures taken_value { result.taken ≡ taken_of (trees_of result.places) }
 {
-    let mut places = free_places();
-    let mut taken = 0;
-    let mut links = 0;
+    let mut linked = Linked {
+        links: 0,
+        taken: 0,
+        places: free_places(),
+    };
     let mut x = get(s, n, Field::FirstTree, h);
+    // A `while`, since the words that are linked say where it ends.
     while x != NONE {
         let next = get(s, n, Field::Next, x);
         release_tree(s, n, h, x);
-        let c = climb(s, n, h, places, taken, x, links);
-        let q = c.places;
-        places = q;
-        taken = c.taken;
-        links = c.links;
+        let climbed = climb(s, n, h, linked, x);
+        linked = climbed;
         x = next;
     }
-    Linked {
-        links,
-        taken,
-        places,
-    }
+    linked
 }
 
 // The siblings from `child` on, `count` of them, become roots of heap h, unmarked.
@@ -152,11 +122,9 @@ fn release(s: &mut [u32], n: usize, h: u32, child: u32, count: u32)
     ensures { Releases n s.old h child count s.new }
 {
     let mut c = child;
-    let mut k = count;
-    while k > 0 {
+    for _k in 0..count {
         release_tree(s, n, h, c);
         c = get(s, n, Field::Next, c);
-        k -= 1;
     }
 }
 
@@ -188,39 +156,31 @@ pub fn remove_root(s: &mut [u32], n: usize, h: u32, x: u32)
 
 // The tree at place r, unless that is free, put at the end of the row of heap h, whose least item was m. Gives the
 // least item.
-fn write_tree(
-    s: &mut [u32],
-    n: usize,
-    h: u32,
-    m: u32,
-    places: &[u16; 17],
-    taken: u32,
-    r: u16,
-) -> u32
-    requires tree_ready { TreeReady n s.old h m (get_or (trees_of places.now) r 0) }
-    requires taken_at { TakenAt (trees_of places.now) taken r }
-    ensures { WritesTree n s.old h m (get_or (trees_of places.now) r 0) s.new result }
+fn write_tree(s: &mut [u32], n: usize, h: u32, m: u32, linked: &Linked, r: u16) -> u32
+    requires tree_ready { TreeReady n s.old h m (get_or (trees_of linked.now.places) r 0) }
+    requires taken_at { TakenAt (trees_of linked.now.places) linked.now.taken r }
+    ensures { WritesTree n s.old h m (get_or (trees_of linked.now.places) r 0) s.new result }
 {
-    if !is_taken(taken, r) {
+    if !is_taken(linked.taken, r) {
         return m;
     }
-    let x = holder(places, r);
+    let x = holder(&linked.places, r);
     append(s, n, Owner::Row(h), x);
-    lesser_of(s, n, h, m, x)
+    lesser_of(s, Layout::ByItem, n, h, m, x)
 }
 
-// The row of heap h written anew from the places, by ascending rank, with its minimum.
-fn write_row(s: &mut [u32], n: usize, h: u32, places: [u16; 17], taken: u32)
-    requires row_ready { RowReady n s.old h (trees_of places) }
-    requires taken_value { taken ≡ taken_of (trees_of places) }
-    ensures { WritesRow n s.old h (trees_of places) s.new }
+// The row of heap h written anew from the places, by ascending rank, with its minimum. The loop ends after the last
+// place that is taken, which their number tells.
+fn write_row(s: &mut [u32], n: usize, h: u32, linked: &Linked)
+    requires { RowReady n s.old h (trees_of linked.now.places) }
+    ensures { WritesRow n s.old h (trees_of linked.now.places) s.new }
 {
     put(s, n, Field::FirstTree, h, NONE);
     put(s, n, Field::LastTree, h, NONE);
     let mut m = NONE;
     let mut r = 0;
-    while any_from(taken, r) {
-        m = write_tree(s, n, h, m, &places, taken, r);
+    while any_from(linked.taken, r) {
+        m = write_tree(s, n, h, m, linked, r);
         r += 1;
     }
     put(s, n, Field::Minimum, h, m);
@@ -233,32 +193,32 @@ fn consolidate(s: &mut [u32], n: usize, h: u32, tally: Tally) -> Tally
     ensures cuts_value { result.cuts ≡ tally.cuts }
 {
     let linked = link_row(s, n, h);
-    let places = linked.places;
-    write_row(s, n, h, places, linked.taken);
+    write_row(s, n, h, &linked);
     tally.link(linked.links)
 }
 
-// The item that a call took out, its key, and the tally.
+// What a call that is done answers: an item or a heap, a key or a count, and the tally after it.
 #[derive(Clone, Copy)]
-pub struct Extracted {
+pub struct Reply {
     pub item: u32,
     pub key: u32,
     pub tally: Tally,
 }
 
-// T: the minimum of heap h leaves, then linking follows, which releases its children.
-pub fn extract_min(s: &mut [u32], n: usize, h: u32, tally: Tally) -> Extracted
+// T: the minimum of heap h leaves, then linking follows, which releases its children. `heap` takes the tally alone, and
+// what nobody reads of item and key is not computed.
+pub fn extract_min(s: &mut [u32], n: usize, h: u32, tally: Tally) -> Reply
     requires { ExtractReady n s.old h tally.links }
     ensures performs { Performs s.new tally.links result.item result.key result.tally.links
         (decode n (look n s.old)) h }
     ensures cuts_value { result.tally.cuts ≡ tally.cuts }
 {
     let x = get(s, n, Field::Minimum, h);
-    let key = key_of(s, n, h, x);
+    let key = key_of(s, Layout::ByItem, n, h, x);
     detach_root(s, n, h, x);
     let t = consolidate(s, n, h, tally);
     settle_amount(s, n, h);
-    Extracted {
+    Reply {
         item: x,
         key,
         tally: t,

@@ -29,9 +29,9 @@ pub record Cascading (n : ℕ) (w : List ℕ) (amounts c m : ℕ → ℕ) (k : C
 -- before the first cut
 pub cascade_start : {n : ℕ} {w : List ℕ} {amounts c m : ℕ → ℕ} {t : Forests} {h x : ℕ} → Holds n w amounts c m t none
     → Member t h x
-    → Cascading n w amounts c m (cascading_cut (suc n) (node_kind t x) h x t) h x 0 (n + 1)
+    → Cascading n w amounts c m (cascading_cut (suc n) (node_kind t x) h x t) h x 0 (n + 1 - 0)
 cascade_start {n} {t = t} {h} {x} H M =
-    let e : n + 1 ≡ suc n = omega arith in
+    let e : n + 1 - 0 ≡ suc n = omega arith in
     record {
       here = t;
       holds = H;

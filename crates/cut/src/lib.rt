@@ -30,9 +30,8 @@ fn cascading_cut(s: &mut [u32], n: usize, h: u32, x: u32) -> u32
         → Cascaded n s.new a c m (cascading_cut (suc n) (node_kind t x) h x t) result }
 {
     let mut p = x;
-    let mut cuts: u32 = 0;
-    let mut left: usize = n + 1;
-    while 0 < left {
+    let most = n as u32 + 1;
+    for cuts in 0..most {
         let q = store::get(s, n, Field::Parent, p);
         if q == store::NONE {
             return cuts;
@@ -43,11 +42,9 @@ fn cascading_cut(s: &mut [u32], n: usize, h: u32, x: u32) -> u32
             return cuts;
         }
         cut(s, n, h, p);
-        cuts += 1;
         p = q;
-        left -= 1;
     }
-    cuts
+    most
 }
 
 // x is cut, and its parent is then treated as one that lost a child. Answers the number of cuts.

@@ -1,55 +1,52 @@
 -- What is printed of a feed call: its code alone, or the table and the figures. F says what it answered and left.
 use Prim.Native.Nat.{ℕ, ◌+◌, ◌^◌, ◌≤◌, ◌<◌}
 use mathlib.Core.Path.{◌≡◌, sym, ap, ◌∙◌}
-use mathlib.Core.Logic.{◌≢◌}
 use mathlib.Core.List.{List, [], ◌∷◌}
 use native.Mathlib.Omega.{arith}
+use Rattle.std.proofs.Common.{Ok, Err}
 use lib.ListN.{length}
 use borrow.Author.Tests.{eq-eqb, ne_eqb}
-use Rattle.text.specs.Lines.{line_feed}
-use Rattle.text.specs.Decimal.{field, row}
-use Rattle.text.specs.Output.{Wrote}
+use Rattle.text.specs.Decimal.{row}
 use Rattle.text.proofs.Wrote.{wrote_then, wrote_length}
 use Rattle.paths.specs.Map.{Map}
 use Rattle.paths.specs.Table.{unlimited, Table}
 use Rattle.paths.specs.Feed.{ResultLists, Feed, feed_result}
 use Rattle.paths.proofs.FeedDone.{feed_done}
+use Rattle.rules.specs.declared.Refusal.{Refusal}
+use Rattle.rules.specs.Refusals.{code}
+use Rattle.rules.proofs.Codes.{some_code}
 use Rattle.finder.specs.declared.Fed.{Fed}
 use Rattle.finder.specs.Answers.{feed_of}
 use Rattle.feed.specs.Shown.{code_line, feed_text, Shows, figures_most, Roomy, WroteRow, TableReady, TableWrote}
-use Rattle.feed.proofs.Fields.{code_within}
 
-module _ (m : Map) (lent : ResultLists) (fed : Fed) (left : ResultLists) (F : feed_of fed left ≡ feed_result m lent) where
+module _ (m : Map) (lent left : ResultLists) where
   abbrev w : Feed
   w = feed_result m lent
 
-  same_code : fed.code ≡ w.code
-  same_code = ap (λ (f : Feed). f.code) F
+  pub feed_refused : (e : Refusal) → feed_of (Err e) left ≡ w → feed_text m.places w ≡ code_line (code e)
+  unfolding feed_of feed_text
+  feed_refused e F = rw (sym F, ne_eqb (code e) 0 (some_code e))
 
-  pub shows_refused : fed.code ≢ 0 → fed.code < 2 ^ 32 → (out : List ℕ) → Roomy m.places out → (r : ℕ)
-      (out' : List ℕ) → Wrote out 0 (field fed.code line_feed) out' r → Shows (feed_text m.places w) out r out'
-  unfolding feed_text code_line
-  shows_refused z h out room r out' v =
-      record {
-        wrote = rw (sym same_code, ne_eqb fed.code 0 z) v;
-        within = code_within fed.code h (omega (arith, room)) v;
-      }
+  module _ (fed : Fed) (F : feed_of (Ok fed) left ≡ w) where
+    done : w.code ≡ 0
+    unfolding feed_of
+    done = ap (λ (f : Feed). f.code) (sym F)
 
-  module _ (z : fed.code ≡ 0) where
-    abbrev done : w.code ≡ 0
-    done = sym same_code ∙ z
+    same_left : left ≡ w.left
+    unfolding feed_of
+    same_left = ap (λ (f : Feed). f.left) F
 
     abbrev table : Table unlimited m w.left.best w.left.last w.left.joints
     table = (feed_done m lent done).table
 
     best_n_lem : length left.best ≡ m.places
-    best_n_lem = ap (λ (f : Feed). length f.left.best) F ∙ table.best_n
+    best_n_lem = ap (λ (l : ResultLists). length l.best) same_left ∙ table.best_n
 
     last_n_lem : length left.last ≡ m.places
-    last_n_lem = ap (λ (f : Feed). length f.left.last) F ∙ table.last_n
+    last_n_lem = ap (λ (l : ResultLists). length l.last) same_left ∙ table.last_n
 
     joints_n_lem : length left.joints ≡ m.places
-    joints_n_lem = ap (λ (f : Feed). length f.left.joints) F ∙ table.joints_n
+    joints_n_lem = ap (λ (l : ResultLists). length l.joints) same_left ∙ table.joints_n
 
     module _ (few : m.places < 2 ^ 32) (out : List ℕ) (room : Roomy m.places out) where
       pub table_ready : TableReady left.best left.last left.joints out
@@ -68,7 +65,7 @@ module _ (m : Map) (lent : ResultLists) (fed : Fed) (left : ResultLists) (F : fe
         pub shows_done : (r : ℕ) (out' : List ℕ)
             → WroteRow figures_most out₁ at (row (fed.links ∷ fed.cuts ∷ fed.examined ∷ [])) out' r
             → Shows (feed_text m.places w) out r out'
-        unfolding feed_text
+        unfolding feed_of feed_text
         shows_done r out' v =
             record {
               wrote = rw (eq-eqb w.code 0 done, sym F, sym best_n_lem) (wrote_then T.wrote v.wrote);

@@ -1,5 +1,7 @@
 -- What the program prints of a map: the table and the figures, or the code of a refusal alone.
-use Rattle.std.specs.Prelude.{ℕ, zero, suc, ◌+◌, ◌*◌, ◌^◌, ◌≤◌, ◌<◌, ◌≡◌, List, [], ◌∷◌, ◌++◌, cond, not, length, get_or, take, replicate, eqb, ltb}
+use Rattle.std.specs.Prelude.{ℕ, zero, suc, Result, Ok, Err, ◌+◌, ◌*◌, ◌^◌, ◌≤◌, ◌<◌, ◌≡◌, List, [], ◌∷◌, ◌++◌, cond, not, length, get_or, take, replicate, eqb, ltb}
+use Rattle.rules.specs.declared.Refusal.{Refusal}
+use Rattle.rules.specs.Refusals.{code}
 use Rattle.rules.specs.Forests.{none}
 use Rattle.rules.specs.Words.{store_size}
 use Rattle.text.specs.Fields.{comma}
@@ -89,6 +91,11 @@ program_text text = map_text (read_map text own_spans own_windows) own_results
 pub record Shows (bytes out : List ℕ) (r : ℕ) (out' : List ℕ) : Type 0 where
   pub wrote : Wrote out 0 bytes out' r
   pub within : r ≤ length out'
+
+-- Either the bytes are printed, or they are the line of a refusal's code, and nothing is printed yet.
+abbrev pub Told : List ℕ → List ℕ → Result ℕ Refusal → List ℕ → Type 0
+Told bytes out (Ok r) out' = Shows bytes out r out'
+Told bytes out (Err e) out' = (bytes ≡ code_line (code e)) × (out' ≡ out)
 
 -- ---- for the functions inside
 

@@ -40,8 +40,8 @@ abbrev pub at : Stop → Map → ℕ → ℕ → ℕ → Search
 at stop m k u e = tried m u (best_at (steps stop m k) u) (joints_at (steps stop m k) u) e (extracted u (steps stop m k))
 
 module _
-    {stop : Stop} {m : Map} {minute : ℕ} {index to loss opens closes : List ℕ} {u d : ℕ} {l₀ : ResultLists}
-    {taken : Progress} (K : Taken stop m minute index to loss opens closes u d l₀ taken) where
+    {stop : Stop} {m : Map} {index : List ℕ} {u d : ℕ} {l₀ : ResultLists} {taken : Progress}
+    (K : Taken stop m index u d l₀ taken) where
   abbrev k : ℕ
   k = taken.visited
 

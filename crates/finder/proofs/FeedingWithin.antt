@@ -4,6 +4,9 @@ use mathlib.Core.Path.{◌≡◌, refl, sym, ap, ◌∙◌}
 use mathlib.Core.Logic.{◌≢◌}
 use mathlib.Core.List.{List}
 use lib.ListN.{length}
+use Rattle.std.proofs.Common.{Ok, Err}
+use Rattle.rules.specs.declared.Refusal.{Refusal}
+use Rattle.rules.specs.Refusals.{code, code_of}
 use Rattle.rules.specs.Queues.{empty_queues}
 use Rattle.rules.specs.Words.{encode}
 use Rattle.store.specs.Says.{Sized}
@@ -16,7 +19,8 @@ use Rattle.paths.specs.Theorems.{Fits}
 use Rattle.paths.proofs.Steps.{search_between}
 use Rattle.finder.specs.SearchState.{Begun, ListReady, FoundListed}
 use Rattle.finder.specs.Hidden.{Hidden}
-use Rattle.finder.specs.Answers.{refused_fed, done_fed, feed_of, budget_feed_of}
+use Rattle.finder.specs.Answers.{done_fed, feed_of, budget_feed_of}
+use Rattle.rules.proofs.Codes.{some_code}
 use Rattle.finder.proofs.Ready.{logged_sized}
 use Rattle.finder.proofs.Beginning.{begun_stands}
 use Rattle.finder.proofs.Feeding.{fed-refused, fed-done, code_fits}
@@ -48,39 +52,32 @@ module _
   unfolding search
   empty_ready = logged_sized (beyond (up_to budget)) m A m.places F.found.tracks.logged
 
-module _
-    (budget : ℕ) (m : Map) (lent : ResultLists) (lent_list : List ℕ) (code : ℕ)
-    (is : code ≡ code_for m lent (length lent_list)) where
-  -- the result by the code
-  result_is : budget_result budget m lent lent_list ≡ budget_as code budget m lent lent_list
-  unfolding budget_result
-  result_is = rw (sym is)
-
-  pub within_refused : code ≢ 0
-      → budget_feed_of (record { fed = refused_fed code; listed = 0 }) lent lent_list ≡ budget_result budget m lent lent_list
-  unfolding budget_as
-  within_refused n = go code n ∙ sym result_is
+module _ (budget : ℕ) (m : Map) (lent : ResultLists) (lent_list : List ℕ) where
+  pub within_refused : (e : Refusal) → code_of {A = Unit {0}} (Err e) ≡ code_for m lent (length lent_list)
+      → budget_feed_of (Err e) lent lent_list ≡ budget_result budget m lent lent_list
+  unfolding code_of budget_feed_of budget_as budget_result
+  within_refused e is = rw (sym is) (go (code e) (some_code e) (fed-refused (up_to budget) m lent e))
     where
-      go : (c : ℕ) → c ≢ 0
-          → budget_feed_of (record { fed = refused_fed c; listed = 0 }) lent lent_list ≡ budget_as c budget m lent lent_list
-      go zero n = absurd (n refl)
-      go (suc c) n = rw (fed-refused (up_to budget) m lent (suc c) n)
+      go : (c : ℕ) → c ≢ 0 → feed_of (Err e) lent ≡ feed_as c (up_to budget) m lent
+          → record { feed = feed_of (Err e) lent; number = 0; listed = lent_list } ≡ budget_as c budget m lent lent_list
+      go zero n q = absurd (n refl)
+      go (suc c) n q = rw q
 
-  pub within_done : code ≡ 0 → (l : ResultLists) (listed : List ℕ) (r : Progress)
+  pub within_done : code_of {A = Unit {0}} (Ok tt) ≡ code_for m lent (length lent_list)
+      → (l : ResultLists) (listed : List ℕ) (r : Progress)
       → FoundListed budget m lent_list l listed r → (left : ResultLists)
       → Hidden budget l.best l.last l.joints left.best left.last left.joints
       → left.store ≡ encode (empty_queues m.places)
-      → budget_feed_of (record { fed = done_fed r; listed = r.visited }) left listed
+      → budget_feed_of (Ok (record { fed = done_fed r; listed = r.visited })) left listed
       ≡ budget_result budget m lent lent_list
-  unfolding budget_as
-  within_done z l listed r F left H e =
-      let A = (code_fits m _ _ _ (length lent_list) _ code is z).accepted in
+  unfolding code_of budget_feed_of budget_as budget_result
+  within_done is l listed r F left H e =
+      let A = (code_fits m _ _ _ (length lent_list) _ is).accepted in
       let T = F.found.tracks in
-      let w = result_is ∙ ap (λ c. budget_as c budget m lent lent_list) z in
-      let fed : feed_of (done_fed r) left ≡ feed_as 0 (up_to budget) m lent =
+      let fed : feed_of (Ok (done_fed r)) left ≡ feed_as 0 (up_to budget) m lent =
       rw e
       (fed-done (up_to budget) m lent A l r F.found left.best left.last left.joints
       (H.best_is ∙ rw T.best_is (hidden_best budget m A))
       (H.last_is ∙ rw (T.best_is, T.last_is) (hidden_last budget m A))
       (H.joints_is ∙ rw (T.best_is, T.joints_is) (hidden_joints budget m A))) in
-      rw (w, fed, F.number_is, F.listed_is)
+      rw (sym is, fed, F.number_is, F.listed_is)

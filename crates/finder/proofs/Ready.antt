@@ -5,7 +5,7 @@ use mathlib.Core.List.{List}
 use native.Mathlib.Omega.{arith}
 use lib.ListN.{length}
 use Rattle.rules.specs.declared.Call.{Call}
-use Rattle.rules.specs.declared.Line.TheVariants.{Yields}
+use Rattle.std.specs.Prelude.{Some}
 use Rattle.rules.specs.declared.Tally.{Tally}
 use Rattle.rules.specs.Forests.{Forests}
 use Rattle.rules.specs.Answers.{refusal, refused, unless_refused, answer}
@@ -27,7 +27,7 @@ use Rattle.relax.specs.Tracks.{Logged}
 use Rattle.relax.proofs.Logged.{logged_forests}
 
 -- a call that is answered with code 0 is not refused
-pub zero_allowed : (s : Forests) (c : Call) → (answer s (Yields c)).reply.code ≡ 0 → refusal s c ≡ 0
+pub zero_allowed : (s : Forests) (c : Call) → (answer s (Some c)).reply.code ≡ 0 → refusal s c ≡ 0
 unfolding answer unless_refused refused
 zero_allowed s c = go (refusal s c)
   where

@@ -13,7 +13,7 @@ use Rattle.rules.specs.Unraised.{is_raise}
 use Rattle.rules.specs.Words.{queues_of, forests_of}
 use Rattle.rules.proofs.Sums.{sum_by_set}
 use Rattle.heap.specs.Allowed.{Moves}
-use Rattle.paths.specs.Map.{SpanLists, Windows, Map, map_at}
+use Rattle.paths.specs.Map.{Map}
 use Rattle.paths.specs.Queue.{Stop, halts, takes, next}
 use Rattle.paths.specs.Search.{Search, steps, never}
 use Rattle.paths.specs.Feed.{ResultLists, result_lists}
@@ -39,30 +39,19 @@ pub stands_found : {stop : Stop} {m : Map} {l : ResultLists} {go : Progress} →
 stands_found {stop} {m} {go = go} S n =
     record { out = go.visited; tracks = rw (search_is stop m go.visited S.few n) S.tracks }
 
--- the map that has these lists
-pub goes_on : {stop : Stop} {places start minute : ℕ} {lists : SpanLists} {w : Windows} {index : List ℕ}
-    {l : ResultLists} {go : Progress} → IsIndex places lists.from index
-    → Stands stop (map_at places start minute lists w) l go
-    → ((u : ℕ) × (next stop (steps stop (map_at places start minute lists w) go.visited).queue ≡ takes u))
-    → Goes stop (map_at places start minute lists w) minute index lists.to lists.loss w.opens w.closes l go
-goes_on I S n =
-    record {
-      lists = record { indexed = I; to_is = refl; loss_is = refl; supply_is = refl };
-      stands = S;
-      more = n;
-    }
+-- a place was met and not visited, and no rule halts: it goes on
+pub all_go : {m : Map} {index : List ℕ} {l : ResultLists} {go : Progress} → IsIndex m.places m.lists.from index
+    → Stands never m l go → go.visited < go.met → Goes never m index l go
+all_go I S h = record { indexed = I; stands = S; more = some_waits S h }
 
 -- the first place that waits may be visited, unless the rule halts by its loss
-pub first_goes : {stop : Stop} {places start minute : ℕ} {lists : SpanLists} {w : Windows} {index : List ℕ}
-    {l : ResultLists} {go : Progress} → IsIndex places lists.from index
-    → (S : Stands stop (map_at places start minute lists w) l go) (h : go.visited < go.met)
-    → {u : ℕ} → u ≡ minimum (forests_of l.store) 0 → stop (get_or l.best u 0) ≡ false
-    → Goes stop (map_at places start minute lists w) minute index lists.to lists.loss w.opens w.closes l go
-first_goes I S h is e = goes_on I S (_, first_taken S (some_waits S h).1 is e)
+pub first_goes : {stop : Stop} {m : Map} {index : List ℕ} {l : ResultLists} {go : Progress}
+    → IsIndex m.places m.lists.from index → (S : Stands stop m l go) (h : go.visited < go.met)
+    → {u : ℕ} → u ≡ minimum (forests_of l.store) 0 → stop (get_or l.best u 0) ≡ false → Goes stop m index l go
+first_goes I S h is e = record { indexed = I; stands = S; more = (_, first_taken S (some_waits S h).1 is e) }
 
 module _
-    {stop : Stop} {m : Map} {minute : ℕ} {index to loss opens closes : List ℕ} {l : ResultLists} {go : Progress}
-    (G : Goes stop m minute index to loss opens closes l go) where
+    {stop : Stop} {m : Map} {index : List ℕ} {l : ResultLists} {go : Progress} (G : Goes stop m index l go) where
   abbrev s : Search
   s = steps stop m go.visited
 
@@ -73,7 +62,7 @@ module _
   -- u is what the code reads: the call takes it, with the loss that the table shows
   pub taken : {u : ℕ} → u ≡ minimum (forests_of l.store) 0 → {t : Tally} {store' : List ℕ}
       → Moves (queues_of l.store) (ExtractMin 0) go.tally t store'
-      → Taken stop m minute index to loss opens closes u (get_or l.best u 0)
+      → Taken stop m index u (get_or l.best u 0)
       (result_lists l.best l.last l.joints store')
       (record { visited = go.visited; met = go.met; examined = go.examined; tally = t })
   unfolding is_raise
@@ -85,7 +74,7 @@ module _
       let w : get_or s.queue.waits u 0 ≢ 0 = (next_takes stop s.queue u n).inside in
       let B = steps_between stop m A go.visited in
       record {
-        lists = G.lists;
+        indexed = G.indexed;
         accepted = A;
         next_is = n;
         loss_is = first_loss G.stands goes_first is;

@@ -29,8 +29,8 @@ pub record Walking (stop : Stop) (m : Map) (k u end e : ℕ) (l : ResultLists) (
   pub tracks : Tracks m.places (suc k) (at stop m k u e) l go
 
 module _
-    {stop : Stop} {m : Map} {minute : ℕ} {index to loss opens closes : List ℕ} {u d : ℕ} {l₀ : ResultLists}
-    {taken : Progress} (K : Taken stop m minute index to loss opens closes u d l₀ taken) where
+    {stop : Stop} {m : Map} {index : List ℕ} {u d : ℕ} {l₀ : ResultLists} {taken : Progress}
+    (K : Taken stop m index u d l₀ taken) where
   abbrev k : ℕ
   k = taken.visited
 
@@ -39,10 +39,10 @@ module _
 
   -- the first span of u, and that of the next place
   first_of : FirstSpan m.lists.from u (get_or index u 0)
-  first_of = K.lists.indexed.first u (omega (arith, place_in K))
+  first_of = K.indexed.first u (omega (arith, place_in K))
 
   end_of : FirstSpan m.lists.from (u + 1) (get_or index (u + 1) 0)
-  end_of = K.lists.indexed.first (u + 1) (omega (arith, place_in K))
+  end_of = K.indexed.first (u + 1) (omega (arith, place_in K))
 
   -- a word of the index is the number of a span, or the number of the spans
   pub first_small : get_or index u 0 ≤ 16384

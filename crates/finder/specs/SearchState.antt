@@ -2,7 +2,7 @@
 -- has a stopping rule, and the code that visits one place holds for any.
 use Rattle.std.specs.Prelude.{ℕ, suc, ◌+◌, ◌<◌, ◌≤◌, ◌≡◌, List, length}
 use Rattle.store.specs.Says.{Sized}
-use Rattle.paths.specs.Map.{no_spans, windows, at_minute, Map, map_of, Accepted}
+use Rattle.paths.specs.Map.{no_spans, Map, map_of, Accepted}
 use Rattle.paths.specs.Table.{up_to}
 use Rattle.paths.specs.Queue.{Stop, takes, next}
 use Rattle.paths.specs.Search.{extracted, begin, steps, search, beyond, places_taken, best_at}
@@ -13,17 +13,9 @@ use Rattle.relax.specs.Tracks.{Tracks}
 
 -- ---- one place
 
--- The minute and the lists that the code reads are those of the map.
-pub record ListsOf (m : Map) (minute : ℕ) (index to loss opens closes : List ℕ) : Type 0 where
-  pub indexed : IsIndex m.places m.lists.from index
-  pub to_is : to ≡ m.lists.to
-  pub loss_is : loss ≡ m.lists.loss
-  pub supply_is : m.supply ≡ at_minute minute (windows opens closes)
-
 -- Place u was taken, with loss d, and none of its spans is tried yet.
-pub record Taken (stop : Stop) (m : Map) (minute : ℕ) (index to loss opens closes : List ℕ) (u d : ℕ)
-    (l : ResultLists) (go : Progress) : Type 0 where
-  pub lists : ListsOf m minute index to loss opens closes
+pub record Taken (stop : Stop) (m : Map) (index : List ℕ) (u d : ℕ) (l : ResultLists) (go : Progress) : Type 0 where
+  pub indexed : IsIndex m.places m.lists.from index
   pub accepted : Accepted m
   pub next_is : next stop (steps stop m go.visited).queue ≡ takes u
   pub loss_is : d ≡ best_at (steps stop m go.visited) u
@@ -36,9 +28,8 @@ pub record Stands (stop : Stop) (m : Map) (l : ResultLists) (go : Progress) : Ty
   pub tracks : Tracks m.places go.visited (steps stop m go.visited) l go
 
 -- The search goes on: a place comes next.
-pub record Goes (stop : Stop) (m : Map) (minute : ℕ) (index to loss opens closes : List ℕ) (l : ResultLists)
-    (go : Progress) : Type 0 where
-  pub lists : ListsOf m minute index to loss opens closes
+pub record Goes (stop : Stop) (m : Map) (index : List ℕ) (l : ResultLists) (go : Progress) : Type 0 where
+  pub indexed : IsIndex m.places m.lists.from index
   pub stands : Stands stop m l go
   pub more : (u : ℕ) × (next stop (steps stop m go.visited).queue ≡ takes u)
 

@@ -1,90 +1,63 @@
 // The feed finder: the least losses from a start (shortest paths), found over the queues.
 #![tactic(auto)]
 
-ghost use Rattle.std.specs.Prelude.{◌≡◌, ℕ, length, replicate};
-ghost use Rattle.paths.specs.Map.{span_lists, windows, map_at};
+ghost use Rattle.std.specs.Prelude.{◌≡◌, length};
+ghost use Rattle.spans.specs.Lists.{map_from};
+ghost use Rattle.relax.specs.Lent.{lists_of, SameLists};
 ghost use Rattle.paths.specs.Search.{never};
-ghost use Rattle.paths.specs.Feed.{result_lists, feed_result};
+ghost use Rattle.paths.specs.Feed.{feed_result};
 ghost use Rattle.finder.specs.SearchState.{BeginReady, Begun, Stands, Found};
-ghost use Rattle.finder.specs.Answers.{refused_fed, done_fed, feed_of};
+ghost use Rattle.finder.specs.Answers.{done_fed, feed_of};
 
 use heap::insert::insert;
-use relax::Progress;
-use rules::Tally;
+use relax::{Progress, Table};
+use rules::{Refusal, Tally};
+use spans::MapView;
 use spans::index::{Index, index_spans};
-use spans::refusal::feed_code;
+use spans::refusal::{Lengths, check_feed};
 use store::{NONE, make_empty};
 use visit::visit_next;
 
 pub mod budget;
 mod visit;
 
-// What a feed call answers: its code, and three figures, zeros after a refusal.
+// What a feed call that is done answers: the links and cuts of its search, and the number of spans examined.
 #[derive(Clone, Copy)]
 pub struct Fed {
-    pub code: u32,
     pub links: u32,
     pub cuts: u32,
     pub examined: u32,
 }
 
-// The answer of a call that is refused.
-fn refused(code: u32) -> Fed
-    ensures { result ≡ refused_fed code }
-{
-    Fed {
-        code,
-        links: 0,
-        cuts: 0,
-        examined: 0,
-    }
-}
-
-// The answer of a call that is done, by its search.
-fn done(found: Progress) -> Fed
-    ensures { result ≡ done_fed found }
-{
-    let tally = found.tally;
-    Fed {
-        code: 0,
-        links: tally.links,
-        cuts: tally.cuts,
-        examined: found.examined,
-    }
-}
-
-fn fill(list: &mut [u32], word: u32)
-    ensures { list.new ≡ replicate (length list.old) word }
-{
-    let mut i: usize = 0;
-    while i < list.len() {
-        list[i] = word;
-        i += 1;
+impl Fed {
+    // The answer of a call by its search.
+    fn of(found: Progress) -> Fed
+        ensures { result ≡ done_fed found }
+    {
+        let tally = found.tally;
+        Fed {
+            links: tally.links,
+            cuts: tally.cuts,
+            examined: found.examined,
+        }
     }
 }
 
 // The store is made empty, and the start inserted with key 0.
-fn begin_search(
-    places: u32,
-    start: u32,
-    best: &mut [u32],
-    last: &mut [u32],
-    joints: &mut [u32],
-    store: &mut [u32],
-) -> Progress
-    requires { BeginReady places start (result_lists best.old last.old joints.old store.old) }
-    ensures { Begun places start
-        (result_lists best.new last.new joints.new store.new) result }
+fn begin_search(places: u32, start: u32, table: &mut Table) -> Progress
+    requires { BeginReady places start (lists_of table.old) }
+    ensures same { SameLists table.old table.new }
+    ensures begun { Begun places start (lists_of table.new) result }
 {
-    fill(best, NONE);
-    fill(last, NONE);
-    fill(joints, NONE);
+    table.best.fill(NONE);
+    table.last.fill(NONE);
+    table.joints.fill(NONE);
     let n = places as usize;
-    make_empty(store, n);
-    insert(store, n, 0, start, 0);
+    make_empty(table.store, n);
+    insert(table.store, n, 0, start, 0);
     let i = start as usize;
-    best[i] = 0;
-    joints[i] = 0;
+    table.best[i] = 0;
+    table.joints[i] = 0;
     let tally = Tally { links: 0, cuts: 0 };
     Progress {
         visited: 0,
@@ -95,86 +68,36 @@ fn begin_search(
 }
 
 // Places are visited until each that was met is.
-fn search(
-    places: u32,
-    minute: u32,
-    from: &[u32],
-    to: &[u32],
-    loss: &[u32],
-    opens: &[u32],
-    closes: &[u32],
-    best: &mut [u32],
-    last: &mut [u32],
-    joints: &mut [u32],
-    store: &mut [u32],
-    begun: Progress,
-) -> Progress
-    requires { (start : ℕ) × Stands never (map_at places start minute (span_lists from.now to.now loss.now)
-        (windows opens.now closes.now))
-        (result_lists best.old last.old joints.old store.old) begun }
-    ensures { (start : ℕ)
-        → Stands never (map_at places start minute (span_lists from.now to.now loss.now)
-        (windows opens.now closes.now))
-        (result_lists best.old last.old joints.old store.old) begun
-        → Found never (map_at places start minute (span_lists from.now to.now loss.now)
-        (windows opens.now closes.now))
-        (result_lists best.new last.new joints.new store.new) result }
+fn search(map: MapView, table: &mut Table, begun: Progress) -> Progress
+    requires { Stands never (map_from map) (lists_of table.old) begun }
+    ensures same { SameLists table.old table.new }
+    ensures found { Found never (map_from map.entry) (lists_of table.new) result }
 {
     let mut index: Index = [0; 4097];
-    index_spans(places, from, &mut index);
+    index_spans(map.places, map.from, &mut index);
     let mut go = begun;
+    // A `while`, since visits meet further places.
     while go.visited < go.met {
-        go = visit_next(
-            minute, &index, to, loss, opens, closes, best, last, joints, store, go,
-        );
+        go = visit_next(map, &index, table, go);
     }
     go
 }
 
 // The feed table of a map, the links and cuts of the search for it, and the number of spans that leave reached places. No
 // place list is lent, so none is too short.
-pub fn feed(
-    places: u32,
-    start: u32,
-    minute: u32,
-    from: &[u32],
-    to: &[u32],
-    loss: &[u32],
-    opens: &[u32],
-    closes: &[u32],
-    best: &mut [u32],
-    last: &mut [u32],
-    joints: &mut [u32],
-    store: &mut [u32],
-) -> Fed
-    ensures { feed_of result
-        (result_lists best.new last.new joints.new store.new)
-        ≡ feed_result
-        (map_at places start minute (span_lists from.now to.now loss.now)
-        (windows opens.now closes.now))
-        (result_lists best.old last.old joints.old store.old) }
+pub fn feed(map: MapView, table: &mut Table) -> Result<Fed, Refusal>
+    ensures same { SameLists table.old table.new }
+    ensures fed { feed_of result (lists_of table.new) ≡ feed_result (map_from map.entry) (lists_of table.old) }
 {
-    let code = feed_code(
-        places,
-        start,
-        minute,
-        from,
-        to,
-        loss,
-        opens,
-        closes,
-        best.len(),
-        last.len(),
-        joints.len(),
-        places as usize,
-        store.len(),
-    );
-    if code != 0 {
-        return refused(code);
-    }
-    let begun = begin_search(places, start, best, last, joints, store);
-    let found = search(
-        places, minute, from, to, loss, opens, closes, best, last, joints, store, begun,
-    );
-    done(found)
+    let lent = Lengths {
+        best: table.best.len(),
+        last: table.last.len(),
+        joints: table.joints.len(),
+        listed: map.places as usize,
+        store: table.store.len(),
+    };
+    check_feed(map, lent)?;
+    let begun = begin_search(map.places, map.start, table);
+    let found = search(map, table, begun);
+    Ok(Fed::of(found))
 }

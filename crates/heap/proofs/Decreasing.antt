@@ -1,8 +1,7 @@
 -- D on the words of a sound store: what its steps need, and what the words are at the end.
-use Rattle.std.proofs.Common.{◌≡◌, ℕ, suc, ◌+◌, ◌<◌, ◌≤◌, Bool, true, false, cond, ◌&&◌, eqb, ◌≢◌, List, get_or, set, sym, refl, ap, ◌∙◌, arith, eqb-true}
+use Rattle.std.proofs.Common.{◌≡◌, ℕ, suc, ◌+◌, ◌<◌, ◌≤◌, Bool, true, false, cond, ◌&&◌, eqb, ◌≢◌, List, get_or, set, sym, refl, ap, ◌∙◌, arith, eqb-true, Some}
 use borrow.Author.Tests.{eqb-false}
 use Rattle.rules.specs.declared.Call.TheVariants.{DecreaseKey}
-use Rattle.rules.specs.declared.Line.TheVariants.{Yields}
 use Rattle.rules.specs.declared.Field.TheVariants.{Minimum}
 use Rattle.rules.specs.declared.Tally.{Tally}
 use Rattle.rules.specs.Answers.{answer, unless_refused}
@@ -104,7 +103,7 @@ module _ {w : List ℕ} {n i k : ℕ} {tally : Tally} (P : MayMove w n (Decrease
 
       next_formed : WellFormed after
       unfolding answer unless_refused perform InRange
-      next_formed = rw P.allowed.done at (keeps_well_formed t W (Yields (DecreaseKey i k)) tt)
+      next_formed = rw P.allowed.done at (keeps_well_formed t W (Some (DecreaseKey i k)) tt)
 
       pub sized₂ : Sized n w₂
       sized₂ = holds.says.sized
@@ -179,5 +178,5 @@ module _ {w : List ℕ} {n i k : ℕ} {tally : Tally} (P : MayMove w n (Decrease
       unfolding answer unless_refused perform InRange decrease_key
       room_cuts =
           let s : Small (decrease_key i k t).reply =
-          rw P.allowed.done at (answer-small t W (Yields (DecreaseKey i k)) tt) in
+          rw P.allowed.done at (answer-small t W (Some (DecreaseKey i k)) tt) in
           omega (arith, s.moves, cutted.cuts, P.room.cuts)

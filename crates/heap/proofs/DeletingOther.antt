@@ -1,7 +1,6 @@
 -- X of an item that is not the minimum of its heap: it is cut if it has a parent, and leaves the row.
-use Rattle.std.proofs.Common.{◌≡◌, ℕ, suc, ◌+◌, ◌≤◌, Bool, true, false, cond, eqb, ◌≢◌, List, get_or, set, sym, refl, ap, ◌∙◌, arith, ne_eqb}
+use Rattle.std.proofs.Common.{◌≡◌, ℕ, suc, ◌+◌, ◌≤◌, Bool, true, false, cond, eqb, ◌≢◌, List, get_or, set, sym, refl, ap, ◌∙◌, arith, ne_eqb, Some}
 use Rattle.rules.specs.declared.Call.TheVariants.{Delete}
-use Rattle.rules.specs.declared.Line.TheVariants.{Yields}
 use Rattle.rules.specs.declared.Tally.{Tally}
 use Rattle.rules.specs.Answers.{answer, unless_refused}
 use Rattle.rules.specs.Calls.{Outcome, delete, delete_as, done, has_parent, perform, release, remove_root, set_free}
@@ -124,7 +123,7 @@ module _ {w : List ℕ} {n h i : ℕ} {tally : Tally} (P : DeleteOther w n h i t
     -- the forests of the rules after the call
     last_formed : WellFormed last
     unfolding answer unless_refused perform InRange
-    last_formed = rw (← done_as) (rw P.may.allowed.done at (keeps_well_formed t W (Yields (Delete i)) tt))
+    last_formed = rw (← done_as) (rw P.may.allowed.done at (keeps_well_formed t W (Some (Delete i)) tt))
 
     least : minimum t h ≡ minimum last h
     unfolding remove_root set_free release
@@ -161,7 +160,7 @@ module _ {w : List ℕ} {n h i : ℕ} {tally : Tally} (P : DeleteOther w n h i t
     unfolding answer unless_refused perform InRange delete delete_as
     other_room =
         let s : Small (delete i t).reply =
-        rw P.may.allowed.done at (answer-small t W (Yields (Delete i)) tt) in
+        rw P.may.allowed.done at (answer-small t W (Some (Delete i)) tt) in
         let e : (delete i t).reply.cuts ≡ c.cuts =
         rw (ne_eqb (minimum t (heap_number t i)) i no, ← P.heap) in
         omega (arith, s.moves, cutted.cuts, P.may.room.cuts)

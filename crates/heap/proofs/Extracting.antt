@@ -9,7 +9,7 @@ use Rattle.heap.specs.Allowed.{MayMove, Moves}
 use Rattle.heap.proofs.SoundStore.{sound_says}
 
 module _ {w : List ℕ} {n h : ℕ} {tally : Tally} (P : MayMove w n (ExtractMin h) tally) where
-  same_queues : decode n (look n w) ≡ queues_of w
+  pub same_queues : decode n (look n w) ≡ queues_of w
   same_queues = ap (λ k. decode k (look k w)) P.allowed.store.items
 
   pub extract_ready : ExtractReady n w h tally.links

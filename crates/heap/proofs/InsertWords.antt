@@ -1,9 +1,8 @@
 -- The words after an insertion are those of the rules' next forests.
-use Rattle.std.proofs.Common.{◌≡◌, ℕ, suc, ◌<◌, List, sym, refl, ◌∙◌, subst, arith, length-set, get_or-set_same}
+use Rattle.std.proofs.Common.{◌≡◌, ℕ, suc, ◌<◌, List, sym, refl, ◌∙◌, subst, arith, length-set, get_or-set_same, Some}
 use Rattle.rules.specs.declared.Call.TheVariants.{Insert}
 use Rattle.rules.specs.declared.Field.TheVariants.{Count, Minimum}
 use Rattle.store.specs.declared.Owner.TheVariants.{Row}
-use Rattle.rules.specs.declared.Line.TheVariants.{Yields}
 use Rattle.rules.specs.Answers.{answer, unless_refused}
 use Rattle.rules.specs.Calls.{insert, perform}
 use Rattle.rules.specs.Forests.{Forests, count, heap_of, set_heap, set_key, table_size}
@@ -87,7 +86,7 @@ module _ {w : List ℕ} {n h i k : ℕ} (A : Allowed w n (Insert h i k)) where
       -- the keys are of 32 bits, the new one too
       next_formed : k < 4294967296 → WellFormed (insert h i k t)
       unfolding answer unless_refused perform InRange
-      next_formed l = rw A.done at (keeps_well_formed t (formed A.store) (Yields (Insert h i k)) l)
+      next_formed l = rw A.done at (keeps_well_formed t (formed A.store) (Some (Insert h i k)) l)
 
       pub insert_words : {w₃ : List ℕ} → k < 4294967296 → Changes n w₂ (item_counted h i) w₃
           → w₃ ≡ encode (after_call (queues_of w) (Insert h i k))

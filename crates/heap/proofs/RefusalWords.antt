@@ -1,9 +1,12 @@
 -- The tests on words that tell whether a call is refused.
-use Rattle.std.proofs.Common.{◌≡◌, ℕ, zero, suc, ◌<◌, ◌≤◌, Bool, true, false, cond, eqb, ltb, leb, ◌≢◌, List, [], ◌∷◌, sym, refl, ◌∙◌, arith, ltb-false}
+use Rattle.std.proofs.Common.{◌≡◌, ℕ, zero, suc, ◌<◌, ◌≤◌, Bool, true, false, cond, eqb, ltb, leb, ◌≢◌, List, [], ◌∷◌, sym, refl, ◌∙◌, arith, ltb-false, ne_eqb}
 use Rattle.rules.specs.declared.Call.TheVariants.{DecreaseKey, Delete, FindMin}
 use Rattle.rules.specs.declared.Field.TheVariants.{FirstTree, State}
 use Rattle.rules.specs.Answers.{is_empty, refusal}
 use Rattle.rules.specs.Forests.{Forests, heap_of, key_of, mark_of, none, row_of, table_size}
+use Rattle.rules.specs.Refusals.{code}
+use Rattle.rules.proofs.Codes.{some_code}
+use Rattle.rules.specs.declared.Refusal.{Refusal}
 use Rattle.rules.specs.Words.{forests_of, head_or, look, state_of}
 use Rattle.rules.proofs.Refusals.{delete_ok}
 use Rattle.store.proofs.ListMembers.{none_row}
@@ -62,10 +65,13 @@ decrease_refusal t i k = go (leb (table_size t) i) (eqb (heap_of t i) 0) (cond (
     go false true c = refl
     go false false c = refl
 
+pub decrease_refused : (t : Forests) (i k : ℕ) (e : Refusal) → code e ≡ refusal t (Delete i)
+    → code e ≡ refusal t (DecreaseKey i k)
+decrease_refused t i k e p = rw (decrease_refusal t i k, ← p, ne_eqb (code e) 0 (some_code e))
+
 -- the item of a call that X would not be refused on is in a heap
-pub item_allowed : {w : List ℕ} {n i code : ℕ} → Store w n → code ≡ refusal (forests_of w) (Delete i) → code ≡ 0
-    → InHeap w n i
-item_allowed {w} {n} {i} S e z = record { store = S; live = delete_ok (forests_of w) i (sym e ∙ z) }
+pub item_allowed : {w : List ℕ} {n i : ℕ} → Store w n → 0 ≡ refusal (forests_of w) (Delete i) → InHeap w n i
+item_allowed {w} {n} {i} S e = record { store = S; live = delete_ok (forests_of w) i (sym e) }
 
 -- the heap of a call that asks for the minimum is one of the eight
 pub find_heap : {w : List ℕ} {n h : ℕ} → Allowed w n (FindMin h) → h < 8

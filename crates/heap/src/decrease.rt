@@ -10,7 +10,7 @@ ghost use Rattle.heap.specs.Allowed.{MayMove, Moves};
 ghost use Rattle.heap.specs.Moving.{InHeap, CutsIf};
 
 use cut::cut_out;
-use rules::{Field, Tally};
+use rules::{Field, Layout, Tally};
 use store::keys::put_key;
 use store::order::{lesser_of, precedes};
 use store::{NONE, get, put};
@@ -33,7 +33,7 @@ fn cut_if_before(s: &mut [u32], n: usize, h: u32, i: u32) -> u32
     if p == NONE {
         return 0;
     }
-    if !precedes(s, n, h, i, p) {
+    if !precedes(s, Layout::ByItem, n, h, i, p) {
         return 0;
     }
     cut_out(s, n, h, i)
@@ -48,7 +48,7 @@ pub fn decrease_key(s: &mut [u32], n: usize, i: u32, k: u32, tally: Tally) -> Ta
     put_key(s, n, h, i, k);
     let cuts = cut_if_before(s, n, h, i);
     let m = get(s, n, Field::Minimum, h);
-    let least = lesser_of(s, n, h, m, i);
+    let least = lesser_of(s, Layout::ByItem, n, h, m, i);
     put(s, n, Field::Minimum, h, least);
     tally.cut(cuts)
 }

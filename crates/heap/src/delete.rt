@@ -17,11 +17,11 @@ pub fn extract_min(s: &mut [u32], n: usize, h: u32, tally: Tally) -> Tally
     requires { MayMove s.old n (ExtractMin h) tally }
     ensures { Moves (queues_of s.old) (ExtractMin h) tally result s.new }
 {
-    let taken = consolidate::extract_min(s, n, h, tally);
-    taken.tally
+    consolidate::extract_min(s, n, h, tally).tally
 }
 
-// The item i is cut if it has a parent. Answers the number of cuts.
+// The item i is cut if it has a parent. Answers the number of cuts. (What `cut_if_before` tests besides is not passed as
+// a closure: the contract of one function for both would be longer than the two.)
 fn cut_if_child(s: &mut [u32], n: usize, h: u32, i: u32) -> u32
     requires { CascadeReady n s.old h i }
     ensures { CutsIf (λ t. calls.has_parent t i) n s.old h i s.new result }

@@ -8,7 +8,7 @@ ghost use Rattle.store.specs.Says.{Changes};
 ghost use Rattle.heap.specs.Allowed.{Allowed};
 ghost use Rattle.heap.specs.Entered.{entered, item_counted, EnterReady, CountItemReady};
 
-use rules::Field;
+use rules::{Field, Layout};
 use store::keys::put_key;
 use store::order::lesser_of;
 use store::{NONE, Owner, append, get, put};
@@ -31,7 +31,7 @@ fn count_item(s: &mut [u32], n: usize, h: u32, i: u32)
 {
     let m = get(s, n, Field::Minimum, h);
     let c = get(s, n, Field::Count, h);
-    let least = lesser_of(s, n, h, m, i);
+    let least = lesser_of(s, Layout::ByItem, n, h, m, i);
     put(s, n, Field::Count, h, c + 1);
     put(s, n, Field::Minimum, h, least);
 }

@@ -9,13 +9,5 @@ pub mod perform;
 pub mod raise;
 pub mod refusal;
 
-use rules::Tally;
-
-// A call's answer, with the tally after it.
-#[derive(Clone, Copy)]
-pub struct Reply {
-    pub code: u32,
-    pub item: u32,
-    pub key: u32,
-    pub tally: Tally,
-}
+// What a call that is done answers, with the tally after it.
+pub use consolidate::Reply;

@@ -7,7 +7,7 @@ ghost use Rattle.rules.specs.Words.{encode, queues_of, forests_of};
 ghost use Rattle.heap.specs.Allowed.{Store, Allowed};
 
 use super::meld::in_heap;
-use rules::Field;
+use rules::{Field, Layout};
 use store::keys::key_of;
 use store::{get, put};
 
@@ -17,15 +17,12 @@ pub fn carries_over(s: &[u32], n: usize, h: u32, d: u32) -> bool
     requires h_bound { h < 8 }
     ensures { result ≡ some_carried_over h d (forests_of s.now) n }
 {
-    let most = 4294967295 - d;
-    let m = n as u32;
-    let mut i: u32 = 0;
-    while i < m {
+    let most = u32::MAX - d;
+    for i in 0..n as u32 {
         let x = get(s, n, Field::State, i);
-        if in_heap(x, h) & (key_of(s, n, h, i) > most) {
+        if in_heap(x, h) & (key_of(s, Layout::ByItem, n, h, i) > most) {
             return true;
         }
-        i += 1;
     }
     false
 }
@@ -37,12 +34,6 @@ pub fn raise(s: &mut [u32], n: usize, h: u32, d: u32)
 {
     if get(s, n, Field::Count, h) != 0 {
         let amount = get(s, n, Field::Amount, h);
-        put(
-            s,
-            n,
-            Field::Amount,
-            h,
-            std::num::wrapping_add_u32(amount, d),
-        );
+        put(s, n, Field::Amount, h, amount.wrapping_add(d));
     }
 }

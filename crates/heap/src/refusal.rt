@@ -1,107 +1,102 @@
-// Under which code a call is refused, by the order of the table; 0 if it is not.
+// Why a call is refused, by the order of the table.
 ghost use Rattle.std.specs.Prelude.{◌≡◌, ℕ};
 ghost use Rattle.rules.specs.declared.Call.TheVariants.{Insert, ExtractMin, DecreaseKey, Delete, Meld, Raise};
 ghost use Rattle.rules.specs.Answers as answers;
 ghost use Rattle.rules.specs.Forests.{Forests};
+ghost use Rattle.rules.specs.Refusals.{code_of};
 ghost use Rattle.rules.specs.Words.{forests_of};
 ghost use Rattle.heap.specs.Allowed.{Store};
 
 use super::decrease::heap_of;
 use super::raise::carries_over;
-use rules::{Call, Field};
+use rules::{Call, Field, Layout, Refusal};
 use store::keys::key_of;
 use store::{NONE, get};
 
-fn refuse_insert(s: &[u32], n: usize, h: u32, i: u32) -> u32
+fn refuse_insert(s: &[u32], n: usize, h: u32, i: u32) -> Result<(), Refusal>
     requires { Store s.now n }
-    ensures { (k : ℕ) → result ≡ answers.refusal (forests_of s.now) (Insert h i k) }
+    ensures { (k : ℕ) → code_of result ≡ answers.refusal (forests_of s.now) (Insert h i k) }
 {
     if h > 7 {
-        return 7;
+        return Err(Refusal::NoSuchHeap);
     }
     if i as usize >= n {
-        return 8;
+        return Err(Refusal::NoSuchItem);
     }
     if get(s, n, Field::State, i) != 0 {
-        return 9;
+        return Err(Refusal::ItemInHeap);
     }
-    0
+    Ok(())
 }
 
 // M and T.
-fn refuse_minimum(s: &[u32], n: usize, h: u32) -> u32
+fn refuse_minimum(s: &[u32], n: usize, h: u32) -> Result<(), Refusal>
     requires { Store s.now n }
-    ensures { result ≡ answers.refusal (forests_of s.now) (ExtractMin h) }
+    ensures { code_of result ≡ answers.refusal (forests_of s.now) (ExtractMin h) }
 {
     if h > 7 {
-        return 7;
+        return Err(Refusal::NoSuchHeap);
     }
     let first = get(s, n, Field::FirstTree, h);
     if first == NONE {
-        return 12;
+        return Err(Refusal::EmptyHeap);
     }
-    0
+    Ok(())
 }
 
-fn refuse_delete(s: &[u32], n: usize, i: u32) -> u32
+fn refuse_delete(s: &[u32], n: usize, i: u32) -> Result<(), Refusal>
     requires { Store s.now n }
-    ensures { result ≡ answers.refusal (forests_of s.now) (Delete i) }
+    ensures { code_of result ≡ answers.refusal (forests_of s.now) (Delete i) }
 {
     if i as usize >= n {
-        return 8;
+        return Err(Refusal::NoSuchItem);
     }
     if get(s, n, Field::State, i) == 0 {
-        return 10;
+        return Err(Refusal::ItemFree);
     }
-    0
+    Ok(())
 }
 
 // As for X, and then by the key.
-fn refuse_decrease(s: &[u32], n: usize, i: u32, k: u32) -> u32
+fn refuse_decrease(s: &[u32], n: usize, i: u32, k: u32) -> Result<(), Refusal>
     requires { Store s.now n }
-    ensures { result ≡ answers.refusal (forests_of s.now) (DecreaseKey i k) }
+    ensures { code_of result ≡ answers.refusal (forests_of s.now) (DecreaseKey i k) }
 {
-    let code = refuse_delete(s, n, i);
-    if code != 0 {
-        return code;
+    refuse_delete(s, n, i)?;
+    if k > key_of(s, Layout::ByItem, n, heap_of(s, n, i), i) {
+        return Err(Refusal::LargerKey);
     }
-    if k > key_of(s, n, heap_of(s, n, i), i) {
-        return 11;
-    }
-    0
+    Ok(())
 }
 
-fn refuse_meld(a: u32, b: u32) -> u32
-    ensures { (t : Forests) → result ≡ answers.refusal t (Meld a b) }
+fn refuse_meld(a: u32, b: u32) -> Result<(), Refusal>
+    ensures { (t : Forests) → code_of result ≡ answers.refusal t (Meld a b) }
 {
-    if a > 7 {
-        return 7;
-    }
-    if b > 7 {
-        return 7;
+    if a > 7 || b > 7 {
+        return Err(Refusal::NoSuchHeap);
     }
     if a == b {
-        return 13;
+        return Err(Refusal::SameHeap);
     }
-    0
+    Ok(())
 }
 
-fn refuse_raise(s: &[u32], n: usize, h: u32, d: u32) -> u32
+fn refuse_raise(s: &[u32], n: usize, h: u32, d: u32) -> Result<(), Refusal>
     requires { Store s.now n }
-    ensures { result ≡ answers.refusal (forests_of s.now) (Raise h d) }
+    ensures { code_of result ≡ answers.refusal (forests_of s.now) (Raise h d) }
 {
     if h > 7 {
-        return 7;
+        return Err(Refusal::NoSuchHeap);
     }
     if carries_over(s, n, h, d) {
-        return 25;
+        return Err(Refusal::KeyOverflow);
     }
-    0
+    Ok(())
 }
 
-pub fn refusal(s: &[u32], n: usize, call: Call) -> u32
+pub fn refusal(s: &[u32], n: usize, call: Call) -> Result<(), Refusal>
     requires { Store s.now n }
-    ensures { result ≡ answers.refusal (forests_of s.now) call }
+    ensures { code_of result ≡ answers.refusal (forests_of s.now) call }
 {
     match call {
         Call::Insert { heap, item, key: _ } => refuse_insert(s, n, heap, item),

@@ -1,12 +1,31 @@
-// The entries for hosts in C, all but the modem's own run and the turn of a store.
+// The entries for hosts in C, all but the modem's own run and the turn of a store. C passes each list and number by
+// itself, so their parameters stay loose here.
 #![tactic(auto)]
 
 ghost use Rattle.std.specs.Prelude.{◌≡◌};
+ghost use Rattle.rules.specs.Refusals.{code_of};
 ghost use Rattle.sheet.specs.Runs.{fresh_run, kept_run};
 ghost use Rattle.paths.specs.Map.{span_lists, windows, map_at};
 ghost use Rattle.paths.specs.Feed.{result_lists, feed_result, budget_result};
 ghost use Rattle.mapfile.specs.Read.{read_map};
 ghost use Rattle.host.specs.Entries.{RunReturns, sound_number, FeedReturns, BudgetReturns, ReadReturns};
+
+use finder::budget::{FedWithin, feed_within};
+use mapfile::MapLists;
+use relax::Table;
+use rules::{Layout, Refusal};
+use sheet::Ran;
+use spans::MapView;
+
+// The code of a run, 0 if it is done.
+fn code(ran: Result<Ran, Refusal>) -> u32
+    ensures { result ≡ code_of ran }
+{
+    match ran {
+        Ok(_) => 0,
+        Err(refusal) => refusal.code(),
+    }
+}
 
 // A fresh run. Returns the code; the figures are lines and bytes written.
 #[unsafe(no_mangle)]
@@ -20,8 +39,8 @@ pub extern "C" fn fresh_run(
         store.new out.new figures.new }
 {
     let fresh = sheet::run_fresh(store, sheet, out);
-    *figures = [fresh.lines, fresh.bytes];
-    fresh.code as u32
+    *figures = sheet::figures(fresh);
+    code(fresh)
 }
 
 // A kept run: the same, on the store as it is.
@@ -36,19 +55,17 @@ pub extern "C" fn kept_run(
         store.new out.new figures.new }
 {
     let kept = sheet::run_kept(store, sheet, out);
-    *figures = [kept.lines, kept.bytes];
-    kept.code as u32
+    *figures = sheet::figures(kept);
+    code(kept)
 }
 
 // 1 if the words are those of a sound store, else 0.
+#[tactic(auto, unfolding(crate::specs::Entries::sound_number))]
 #[unsafe(no_mangle)]
 pub extern "C" fn store_sound(store: &[u32]) -> u32
     ensures { result ≡ sound_number store.now }
 {
-    if audit::sound(store) {
-        return 1;
-    }
-    0
+    u32::from(audit::sound(store, Layout::ByItem))
 }
 
 // The feed table of a map. Returns the code; the figures are links, cuts and the number of spans examined, which are
@@ -77,11 +94,32 @@ pub extern "C" fn feed_table(
         result (result_lists best.new last.new joints.new store.new)
         figures.new }
 {
-    let fed = finder::feed(
-        places, start, minute, from, to, loss, opens, closes, best, last, joints, store,
-    );
-    *figures = [fed.links, fed.cuts, fed.examined];
-    fed.code
+    let map = MapView {
+        places,
+        start,
+        minute,
+        from,
+        to,
+        loss,
+        opens,
+        closes,
+    };
+    let mut table = Table {
+        best,
+        last,
+        joints,
+        store,
+    };
+    match finder::feed(map, &mut table) {
+        Ok(fed) => {
+            *figures = [fed.links, fed.cuts, fed.examined];
+            0
+        }
+        Err(refusal) => {
+            *figures = [0; 3];
+            refusal.code()
+        }
+    }
 }
 
 // The feed table of a map within a budget, and the places in it by loss. Returns the code; the figures are links, cuts,
@@ -113,13 +151,32 @@ pub extern "C" fn feed_budget(
         result (result_lists best.new last.new joints.new store.new)
         listed.new figures.new }
 {
-    let within = finder::budget::feed_within(
-        places, start, minute, from, to, loss, opens, closes, budget, best, last, joints, listed,
+    let map = MapView {
+        places,
+        start,
+        minute,
+        from,
+        to,
+        loss,
+        opens,
+        closes,
+    };
+    let mut table = Table {
+        best,
+        last,
+        joints,
         store,
-    );
-    let fed = within.fed;
-    *figures = [fed.links, fed.cuts, fed.examined, within.listed];
-    fed.code
+    };
+    match feed_within(map, budget, &mut table, listed) {
+        Ok(FedWithin { fed, listed }) => {
+            *figures = [fed.links, fed.cuts, fed.examined, listed];
+            0
+        }
+        Err(refusal) => {
+            *figures = [0; 4];
+            refusal.code()
+        }
+    }
 }
 
 // Reads a map text into span and window lists. Returns the code; the figures are places, start, minute and number of
@@ -140,7 +197,21 @@ pub extern "C" fn read_map(
         result (span_lists from.new to.new loss.new)
         (windows opens.new closes.new) figures.new }
 {
-    let map = mapfile::read(text, from, to, loss, opens, closes);
-    *figures = [map.places, map.start, map.minute, map.spans];
-    map.code
+    let mut lists = MapLists {
+        from,
+        to,
+        loss,
+        opens,
+        closes,
+    };
+    match mapfile::read(text, &mut lists) {
+        Ok(map) => {
+            *figures = [map.places, map.start, map.minute, map.spans];
+            0
+        }
+        Err(refusal) => {
+            *figures = [0; 4];
+            refusal.code()
+        }
+    }
 }

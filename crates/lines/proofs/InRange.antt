@@ -4,11 +4,11 @@ use mathlib.Core.List.{List, [], ◌∷◌, map}
 use native.Mathlib.Omega.{arith}
 use lib.ListN.{get_or}
 use lib.Dec.{eqb}
-use Rattle.rules.specs.declared.Line.{Line}
-use Rattle.rules.specs.declared.Line.TheVariants.{NoCall}
+use Rattle.rules.specs.Lines.{Line}
+use Rattle.std.specs.Prelude.{None}
 use Rattle.rules.specs.Theorems.{InRange}
 use Rattle.rules.proofs.Answers.{AllInRange}
-use Rattle.text.specs.Fields.{RowFits, field_at, named, numbers_from, row_from}
+use Rattle.text.specs.Fields.{RowFits, field_at, row_from}
 use Rattle.text.specs.Lines.{lines}
 use Rattle.text.specs.Numbers.{largest}
 use Rattle.text.proofs.Cases.{by_cond}
@@ -46,8 +46,8 @@ three_range : (letter x y z : ℕ) → z ≤ largest → InRange (of_three lette
 unfolding InRange of_three
 three_range letter x y z k = by_cond InRange (eqb letter letter_i) (omega arith) tt
 
-call_range : (letter : ℕ) (row : List ℕ) → RowFits row → InRange (call_of letter (named row))
-unfolding call_of named InRange RowFits
+call_range : (letter : ℕ) (row : List ℕ) → RowFits row → InRange (call_of letter row)
+unfolding call_of InRange RowFits
 call_range letter [] r = tt
 call_range letter (x ∷ []) r = one_range letter x
 call_range letter (x ∷ y ∷ []) r = two_range letter x y
@@ -55,7 +55,7 @@ call_range letter (x ∷ y ∷ z ∷ []) r = three_range letter x y z r.1.1.0
 call_range letter (x ∷ y ∷ z ∷ t ∷ row) r = tt
 
 pub line_range : (bytes : List ℕ) → InRange (line_of bytes)
-unfolding line_of numbers_from RowFits
+unfolding line_of RowFits
 line_range bytes =
     call_range (get_or bytes 0 0) (row_from 3 bytes [] (field_at bytes 1))
     (row_in_range 3 bytes [] (field_at bytes 1) tt (field_in_range bytes 1))
@@ -68,7 +68,7 @@ pub lines_range : (sheet : List ℕ) → AllInRange (lines_of sheet)
 unfolding lines_of
 lines_range sheet = all_range (lines sheet)
 
-all_each : (ls : List Line) → AllInRange ls → (i : ℕ) → InRange (get_or ls i NoCall)
+all_each : (ls : List Line) → AllInRange ls → (i : ℕ) → InRange (get_or ls i None)
 unfolding InRange
 all_each [] r i = tt
 all_each (l ∷ ls) r zero = r.0

@@ -1,6 +1,7 @@
 pub mod LinesOf
 pub mod InRange
 pub mod Parsing
+pub mod Letters
 pub mod LineAt
 pub mod LineFound
 pub mod Printed

@@ -9,7 +9,7 @@ use borrow.Author.Tests.{lt-ltb}
 use Rattle.text.specs.Lines.{line_end}
 use Rattle.text.proofs.LineEnd.{line_short}
 use Rattle.lines.specs.declared.calls.Parsed.{Parsed}
-use Rattle.lines.specs.declared.reader.NextLine.TheVariants.{Found}
+use Rattle.std.specs.Prelude.{Some}
 use Rattle.lines.specs.LineAt.{Parses, line_at}
 
 -- a line is no longer than its text
@@ -25,6 +25,6 @@ module _ (sheet : List ℕ) (at : ℕ) (h : at < length sheet) {r : Parsed}
   unfolding line_end
   end_here = rw (P.same_bytes, part_all sheet at)
 
-  pub found_here : Found r.line (at + r.bytes) ≡ line_at sheet at
+  pub found_here : Some (r.line, at + r.bytes) ≡ line_at sheet at
   unfolding line_at
   found_here = rw (lt-ltb at (length sheet) h, end_here, P.same_line, part_all sheet at)

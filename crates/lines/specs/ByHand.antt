@@ -1,7 +1,6 @@
 -- Lines worked by hand: zeros before a number, and lines that yield no call.
-use Rattle.std.specs.Prelude.{ℕ, ◌≡◌, List, [], ◌∷◌, ◌++◌, map, replicate}
+use Rattle.std.specs.Prelude.{ℕ, ◌≡◌, List, [], ◌∷◌, ◌++◌, map, replicate, Some, None}
 use Rattle.rules.specs.declared.Call.TheVariants.{Insert, ExtractMin, Raise}
-use Rattle.rules.specs.declared.Line.TheVariants.{Yields, NoCall}
 use Rattle.text.specs.Fields.{comma}
 use Rattle.text.specs.ByHand.{zero_digits, nine_digits}
 use Rattle.lines.specs.Parse.{letter_i, letter_t, letter_a, line_of}
@@ -24,5 +23,5 @@ no_call_texts =
 pub record WorkedLines : Type 0 where
   pub calls :
       map line_of call_texts
-      ≡ Yields (ExtractMin 7) ∷ Yields (ExtractMin 7) ∷ Yields (Insert 0 12 4294967295) ∷ Yields (Raise 0 5) ∷ []
-  pub others : map line_of no_call_texts ≡ replicate 7 NoCall
+      ≡ Some (ExtractMin 7) ∷ Some (ExtractMin 7) ∷ Some (Insert 0 12 4294967295) ∷ Some (Raise 0 5) ∷ []
+  pub others : map line_of no_call_texts ≡ replicate 7 None

@@ -1,11 +1,8 @@
 -- The call that a line yields: a letter and its numbers, each after a comma (scope paper, Queue rules and Sheet).
-use Rattle.std.specs.Prelude.{ℕ, List, map, cond, get_or, eqb}
+use Rattle.std.specs.Prelude.{ℕ, List, [], ◌∷◌, map, cond, get_or, eqb, Some, None}
 use Rattle.rules.specs.declared.Call.TheVariants.{Insert, FindMin, ExtractMin, DecreaseKey, Delete, Meld, Raise}
-use Rattle.rules.specs.declared.Line.{Line}
-use Rattle.rules.specs.declared.Line.TheVariants.{Yields, NoCall}
-use Rattle.text.specs.declared.Numbers.{Numbers}
-use Rattle.text.specs.declared.Numbers.TheVariants.{One, Two, Three, Other}
-use Rattle.text.specs.Fields.{field_at, numbers_from}
+use Rattle.rules.specs.Lines.{Line}
+use Rattle.text.specs.Fields.{field_at, row_from}
 use Rattle.text.specs.Lines.{lines}
 
 -- the letters of the seven calls, as bytes
@@ -33,28 +30,29 @@ letter_a = 65
 -- M, T and X have one number
 unfoldable pub of_one : ℕ → ℕ → Line
 of_one letter x =
-    cond (eqb letter letter_m) (Yields (FindMin x))
-    (cond (eqb letter letter_t) (Yields (ExtractMin x)) (cond (eqb letter letter_x) (Yields (Delete x)) NoCall))
+    cond (eqb letter letter_m) (Some (FindMin x))
+    (cond (eqb letter letter_t) (Some (ExtractMin x)) (cond (eqb letter letter_x) (Some (Delete x)) None))
 
 -- D, J and A have two
 unfoldable pub of_two : ℕ → ℕ → ℕ → Line
 of_two letter x y =
-    cond (eqb letter letter_d) (Yields (DecreaseKey x y))
-    (cond (eqb letter letter_j) (Yields (Meld x y)) (cond (eqb letter letter_a) (Yields (Raise x y)) NoCall))
+    cond (eqb letter letter_d) (Some (DecreaseKey x y))
+    (cond (eqb letter letter_j) (Some (Meld x y)) (cond (eqb letter letter_a) (Some (Raise x y)) None))
 
 -- I has three
 unfoldable pub of_three : ℕ → ℕ → ℕ → ℕ → Line
-of_three letter x y z = cond (eqb letter letter_i) (Yields (Insert x y z)) NoCall
+of_three letter x y z = cond (eqb letter letter_i) (Some (Insert x y z)) None
 
-unfoldable pub call_of : ℕ → Numbers → Line
-call_of letter (One x) = of_one letter x
-call_of letter (Two x y) = of_two letter x y
-call_of letter (Three x y z) = of_three letter x y z
-call_of letter Other = NoCall
+unfoldable pub call_of : ℕ → List ℕ → Line
+call_of letter [] = None
+call_of letter (x ∷ []) = of_one letter x
+call_of letter (x ∷ y ∷ []) = of_two letter x y
+call_of letter (x ∷ y ∷ z ∷ []) = of_three letter x y z
+call_of letter (x ∷ y ∷ z ∷ t ∷ row) = None
 
--- an empty line has no number either
+-- a letter and up to three numbers; an empty line has no number either
 unfoldable pub line_of : List ℕ → Line
-line_of bytes = call_of (get_or bytes 0 0) (numbers_from bytes (field_at bytes 1))
+line_of bytes = call_of (get_or bytes 0 0) (row_from 3 bytes [] (field_at bytes 1))
 
 -- the calls of a sheet, line by line
 unfoldable pub lines_of : List ℕ → List Line

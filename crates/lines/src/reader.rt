@@ -1,10 +1,12 @@
-// A reader holds a sheet's bytes by reference and the position of the line that comes next. Few functions take one; the
-// work is in `line_at`, on the bytes and the position.
-ghost use Rattle.std.specs.Prelude.{◌≡◌};
+// A reader goes over the lines of a sheet. It holds the sheet's bytes by reference and the position of the line that comes
+// next; the work is in `line_at`, on the bytes and the position.
+ghost use Rattle.std.specs.Prelude.{◌≡◌, drop};
+ghost use Rattle.std.specs.Iterator.{YieldsFirst, item_count};
 ghost use Rattle.lines.specs.LineAt.{line_at};
+ghost use Rattle.lines.specs.Parse.{lines_of};
 
 use super::calls::parse;
-use rules::Line;
+use rules::Call;
 
 #[derive(Clone, Copy)]
 pub struct LineReader<'a> {
@@ -12,41 +14,35 @@ pub struct LineReader<'a> {
     pub at: usize,
 }
 
-// The line at a position: its call and where it ends, or that no line is left.
-#[derive(Clone, Copy)]
-pub enum NextLine {
-    Found(Line, usize),
-    NoMore,
-}
-
-fn line_at(sheet: &[u8], at: usize) -> NextLine
+// The line at a position, if one is left: its call and where it ends.
+fn line_at(sheet: &[u8], at: usize) -> Option<(Option<Call>, usize)>
     ensures { result ≡ line_at sheet.now at }
 {
     if at < sheet.len() {
         let parsed = parse(&sheet[at..]);
-        let line = parsed.line;
-        return NextLine::Found(line, at + parsed.bytes);
+        return Some((parsed.line, at + parsed.bytes));
     }
-    NextLine::NoMore
+    None
 }
 
-// A reader of the lent bytes that stands at a position.
-pub fn reader_at<'a>(sheet: &'a [u8], at: usize) -> LineReader<'a>
-    ensures { (result.sheet ≡ sheet.entry) × (result.at ≡ at) }
+// The lines of a sheet, first to last.
+pub fn lines_in<'a>(sheet: &'a [u8]) -> LineReader<'a>
+    ensures { (result.sheet ≡ sheet.entry) × (result.at ≡ 0) }
 {
-    LineReader { sheet, at }
+    LineReader { sheet, at: 0 }
 }
 
-// The line that a reader stands at.
-pub fn next_line<'a>(reader: LineReader<'a>) -> NextLine
-    ensures { result ≡ line_at reader.entry.sheet.now reader.entry.at }
-{
-    line_at(reader.sheet, reader.at)
-}
+// A line that yields no call is an item too.
+impl<'a> Iterator for LineReader<'a> {
+    type Item = Option<Call>;
 
-// With plain parameters, for the loop over the lines.
-pub fn read_line(sheet: &[u8], at: usize) -> NextLine
-    ensures { result ≡ line_at sheet.now at }
-{
-    next_line(reader_at(sheet, at))
+    ghost next_gives = { YieldsFirst (λ r. lines_of (drop r.at r.sheet.now)) };
+
+    ghost remaining = { item_count (λ r. lines_of (drop r.at r.sheet.now)) };
+
+    fn next(&mut self) -> Option<Option<Call>> {
+        let (line, end) = line_at(self.sheet, self.at)?;
+        self.at = end + 1;
+        Some(line)
+    }
 }

@@ -1,11 +1,11 @@
--- A tree leaves the places: what they stand for then, and how they are written one after the other.
-use Prim.Native.Nat.{ℕ, zero, suc, ◌≤◌, ◌<◌}
-use mathlib.Core.Path.{◌≡◌, refl, ap, ap₂}
-use mathlib.Core.List.{List, [], ◌∷◌}
+-- A tree leaves the places: what they stand for then.
+use Prim.Native.Nat.{ℕ, zero, suc, ◌<◌}
+use mathlib.Core.Path.{◌≡◌, refl, ap₂}
+use mathlib.Core.List.{List, [], ◌∷◌, map}
 use mathlib.Core.Bool.{Bool, true, false, cond}
 use native.Mathlib.Omega.{arith}
 use lib.Dec.{eqb, ltb}
-use lib.ListN.{length, get_or, set}
+use lib.ListN.{length, get_or}
 use borrow.Author.Tests.{eqb-true, eq-eqb, ne_eqb, ltb-true, ltb-false}
 use Rattle.rules.specs.Forests.{none}
 use Rattle.linking_places.specs.Laws.{LeavesOne}
@@ -15,20 +15,6 @@ use Rattle.linking_places.proofs.Places.{tree_item, tree_none}
 -- what a place holds when g has left
 abbrev pub freed : ℕ → ℕ → ℕ
 freed g p = cond (eqb p g) free_place p
-
--- the places when those below i are written
-unfoldable pub left_to : ℕ → ℕ → List ℕ → List ℕ
-left_to g zero ps = ps
-left_to g (suc i) [] = []
-left_to g (suc i) (p ∷ ps) = freed g p ∷ left_to g i ps
-
-pub next_left : (g i : ℕ) (ps : List ℕ)
-    → set (left_to g i ps) i (freed g (get_or (left_to g i ps) i 0)) ≡ left_to g (suc i) ps
-unfolding left_to
-next_left g zero [] = refl
-next_left g (suc i) [] = refl
-next_left g zero (p ∷ ps) = refl
-next_left g (suc i) (p ∷ ps) = ap (λ l. freed g p ∷ l) (next_left g i ps)
 
 -- one place: it stands for what it stood for, unless that was x
 left_tree : (x p : ℕ) → x < free_place → tree_of (freed x p) ≡ cond (eqb (tree_of p) x) none (tree_of p)
@@ -45,13 +31,10 @@ left_tree x p k = go (eqb p x) refl (ltb p free_place) refl
         rw (z, ne_eqb none x (λ q. omega (arith, q, k))) refl
 
 -- all of them
-pub all_left : (x i : ℕ) (ps : List ℕ) → x < free_place → length ps ≤ i
-    → trees_of (left_to x i ps) ≡ without x (trees_of ps)
-unfolding left_to trees_of without
-all_left x zero [] k m = refl
-all_left x zero (p ∷ ps) k m = absurd (omega (arith, m))
-all_left x (suc i) [] k m = refl
-all_left x (suc i) (p ∷ ps) k m = ap₂ (λ q l. q ∷ l) (left_tree x p k) (all_left x i ps k (omega (arith, m)))
+pub all_left : (x : ℕ) (ps : List ℕ) → x < free_place → trees_of (map (freed x) ps) ≡ without x (trees_of ps)
+unfolding trees_of without
+all_left x [] k = refl
+all_left x (p ∷ ps) k = ap₂ (λ q l. q ∷ l) (left_tree x p k) (all_left x ps k)
 
 -- no place has x
 none_left : (ps : List ℕ) (x : ℕ) → ((i : ℕ) → i < length ps → get_or ps i 0 ≡ x → ⊥) → without x ps ≡ ps

@@ -3,3 +3,4 @@ pub mod Places
 pub mod Laws
 pub mod Taken
 pub mod Left
+pub mod Made

@@ -1,42 +1,22 @@
--- The elements of a list are written one after the other: a new one at index r, the old one elsewhere.
-use Prim.Native.Nat.{ℕ, ◌+◌, ◌≤◌, ◌<◌}
+-- A list that has a new element at index r and the old ones elsewhere.
+use Prim.Native.Nat.{ℕ, ◌<◌}
 use mathlib.Core.Path.{◌≡◌, refl, sym, ◌∙◌}
 use mathlib.Core.List.{List}
 use mathlib.Core.Bool.{Bool, true, false, cond}
 use native.Mathlib.Omega.{arith}
-use lib.Dec.{eqb, ltb}
-use lib.ListN.{get_or, set}
-use lib.Seq.{set-get_or}
-use borrow.Author.Tests.{eqb-true, eqb-false, le-ltb, lt-ltb, ltb-true, ltb-false}
+use lib.Dec.{eqb}
+use lib.ListN.{length, get_or, set}
+use lib.Seq.{get_or-set_other}
+use borrow.Author.Tests.{eqb-true, eqb-false}
+use Rattle.std.proofs.lemmas.Grind.{get_or-set_at, same_number_lists}
+use Rattle.std.proofs.lemmas.List.{length-set}
 
-module _ (l : List ℕ) (r p : ℕ) where
-  -- the list when those below i are written
-  unfoldable pub written : ℕ → List ℕ
-  written i = cond (ltb r i) (set l r p) l
-
-  -- index r is still to come
-  unset : (i : ℕ) → i ≤ r → written i ≡ l
-  unfolding written
-  unset i k = rw (le-ltb r i k)
-
-  pub is_set : (i : ℕ) → r < i → written i ≡ set l r p
-  unfolding written
-  is_set i k = rw (lt-ltb r i k)
-
-  pub none_written : written 0 ≡ l
-  none_written = unset 0 (omega arith)
-
-  pub next_written : (i : ℕ) → set (written i) i (cond (eqb i r) p (get_or (written i) i 0)) ≡ written (i + 1)
-  next_written i = go (eqb i r) refl (ltb r i) refl
-    where
-      go : (a : Bool) → eqb i r ≡ a → (b : Bool) → ltb r i ≡ b
-          → set (written i) i (cond a p (get_or (written i) i 0)) ≡ written (i + 1)
-      go true e b f =
-          let z = eqb-true i r e in
-          rw (unset i (omega (arith, z)), is_set (i + 1) (omega (arith, z)), z)
-      go false e true f =
-          let k = ltb-true r i f in
-          set-get_or (written i) i 0 ∙ is_set i k ∙ sym (is_set (i + 1) (omega (arith, k)))
-      go false e false f =
-          let k : i < r = omega (arith, ltb-false r i f, eqb-false i r e) in
-          set-get_or (written i) i 0 ∙ unset i (omega (arith, k)) ∙ sym (unset (i + 1) (omega (arith, k)))
+pub is_set : (l m : List ℕ) (r p : ℕ) → length m ≡ length l
+    → ((k : ℕ) → k < length m → get_or m k 0 ≡ cond (eqb k r) p (get_or l k 0)) → m ≡ set l r p
+is_set l m r p e h =
+    same_number_lists m (set l r p) (e ∙ sym (length-set l r p))
+    (λ k i. h k i ∙ go k (omega (arith, i, e)) (eqb k r) refl)
+  where
+    go : (k : ℕ) → k < length l → (b : Bool) → eqb k r ≡ b → cond b p (get_or l k 0) ≡ get_or (set l r p) k 0
+    go k i true q = let z = eqb-true k r q in sym (get_or-set_at l r k p 0 z (omega (arith, z, i)))
+    go k i false q = sym (get_or-set_other l r k p 0 (eqb-false k r q))

@@ -4,10 +4,11 @@ use mathlib.Core.Path.{◌≡◌, refl, ap, ◌∙◌}
 use mathlib.Core.Bool.{true, false}
 use mathlib.Core.List.{List}
 use native.Mathlib.Omega.{arith}
+use Rattle.std.proofs.Common.{Ok, Err}
 use lib.ListN.{length, take, drop}
 use Rattle.text.specs.Lines.{lines, line_end}
 use Rattle.text.proofs.Lines.{lines_end}
-use Rattle.mapfile.specs.declared.Spans.TheVariants.{Count, Malformed}
+use Rattle.rules.specs.declared.Refusal.TheVariants.{MalformedMap}
 use Rattle.mapfile.specs.Lines.{has_numbers, all_spans, count_of}
 use Rattle.mapfile.proofs.LineAt.{line_within, at_line}
 
@@ -20,7 +21,7 @@ pub none-counted : (text : List ℕ) (first : ℕ) → Counting text first first
 none-counted text first = record { spans = refl; count = omega arith; low = omega arith }
 
 module _ {text : List ℕ} {first at n : ℕ} (C : Counting text first at n) where
-  pub all_counted : length text ≤ at → Count n ≡ count_of (lines (drop first text))
+  pub all_counted : length text ≤ at → Ok n ≡ count_of (lines (drop first text))
   unfolding count_of all_spans
   all_counted h =
       let e = lines_end text at h in
@@ -40,6 +41,6 @@ module _ {text : List ℕ} {first at n : ℕ} (C : Counting text first at n) whe
         }
 
     pub bad_line : false ≡ has_numbers 5 (take (end - at) (drop at text))
-        → Malformed ≡ count_of (lines (drop first text))
+        → Err MalformedMap ≡ count_of (lines (drop first text))
     unfolding count_of all_spans
     bad_line t = rw (C.spans, at_line text at end q h, ← t)

@@ -1,19 +1,22 @@
 -- The loop that stores number i of each span: n are stored, and it stands at a line's beginning.
 use Prim.Native.Nat.{ℕ, ◌+◌, ◌-◌, ◌<◌, ◌≤◌}
 use mathlib.Core.Path.{◌≡◌, refl, sym, ap, ◌∙◌}
-use mathlib.Core.List.{List}
+use mathlib.Core.List.{List, [], ◌∷◌}
 use native.Mathlib.Omega.{arith}
 use native.Mathlib.Numerals.{add-one}
 use lib.ListN.{length, get_or, take, drop, set, length-set}
 use lib.Seq.{sets}
-use Rattle.text.specs.declared.NumberRow.{NumberRow}
-use Rattle.text.specs.Fields.{RowRead}
 use Rattle.text.specs.Lines.{lines, line_end}
+use Rattle.text.proofs.ReadingRow.{all_zeros}
 use Rattle.text.proofs.Lines.{lines_at, lines_end}
 use Rattle.paths.specs.Map.{span_lists, windows}
 use Rattle.mapfile.specs.Lines.{row_of, column}
 use Rattle.mapfile.specs.Read.{with_spans, with_windows}
 use Rattle.mapfile.proofs.LineAt.{at_line}
+
+-- five places with no number
+pub no_numbers : (row : List ℕ) → row ≡ [] → (i : ℕ) → get_or (0 ∷ 0 ∷ 0 ∷ 0 ∷ 0 ∷ []) i 0 ≡ get_or row i 0
+no_numbers row e i = rw e (all_zeros 5 i)
 
 pub record Stored (i : ℕ) (text : List ℕ) (first : ℕ) (l₀ l : List ℕ) (at n : ℕ) : Type 0 where
   pub whole : sets l₀ 0 (column i (lines (drop first text))) ≡ sets l n (column i (lines (drop at text)))
@@ -33,14 +36,14 @@ module _ {i : ℕ} {text : List ℕ} {first : ℕ} {l₀ l : List ℕ} {at n : �
   place_in h = omega (arith, S.room, ap length (lines_at text at h))
 
   -- the line that ends at `end`
-  pub one_stored : (end : ℕ) → end ≡ line_end text at → at < length text → {r : NumberRow}
-      → RowRead (row_of (take (end - at) (drop at text))) r
-      → Stored i text first l₀ (set l n (get_or r.numbers i 0)) (end + 1) (n + 1)
+  pub one_stored : (end : ℕ) → end ≡ line_end text at → at < length text → (numbers : List ℕ)
+      → ((k : ℕ) → get_or numbers k 0 ≡ get_or (row_of (take (end - at) (drop at text))) k 0)
+      → Stored i text first l₀ (set l n (get_or numbers i 0)) (end + 1) (n + 1)
   unfolding column
-  one_stored end q h R =
+  one_stored end q h numbers R =
       let e = at_line text at end q h in
       record {
-        whole = S.whole ∙ rw (e, add-one n, ← R.each i);
+        whole = S.whole ∙ rw (e, add-one n, ← R i);
         room = rw length-set (omega (arith, S.room, ap length e));
         same = rw length-set S.same;
       }

@@ -5,14 +5,17 @@ use mathlib.Core.Logic.{◌≢◌}
 use mathlib.Core.Bool.{Bool, true, false, cond, ◌||◌}
 use mathlib.Core.List.{List, [], ◌∷◌}
 use native.Mathlib.Omega.{arith}
+use Rattle.std.proofs.Common.{Ok, Err}
 use lib.ListN.{length, get_or, take, drop}
 use lib.Dec.{ltb}
 use borrow.Author.Tests.{ne_eqb, lt-ltb, le-ltb}
 use Rattle.text.specs.Lines.{lines, line_end, line_length}
 use Rattle.text.specs.Fields.{RowRead}
+use Rattle.text.specs.Numbers.{Number}
 use Rattle.text.specs.declared.NumberRow.{NumberRow}
-use Rattle.mapfile.specs.declared.MapRead.{MapRead}
-use Rattle.mapfile.specs.declared.Spans.TheVariants.{Count, Malformed}
+use Rattle.rules.specs.declared.Refusal.{Refusal}
+use Rattle.rules.specs.declared.Refusal.TheVariants.{MalformedMap}
+use Rattle.rules.specs.Refusals.{code}
 use Rattle.paths.specs.Map.{SpanLists, Windows}
 use Rattle.mapfile.specs.Lines.{row_of, has_numbers, all_spans, count_of}
 use Rattle.mapfile.specs.Read.{
@@ -22,7 +25,7 @@ use Rattle.mapfile.specs.Read.{
   run_out,
   with_spans,
   with_windows,
-  refused_answer,
+  answer_of,
   refused_reading,
   read_answer,
   read_map,
@@ -55,10 +58,10 @@ module _ (text : List ℕ) (end : ℕ) (q : end ≡ line_end text 0) where
 -- ---- a refusal
 
 -- A refusal leaves the lists as they are.
-pub refuses : {w : Reading} {r : MapRead} {lent : SpanLists} {lent_windows : Windows} (code : ℕ)
-    → w ≡ refused_reading code lent lent_windows → r ≡ refused_answer code → Reads w r lent lent_windows
-unfolding refused_reading
-refuses code e q = rw e (record { answer_is = q; left_is = refl; windows_are = refl })
+pub refuses : {w : Reading} (e : Refusal) {lent : SpanLists} {lent_windows : Windows}
+    → w ≡ refused_reading (code e) lent lent_windows → Reads w (Err e) lent lent_windows
+unfolding refused_reading answer_of
+refuses e q = rw q (record { answer_is = refl; left_is = refl; windows_are = refl })
 
 -- ---- the first line
 
@@ -79,8 +82,13 @@ module _ (text : List ℕ) (lent : SpanLists) (lent_windows : Windows) where
   unfolding read_map
   too_long h = rw (lt-ltb 60000 (length text) h)
 
-  pub bad_head : (end : ℕ) → end ≡ line_end text 0 → {r : NumberRow}
-      → RowRead (row_of (take (end - 0) (drop 0 text))) r → r.count ≢ 3
+  pub no_head : (end : ℕ) → end ≡ line_end text 0 → row_of (take (end - 0) (drop 0 text)) ≡ []
+      → read_map text lent lent_windows ≡ refused_reading 21 lent lent_windows
+  unfolding read_map is_map has_numbers
+  no_head end q e = rw (first_line_lem text end q, e, or_true (ltb 60000 (length text)))
+
+  pub bad_head : (end : ℕ) → end ≡ line_end text 0 → {first : Number} {r : NumberRow 5}
+      → RowRead (take (end - 0) (drop 0 text)) first (row_of (take (end - 0) (drop 0 text))) r → r.count ≢ 3
       → read_map text lent lent_windows ≡ refused_reading 21 lent lent_windows
   unfolding read_map is_map has_numbers
   bad_head end q R h =
@@ -90,8 +98,8 @@ module _ (text : List ℕ) (lent : SpanLists) (lent_windows : Windows) where
         or_true (ltb 60000 (length text)),
       )
 
-pub good_head : (text : List ℕ) → length text ≤ 60000 → (end : ℕ) → end ≡ line_end text 0 → {r : NumberRow}
-    → RowRead (row_of (take (end - 0) (drop 0 text))) r → r.count ≡ 3
+pub good_head : (text : List ℕ) → length text ≤ 60000 → (end : ℕ) → end ≡ line_end text 0 → {f : Number} {r : NumberRow 5}
+    → RowRead (take (end - 0) (drop 0 text)) f (row_of (take (end - 0) (drop 0 text))) r → r.count ≡ 3
     → HeadRead text (end + 1) (get_or r.numbers 0 0) (get_or r.numbers 1 0) (get_or r.numbers 2 0)
 good_head text short end q R h =
     record {
@@ -104,32 +112,35 @@ good_head text short end q R h =
 -- ---- the spans
 
 -- What a count of spans says.
-counted : (ls : List (List ℕ)) (n : ℕ) → Count n ≡ count_of ls → (all_spans ls ≡ true) × (length ls ≡ n)
+counted : (ls : List (List ℕ)) (n : ℕ) → Ok n ≡ count_of ls → (all_spans ls ≡ true) × (length ls ≡ n)
 unfolding count_of
 counted ls n e = go (all_spans ls) e
   where
-    go : (t : Bool) → Count n ≡ cond t (Count (length ls)) Malformed → (t ≡ true) × (length ls ≡ n)
+    go : (t : Bool) → Ok n ≡ cond t (Ok (length ls)) (Err MalformedMap) → (t ≡ true) × (length ls ≡ n)
     go true e = (refl, cc)
     go false e = let z : ◌≡◌ {A = ℕ} 0 1 = cc in absurd (omega arith)
 
-uncounted : (ls : List (List ℕ)) → Malformed ≡ count_of ls → all_spans ls ≡ false
+uncounted : (ls : List (List ℕ)) (e : Refusal) → Err e ≡ count_of ls → (all_spans ls ≡ false) × (e ≡ MalformedMap)
 unfolding count_of
-uncounted ls e = go (all_spans ls) e
+uncounted ls e q = go (all_spans ls) q
   where
-    go : (t : Bool) → Malformed ≡ cond t (Count (length ls)) Malformed → t ≡ false
-    go true e = let z : ◌≡◌ {A = ℕ} 0 1 = cc in absurd (omega arith)
-    go false e = refl
+    go : (t : Bool) → Err e ≡ cond t (Ok (length ls)) (Err MalformedMap) → (t ≡ false) × (e ≡ MalformedMap)
+    go true q = let z : ◌≡◌ {A = ℕ} 0 1 = cc in absurd (omega arith)
+    go false q = (refl, cc)
 
 module _ {text : List ℕ} {first places start minute : ℕ} (H : HeadRead text first places start minute)
     (lent : SpanLists) (lent_windows : Windows) where
   abbrev ls : List (List ℕ)
   ls = lines (drop first text)
 
-  pub bad_spans : Malformed ≡ count_of ls → read_map text lent lent_windows ≡ refused_reading 21 lent lent_windows
-  unfolding read_map is_map has_numbers
-  bad_spans e = rw (le-ltb 60000 (length text) H.short, H.head, H.rest, uncounted ls e)
+  pub bad_spans : (e : Refusal) → Err e ≡ count_of ls
+      → read_map text lent lent_windows ≡ refused_reading (code e) lent lent_windows
+  unfolding read_map is_map has_numbers code
+  bad_spans e q =
+      let u = uncounted ls e q in
+      rw (le-ltb 60000 (length text) H.short, H.head, H.rest, u.0, u.1)
 
-  module _ (n : ℕ) (e : Count n ≡ count_of ls) where
+  module _ (n : ℕ) (e : Ok n ≡ count_of ls) where
     filled : Reading
     filled =
         record {
@@ -157,7 +168,7 @@ module _ {text : List ℕ} {first places start minute : ℕ} (H : HeadRead text 
         pub all_filled : (left : SpanLists) (left_windows : Windows) → left ≡ with_spans ls lent
             → left_windows ≡ with_windows ls lent_windows
             → Reads (read_map text lent lent_windows)
-            (record { code = 0; places = places; start = start; minute = minute; spans = n }) left left_windows
-        unfolding filled
+            (Ok (record { places = places; start = start; minute = minute; spans = n })) left left_windows
+        unfolding filled answer_of
         all_filled left left_windows F G =
             rw (past_21, ← out, f) (record { answer_is = refl; left_is = F; windows_are = G })

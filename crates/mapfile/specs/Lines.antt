@@ -1,9 +1,9 @@
 -- The lines of a map text: `places,start,minute`, then a line `from,to,loss,open,close` for each span.
-use Rattle.std.specs.Prelude.{ℕ, List, [], ◌∷◌, map, Bool, true, cond, ◌&&◌, length, get_or, eqb}
+use Rattle.std.specs.Prelude.{ℕ, Result, Ok, Err, List, [], ◌∷◌, map, Bool, true, cond, ◌&&◌, length, get_or, eqb}
 use Rattle.text.specs.Numbers.{number_at}
 use Rattle.text.specs.Fields.{row_from}
-use Rattle.mapfile.specs.declared.Spans.{Spans}
-use Rattle.mapfile.specs.declared.Spans.TheVariants.{Count, Malformed}
+use Rattle.rules.specs.declared.Refusal.{Refusal}
+use Rattle.rules.specs.declared.Refusal.TheVariants.{MalformedMap}
 
 -- the numbers of a line: one to five, or none if it is no such line
 unfoldable pub row_of : List ℕ → List ℕ
@@ -18,9 +18,9 @@ unfoldable pub all_spans : List (List ℕ) → Bool
 all_spans [] = true
 all_spans (l ∷ ls) = has_numbers 5 l && all_spans ls
 
--- how many spans there are, if each line is one
-unfoldable pub count_of : List (List ℕ) → Spans
-count_of ls = cond (all_spans ls) (Count (length ls)) Malformed
+-- how many spans there are, if each line is one; 21 if not
+unfoldable pub count_of : List (List ℕ) → Result ℕ Refusal
+count_of ls = cond (all_spans ls) (Ok (length ls)) (Err MalformedMap)
 
 -- number i of each span, counted from 0
 unfoldable pub column : ℕ → List (List ℕ) → List ℕ

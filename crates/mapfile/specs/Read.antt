@@ -1,6 +1,8 @@
 -- The whole result of reading a map text on any input: what it answers, and each word that it leaves.
-use Rattle.std.specs.Prelude.{ℕ, ◌≤◌, ◌≡◌, List, [], ◌∷◌, Bool, cond, not, ◌&&◌, ◌||◌, length, get_or, drop, eqb, ltb}
+use Rattle.std.specs.Prelude.{ℕ, Result, Ok, Err, ◌≤◌, ◌≡◌, List, [], ◌∷◌, Bool, cond, not, ◌&&◌, ◌||◌, length, get_or, drop, eqb, ltb}
 use Rattle.std.proofs.lemmas.List.Edits.{sets}
+use Rattle.rules.specs.declared.Refusal.{Refusal}
+use Rattle.rules.specs.Refusals.{code}
 use Rattle.text.specs.Lines.{lines}
 use Rattle.paths.specs.Map.{SpanLists, span_lists, Windows, windows}
 use Rattle.mapfile.specs.declared.MapRead.{MapRead}
@@ -34,14 +36,22 @@ with_spans ls l =
 unfoldable pub with_windows : List (List ℕ) → Windows → Windows
 with_windows ls w = windows (sets w.opens 0 (column 3 ls)) (sets w.closes 0 (column 4 ls))
 
+-- The answer: a code, the first line's places, start and minute, and the number of spans.
+pub record MapAnswer : Type 0 where
+  pub code : ℕ
+  pub places : ℕ
+  pub start : ℕ
+  pub minute : ℕ
+  pub spans : ℕ
+
 -- the answer, and the lent lists as they are left
 pub record Reading : Type 0 where
-  pub answer : MapRead
+  pub answer : MapAnswer
   pub left : SpanLists
   pub left_windows : Windows
 
 -- A refusal gives its code and four zeros, and changes nothing.
-unfoldable pub refused_answer : ℕ → MapRead
+unfoldable pub refused_answer : ℕ → MapAnswer
 refused_answer code = record { code = code; places = 0; start = 0; minute = 0; spans = 0 }
 
 unfoldable pub refused_reading : ℕ → SpanLists → Windows → Reading
@@ -49,7 +59,7 @@ refused_reading code lent lent_windows =
     record { answer = refused_answer code; left = lent; left_windows = lent_windows }
 
 -- the answer by the numbers of the first line and the number of spans
-unfoldable pub read_answer : List ℕ → ℕ → MapRead
+unfoldable pub read_answer : List ℕ → ℕ → MapAnswer
 read_answer head n =
     record { code = 0; places = get_or head 0 0; start = get_or head 1 0; minute = get_or head 2 0; spans = n }
 
@@ -65,9 +75,14 @@ read_map text lent lent_windows =
       left_windows = with_windows ls lent_windows;
     }))
 
+-- what the code answers, as numbers
+unfoldable pub answer_of : Result MapRead Refusal → MapAnswer
+answer_of (Ok r) = record { code = 0; places = r.places; start = r.start; minute = r.minute; spans = r.spans }
+answer_of (Err e) = refused_answer (code e)
+
 -- an answer and five lists are what a reading says
-pub record Reads (w : Reading) (r : MapRead) (left : SpanLists) (left_windows : Windows) : Type 0 where
-  pub answer_is : r ≡ w.answer
+pub record Reads (w : Reading) (r : Result MapRead Refusal) (left : SpanLists) (left_windows : Windows) : Type 0 where
+  pub answer_is : answer_of r ≡ w.answer
   pub left_is : left ≡ w.left
   pub windows_are : left_windows ≡ w.left_windows
 

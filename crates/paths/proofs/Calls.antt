@@ -10,7 +10,7 @@ use lib.ListN.{length, get_or, set}
 use borrow.Author.Tests.{ne_eqb, le-ltb, lt-leb}
 use Rattle.rules.specs.declared.Call.{Call}
 use Rattle.rules.specs.declared.Call.TheVariants.{Insert, FindMin, ExtractMin, DecreaseKey}
-use Rattle.rules.specs.declared.Line.TheVariants.{Yields}
+use Rattle.std.specs.Prelude.{Some}
 use Rattle.rules.specs.Forests.{Forests, row_of, key_of, heap_of}
 use Rattle.rules.specs.Order.{precedes, least_in, minimum}
 use Rattle.rules.specs.Calls.{Outcome, insert, extract, decrease_key, perform}
@@ -30,7 +30,7 @@ pub record Does (o : Outcome) (item key : ℕ) (heaps keys : List ℕ) : Type 0 
   pub heap_is : o.next.heap ≡ heaps
   pub key_is : o.next.key ≡ keys
 
-performs : (s : Forests) (c : Call) → refusal s c ≡ 0 → answer s (Yields c) ≡ perform s c
+performs : (s : Forests) (c : Call) → refusal s c ≡ 0 → answer s (Some c) ≡ perform s c
 unfolding answer unless_refused
 performs s c e = ap (λ r. unless_refused r s c) e
 
@@ -43,7 +43,7 @@ module _ (s : Forests) (hs ks : List ℕ) (eh : s.heap ≡ hs) (ek : s.key ≡ k
   key_at x = ap (λ l. get_or l x 0) ek
 
   pub insert_does : (i k : ℕ) → i < length hs → get_or hs i 0 ≡ 0
-      → Does (answer s (Yields (Insert 0 i k))) i k (set hs i 1) (set ks i k)
+      → Does (answer s (Some (Insert 0 i k))) i k (set hs i 1) (set ks i k)
   unfolding refusal perform insert
   insert_does i k l z =
       rw (performs s (Insert 0 i k) ok)
@@ -59,7 +59,7 @@ module _ (s : Forests) (hs ks : List ℕ) (eh : s.heap ≡ hs) (ek : s.key ≡ k
       ok = rw (lt-leb (length s.heap) i (rw eh l), heap_at_lem i, z)
 
   pub decrease_does : (i k : ℕ) → get_or hs i 0 ≢ 0 → k ≤ get_or ks i 0
-      → Does (answer s (Yields (DecreaseKey i k))) i k hs (set ks i k)
+      → Does (answer s (Some (DecreaseKey i k))) i k hs (set ks i k)
   unfolding refusal perform decrease_key
   decrease_does i k w l =
       rw (performs s (DecreaseKey i k) ok)
@@ -108,7 +108,7 @@ module _ (s : Forests) (hs ks : List ℕ) (eh : s.heap ≡ hs) (ek : s.key ≡ k
         some [] e = absurd (omega (arith, inside))
         some (x ∷ xs) e = refl
 
-    pub extract_does : Does (answer s (Yields (ExtractMin 0))) u (get_or ks u 0) (set hs u 0) (set ks u 0)
+    pub extract_does : Does (answer s (Some (ExtractMin 0))) u (get_or ks u 0) (set hs u 0) (set ks u 0)
     unfolding refusal perform extract
     extract_does =
         rw (performs s (ExtractMin 0) find-allowed, minimum_is)

@@ -10,7 +10,7 @@ use lib.Dec.{eqb}
 use borrow.Author.Tests.{eqb-true}
 use Rattle.rules.specs.declared.Call.{Call}
 use Rattle.rules.specs.declared.Call.TheVariants.{Insert, ExtractMin, DecreaseKey}
-use Rattle.rules.specs.declared.Line.TheVariants.{Yields}
+use Rattle.std.specs.Prelude.{Some}
 use Rattle.rules.specs.Lists.{indicator, sum_by}
 use Rattle.rules.specs.Forests.{Forests, none, empty, count}
 use Rattle.rules.specs.Answers.{refusal}
@@ -41,7 +41,7 @@ use Rattle.paths.proofs.Served.{ServedOf, served, update_served}
 use Rattle.paths.proofs.Log.{allowed_snoc}
 use Rattle.paths.proofs.RankSums.{ranks, ranks_mono, ranks_more}
 
-allowance_le : (s : Forests) (c : Call) → allowance s (Yields c) ≤ price s c
+allowance_le : (s : Forests) (c : Call) → allowance s (Some c) ≤ price s c
 unfolding allowance if_done
 allowance_le s c = go (eqb (refusal s c) 0)
   where
@@ -103,7 +103,7 @@ module _ (stop : Stop) (m : Map) (A : Accepted m) where
   call_costs : (u d hu k r : ℕ) (s : Search) → TryingOf m u d hu k r s → IsSpan m k → from_of m k ≡ u → (v : Verdict)
       → Case s (to_of m k) (d + loss_of m k) (suc hu) k v → Costs m s →
       let t : Search = update v (to_of m k) (d + loss_of m k) (suc hu) k (examine s) in
-      (c : Call) (more : ℕ) → t.calls ≡ s.calls ++ (Yields c ∷ [])
+      (c : Call) (more : ℕ) → t.calls ≡ s.calls ++ (Some c ∷ [])
       → t.best ≡ set s.best (to_of m k) (d + loss_of m k)
       → t.examined ≡ suc s.examined → unsettled t.queue.waits t.best ≡ r
       → is_none (best_at s (to_of m k)) ≡ more → price (forests_after m s) c + 3 * more ≤ 4 → Costs m t
@@ -128,7 +128,7 @@ module _ (stop : Stop) (m : Map) (A : Accepted m) where
             ));
         taken_is = omega (arith, C.taken_is, left, T.left);
         pays =
-            rw (ec, ex, allowed_snoc (Yields c) (empty n) s.calls)
+            rw (ec, ex, allowed_snoc (Some c) (empty n) s.calls)
             (omega (arith, C.pays, allowance_le (forests_after m s) c, grows));
       }
 
@@ -168,7 +168,7 @@ module _ (stop : Stop) (m : Map) (A : Accepted m) where
         entered_is = C.entered_is;
         taken_is = omega (arith, C.taken_is, extracted_rest stop m A k s B u e);
         pays =
-            rw (allowed_snoc (Yields (ExtractMin 0)) (empty n) s.calls)
+            rw (allowed_snoc (Some (ExtractMin 0)) (empty n) s.calls)
             (omega (arith, C.pays, allowance_le f (ExtractMin 0), ranks_more C.entered C.taken (count f 0) few));
       }
 

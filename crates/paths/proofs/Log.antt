@@ -4,7 +4,7 @@ use mathlib.Core.Path.{◌≡◌, refl, ap, ◌∙◌}
 use mathlib.Core.List.{List, [], ◌∷◌, ◌++◌}
 use native.Mathlib.Omega.{arith}
 use Rattle.rules.specs.declared.Answer.{Answer}
-use Rattle.rules.specs.declared.Line.{Line}
+use Rattle.rules.specs.Lines.{Line}
 use Rattle.rules.specs.Lists.{sum_by}
 use Rattle.rules.specs.Forests.{Forests}
 use Rattle.rules.specs.Answers.{answer, answers, after}

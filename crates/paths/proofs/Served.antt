@@ -7,8 +7,8 @@ use mathlib.Core.List.{List, [], ◌∷◌, ◌++◌}
 use native.Mathlib.Omega.{arith}
 use lib.ListN.{length, get_or, set, length-replicate}
 use Rattle.rules.specs.declared.Call.TheVariants.{Insert, ExtractMin, DecreaseKey}
-use Rattle.rules.specs.declared.Line.{Line}
-use Rattle.rules.specs.declared.Line.TheVariants.{Yields}
+use Rattle.rules.specs.Lines.{Line}
+use Rattle.std.specs.Prelude.{Some}
 use Rattle.rules.specs.Forests.{Forests, empty}
 use Rattle.rules.specs.Answers.{answer, answers, after}
 use Rattle.rules.specs.WellFormed.{WellFormed}
@@ -71,15 +71,15 @@ module _ (n : ℕ) (q : Queue) (calls : List Line) (S : Served n q calls) where
       }
 
   enter_served : (p k : ℕ) → p < length q.waits → get_or q.waits p 0 ≡ 0
-      → Does (answer forests (Yields (Insert 0 p k))) p k (set q.waits p 1) (set q.key p k)
+      → Does (answer forests (Some (Insert 0 p k))) p k (set q.waits p 1) (set q.key p k)
   enter_served p k l z = insert_does forests q.waits q.key S.waits S.keys p k l z
 
   lower_served : (p k : ℕ) → get_or q.waits p 0 ≢ 0 → k ≤ get_or q.key p 0
-      → Does (answer forests (Yields (DecreaseKey p k))) p k q.waits (set q.key p k)
+      → Does (answer forests (Some (DecreaseKey p k))) p k q.waits (set q.key p k)
   lower_served p k w l = decrease_does forests q.waits q.key S.waits S.keys p k w l
 
   leave_served : (stop : Stop) (u : ℕ) → ((p : ℕ) → get_or q.waits p 0 ≤ 1) → next stop q ≡ takes u
-      → Does (answer forests (Yields (ExtractMin 0))) u (get_or q.key u 0) (set q.waits u 0) (set q.key u 0)
+      → Does (answer forests (Some (ExtractMin 0))) u (get_or q.key u 0) (set q.waits u 0) (set q.key u 0)
   leave_served stop u bit e =
       let X = next_takes stop q u e in
       let w : get_or q.waits u 0 ≢ 0 = X.inside in
@@ -102,7 +102,7 @@ module _ (stop : Stop) (m : Map) (A : Accepted m) where
   begin_served : ServedOf m (begin m)
   unfolding begin InRange
   begin_served =
-      served_more n (none_wait n) [] none_yet (Yields (Insert 0 m.start 0)) m.start 0 _ _ (omega arith)
+      served_more n (none_wait n) [] none_yet (Some (Insert 0 m.start 0)) m.start 0 _ _ (omega arith)
       (enter_served n (none_wait n) [] none_yet m.start 0 (rw (length-replicate {A = ℕ} n 0) A.start_in)
       (get_or_all {A = ℕ} n m.start 0))
 
@@ -121,7 +121,7 @@ module _ (stop : Stop) (m : Map) (A : Accepted m) where
   update_served u d hu k r s T is fu worse c S = S
 
   take_does : (k : ℕ) (s : Search) → Between stop m k s → (u : ℕ) → next stop s.queue ≡ takes u → ServedOf m s
-      → Does (answer (forests_after m s) (Yields (ExtractMin 0))) u (get_or s.queue.key u 0)
+      → Does (answer (forests_after m s) (Some (ExtractMin 0))) u (get_or s.queue.key u 0)
       (set s.queue.waits u 0) (set s.queue.key u 0)
   take_does k s B u e S = leave_served n s.queue s.calls S stop u B.invariant.bit e
 
@@ -133,7 +133,7 @@ module _ (stop : Stop) (m : Map) (A : Accepted m) where
         begins = begin_served;
         taken =
             λ k s B u e S.
-            served_more n s.queue s.calls S (Yields (ExtractMin 0)) _ _ _ _ tt (take_does k s B u e S);
+            served_more n s.queue s.calls S (Some (ExtractMin 0)) _ _ _ _ tt (take_does k s B u e S);
         offers = record { examined = λ _ _ _ _ _ s _ S. S; offered = update_served };
       }
 

@@ -1,8 +1,7 @@
 -- Feed calls worked by hand: the map of the scope paper, one where two chains have the same loss, the paper's example
 -- of each code, and calls with a budget.
-use Rattle.std.specs.Prelude.{ℕ, ◌-◌, ◌≡◌, List, [], ◌∷◌, ◌++◌, map, length, replicate}
+use Rattle.std.specs.Prelude.{ℕ, ◌-◌, ◌≡◌, List, [], ◌∷◌, ◌++◌, map, length, replicate, Some}
 use Rattle.rules.specs.declared.Call.TheVariants.{Insert, ExtractMin, DecreaseKey}
-use Rattle.rules.specs.declared.Line.TheVariants.{Yields}
 use Rattle.rules.specs.Forests.{none}
 use Rattle.rules.specs.Queues.{empty_queues}
 use Rattle.rules.specs.Words.{store_size, encode}
@@ -128,8 +127,8 @@ star_links budget = links_of 4 (find (up_to budget) star_map).calls
 pub record WorkedMaps : Type 0 where
   pub calls :
       (find unlimited paper_map).calls
-      ≡ Yields (Insert 0 0 0) ∷ Yields (ExtractMin 0) ∷ Yields (Insert 0 1 7) ∷ Yields (Insert 0 2 20)
-      ∷ Yields (ExtractMin 0) ∷ Yields (DecreaseKey 2 12) ∷ Yields (ExtractMin 0) ∷ []
+      ≡ Some (Insert 0 0 0) ∷ Some (ExtractMin 0) ∷ Some (Insert 0 1 7) ∷ Some (Insert 0 2 20)
+      ∷ Some (ExtractMin 0) ∷ Some (DecreaseKey 2 12) ∷ Some (ExtractMin 0) ∷ []
   pub paper : on_three paper_map ≡ done 0 0 3 (0 ∷ 7 ∷ 12 ∷ []) (none ∷ 0 ∷ 2 ∷ []) (0 ∷ 1 ∷ 2 ∷ [])
   pub tie : on_three tie_map ≡ done 0 0 3 (1 ∷ 2 ∷ 0 ∷ []) (1 ∷ 2 ∷ none ∷ []) (1 ∷ 1 ∷ 0 ∷ [])
   pub refusals : map on_three refused_maps ≡ map refused_three (14 ∷ 15 ∷ 16 ∷ 17 ∷ 18 ∷ 19 ∷ 20 ∷ [])

@@ -1,6 +1,6 @@
 -- The whole result of a feed call on any input: what it answers, and each word that it leaves.
 use Rattle.std.specs.Prelude.{ℕ, zero, suc, List, ◌++◌, length, drop}
-use Rattle.rules.specs.declared.Line.{Line}
+use Rattle.rules.specs.Lines.{Line}
 use Rattle.rules.specs.Lists.{sum_by}
 use Rattle.rules.specs.Forests.{empty}
 use Rattle.rules.specs.Answers.{answers}

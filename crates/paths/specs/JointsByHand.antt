@@ -1,8 +1,7 @@
 -- Feed calls worked by hand on maps with chains of equal loss: the one with fewer spans is shown, of two with as many
 -- that with the lower-numbered last span, and no queue call is made for it.
-use Rattle.std.specs.Prelude.{ℕ, ◌≡◌, List, [], ◌∷◌, map, replicate}
+use Rattle.std.specs.Prelude.{ℕ, ◌≡◌, List, [], ◌∷◌, map, replicate, Some}
 use Rattle.rules.specs.declared.Call.TheVariants.{Insert, ExtractMin}
-use Rattle.rules.specs.declared.Line.TheVariants.{Yields}
 use Rattle.rules.specs.Forests.{none}
 use Rattle.rules.specs.Words.{store_size}
 use Rattle.paths.specs.Map.{SpanLists, span_lists, windows, Map, map_of, map_at}
@@ -110,8 +109,8 @@ pub record WorkedJoints : Type 0 where
   -- No call is made for span 0, which is tried before the last taking.
   pub calls :
       (find unlimited later_map).calls
-      ≡ Yields (Insert 0 3 0) ∷ Yields (ExtractMin 0) ∷ Yields (Insert 0 0 3) ∷ Yields (Insert 0 1 1)
-      ∷ Yields (ExtractMin 0) ∷ Yields (Insert 0 4 2) ∷ Yields (ExtractMin 0) ∷ Yields (Insert 0 2 4)
-      ∷ Yields (ExtractMin 0) ∷ Yields (ExtractMin 0) ∷ []
+      ≡ Some (Insert 0 3 0) ∷ Some (ExtractMin 0) ∷ Some (Insert 0 0 3) ∷ Some (Insert 0 1 1)
+      ∷ Some (ExtractMin 0) ∷ Some (Insert 0 4 2) ∷ Some (ExtractMin 0) ∷ Some (Insert 0 2 4)
+      ∷ Some (ExtractMin 0) ∷ Some (ExtractMin 0) ∷ []
   pub back : spans_back twice_map twice_last 2 5 ≡ 7 ∷ 1 ∷ []
   pub places : map (λ k. place_back twice_map twice_last k 5) (0 ∷ 1 ∷ 2 ∷ []) ≡ 5 ∷ 6 ∷ 0 ∷ []

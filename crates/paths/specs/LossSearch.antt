@@ -1,10 +1,9 @@
 -- The search with losses alone. It keeps no span and no number of spans, so neither can change what it does, and an
 -- equal loss changes nothing. The search makes the same queue calls and examines as many spans: so a tie makes no call,
 -- and the choice between chains of equal loss changes no link and no cut.
-use Rattle.std.specs.Prelude.{ℕ, zero, suc, ◌+◌, ◌≡◌, List, [], ◌∷◌, ◌++◌, Bool, true, false, cond, get_or, set, replicate, eqb, ltb}
+use Rattle.std.specs.Prelude.{ℕ, zero, suc, ◌+◌, ◌≡◌, List, [], ◌∷◌, ◌++◌, Bool, true, false, cond, get_or, set, replicate, eqb, ltb, Some}
 use Rattle.rules.specs.declared.Call.TheVariants.{Insert, ExtractMin, DecreaseKey}
-use Rattle.rules.specs.declared.Line.{Line}
-use Rattle.rules.specs.declared.Line.TheVariants.{Yields}
+use Rattle.rules.specs.Lines.{Line}
 use Rattle.rules.specs.Forests.{none}
 use Rattle.paths.specs.Map.{Map, spans, from_of, to_of, loss_of, usable, Accepted}
 use Rattle.paths.specs.Table.{Limit}
@@ -32,7 +31,7 @@ entered place loss s =
     record {
       queue = enter place loss s.queue;
       best = set s.best place loss;
-      calls = s.calls ++ (Yields (Insert 0 place loss) ∷ []);
+      calls = s.calls ++ (Some (Insert 0 place loss) ∷ []);
       examined = s.examined;
     }
 
@@ -41,7 +40,7 @@ lowered place loss s =
     record {
       queue = lower place loss s.queue;
       best = set s.best place loss;
-      calls = s.calls ++ (Yields (DecreaseKey place loss) ∷ []);
+      calls = s.calls ++ (Some (DecreaseKey place loss) ∷ []);
       examined = s.examined;
     }
 
@@ -70,7 +69,7 @@ extracted_loss u s =
     record {
       queue = leave u s.queue;
       best = s.best;
-      calls = s.calls ++ (Yields (ExtractMin 0) ∷ []);
+      calls = s.calls ++ (Some (ExtractMin 0) ∷ []);
       examined = s.examined;
     }
 
@@ -83,7 +82,7 @@ begin_loss m =
     record {
       queue = enter m.start 0 (none_wait m.places);
       best = set (replicate m.places none) m.start 0;
-      calls = Yields (Insert 0 m.start 0) ∷ [];
+      calls = Some (Insert 0 m.start 0) ∷ [];
       examined = 0;
     }
 

@@ -1,8 +1,7 @@
 -- The feed finder as the scope paper tells it: a search over a queue, which keeps the table so far and logs its calls.
-use Rattle.std.specs.Prelude.{ℕ, zero, suc, ◌+◌, List, [], ◌∷◌, ◌++◌, Bool, true, false, cond, ◌&&◌, ◌||◌, get_or, set, replicate, eqb, ltb}
+use Rattle.std.specs.Prelude.{ℕ, zero, suc, ◌+◌, List, [], ◌∷◌, ◌++◌, Bool, true, false, cond, ◌&&◌, ◌||◌, get_or, set, replicate, eqb, ltb, Some}
 use Rattle.rules.specs.declared.Call.TheVariants.{Insert, ExtractMin, DecreaseKey}
-use Rattle.rules.specs.declared.Line.{Line}
-use Rattle.rules.specs.declared.Line.TheVariants.{Yields}
+use Rattle.rules.specs.Lines.{Line}
 use Rattle.rules.specs.Forests.{none}
 use Rattle.paths.specs.Map.{Map, spans, from_of, to_of, loss_of, usable}
 use Rattle.paths.specs.Table.{Limit, unlimited, up_to}
@@ -55,7 +54,7 @@ update unmet place loss hops span s =
       best = set s.best place loss;
       last = set s.last place span;
       joints = set s.joints place hops;
-      calls = s.calls ++ (Yields (Insert 0 place loss) ∷ []);
+      calls = s.calls ++ (Some (Insert 0 place loss) ∷ []);
       examined = s.examined;
     }
 update smaller place loss hops span s =
@@ -64,7 +63,7 @@ update smaller place loss hops span s =
       best = set s.best place loss;
       last = set s.last place span;
       joints = set s.joints place hops;
-      calls = s.calls ++ (Yields (DecreaseKey place loss) ∷ []);
+      calls = s.calls ++ (Some (DecreaseKey place loss) ∷ []);
       examined = s.examined;
     }
 update tie place loss hops span s =
@@ -113,7 +112,7 @@ extracted u s =
       best = s.best;
       last = s.last;
       joints = s.joints;
-      calls = s.calls ++ (Yields (ExtractMin 0) ∷ []);
+      calls = s.calls ++ (Some (ExtractMin 0) ∷ []);
       examined = s.examined;
     }
 
@@ -132,7 +131,7 @@ begin m =
       best = set (replicate m.places none) m.start 0;
       last = replicate m.places none;
       joints = set (replicate m.places none) m.start 0;
-      calls = Yields (Insert 0 m.start 0) ∷ [];
+      calls = Some (Insert 0 m.start 0) ∷ [];
       examined = 0;
     }
 

@@ -1,8 +1,7 @@
 -- What is proved of the feed finder. Each statement is a type; its proof is in proofs/, under the same name in lower
 -- case.
-use Rattle.std.specs.Prelude.{ℕ, zero, suc, ◌+◌, ◌≤◌, ◌<◌, ◌≡◌, ◌≢◌, List, [], ◌∷◌, cond, length, get_or, take, drop, leb}
+use Rattle.std.specs.Prelude.{ℕ, zero, suc, ◌+◌, ◌≤◌, ◌<◌, ◌≡◌, ◌≢◌, List, [], ◌∷◌, cond, length, get_or, take, drop, leb, Some}
 use Rattle.rules.specs.declared.Call.TheVariants.{ExtractMin}
-use Rattle.rules.specs.declared.Line.TheVariants.{Yields}
 use Rattle.rules.specs.declared.Answer.{Answer}
 use Rattle.rules.specs.Lists.{occurs}
 use Rattle.rules.specs.Forests.{Forests, none, empty}
@@ -207,7 +206,7 @@ ViewAgrees = (stop : Stop) (m : Map) → Accepted m → (s : Search) → Moment 
 abbrev pub TakesMinimum : Type 0
 TakesMinimum =
     (stop : Stop) (m : Map) → Accepted m → (k u : ℕ) → next stop (steps stop m k).queue ≡ takes u →
-    let a : Answer = (answer (forests_after m (steps stop m k)) (Yields (ExtractMin 0))).reply in
+    let a : Answer = (answer (forests_after m (steps stop m k)) (Some (ExtractMin 0))).reply in
     (a.item ≡ u) × (a.key ≡ best_at (steps stop m k) u)
 
 -- No call is refused, and those of a full feed call leave the forests empty.

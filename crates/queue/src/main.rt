@@ -14,12 +14,10 @@ fn answer_sheet(sheet: &[u8], out: &mut [u8]) -> usize
     ensures { Shows (program_run sheet.now out.old) result out.new }
 {
     let mut store = [0u32; store::HEAP_WORDS + store::ITEM_WORDS * 1024];
-    let ran = sheet::run_fresh(&mut store, sheet, out);
-    let code = ran.code;
-    if code == 0 {
-        return ran.bytes as usize;
+    match sheet::run_fresh(&mut store, sheet, out) {
+        Ok(ran) => ran.bytes as usize,
+        Err(refusal) => text::output::put_field(out, 0, refusal.code(), b'\n'),
     }
-    text::output::put_field(out, 0, code as u32, b'\n')
 }
 
 // A sheet of 60,001 bytes is one byte too long; 64,000 bytes are room for the answers of 2,000 lines.

@@ -1,3 +1,2 @@
 pub mod Logged
 pub mod Relaxing
-mod WinsTie

@@ -7,8 +7,8 @@ use native.Mathlib.Omega.{arith}
 use Rattle.rules.specs.declared.Answer.{Answer}
 use Rattle.rules.specs.declared.Call.{Call}
 use Rattle.rules.specs.declared.Call.TheVariants.{Insert}
-use Rattle.rules.specs.declared.Line.{Line}
-use Rattle.rules.specs.declared.Line.TheVariants.{Yields}
+use Rattle.rules.specs.Lines.{Line}
+use Rattle.std.specs.Prelude.{Some}
 use Rattle.rules.specs.Lists.{sum_by}
 use Rattle.rules.specs.Forests.{Forests, empty}
 use Rattle.rules.specs.Calls.{perform}
@@ -41,18 +41,18 @@ insert-moves e = record { words = e; links = omega arith; cuts = omega arith }
 
 -- a call that is not refused: its line is answered, and changes the queues, by what the call does
 module _ (s : Forests) (c : Call) (done : refusal s c ≡ 0) where
-  answered : answer s (Yields c) ≡ perform s c
+  answered : answer s (Some c) ≡ perform s c
   unfolding answer unless_refused
   answered = rw done
 
-  after-done : after_line (unraised s) (Yields c) ≡ after_call (unraised s) c
+  after-done : after_line (unraised s) (Some c) ≡ after_call (unraised s) c
   unfolding answer unless_refused amounts_after_line
   after-done = rw done
 
   -- one that is no raise leaves every amount 0
-  call_unraised : is_raise (Yields c) ≡ false → after_call (unraised s) c ≡ unraised (answer s (Yields c)).next
+  call_unraised : is_raise (Some c) ≡ false → after_call (unraised s) c ≡ unraised (answer s (Some c)).next
   unfolding after amounts_after
-  call_unraised e = sym after-done ∙ keeps_unraised s (Yields c ∷ []) (e, tt)
+  call_unraised e = sym after-done ∙ keeps_unraised s (Some c ∷ []) (e, tt)
 
 module _ (n : ℕ) (calls : List Line) (store : List ℕ) (t : Tally) (L : Logged n calls store t)
     (W : WellFormed (after (empty n) calls)) where
@@ -69,24 +69,24 @@ module _ (n : ℕ) (calls : List Line) (store : List ℕ) (t : Tally) (L : Logge
     -- the sums over the answers grow by what the call answers
     adds : (f : Answer → ℕ) (x y : ℕ)
         → y ≡ x + f (perform (forests_of store) c).reply → x ≡ sum_by f (answers (empty n) calls)
-        → y ≡ sum_by f (answers (empty n) (calls ++ (Yields c ∷ [])))
+        → y ≡ sum_by f (answers (empty n) (calls ++ (Some c ∷ [])))
     adds f x y p q =
         omega (
           arith,
           ap (λ o. f o.reply) (answered (forests_of store) c done),
-          ap (λ s. f (answer s (Yields c)).reply) logged_forests,
-          sum_snoc (Yields c) f (empty n) calls,
+          ap (λ s. f (answer s (Some c)).reply) logged_forests,
+          sum_snoc (Some c) f (empty n) calls,
         )
 
-    pub call_logged : is_raise (Yields c) ≡ false → {t' : Tally} {store' : List ℕ}
-        → Moves (queues_of store) c t t' store' → Logged n (calls ++ (Yields c ∷ [])) store' t'
+    pub call_logged : is_raise (Some c) ≡ false → {t' : Tally} {store' : List ℕ}
+        → Moves (queues_of store) c t t' store' → Logged n (calls ++ (Some c ∷ [])) store' t'
     unfolding links_of cuts_of
     call_logged u {t'} M =
         record {
           words =
               M.words ∙ ap (λ q. encode (after_call q c)) logged_queues
               ∙ ap encode (call_unraised (after (empty n) calls) c (rw logged_forests at done) u)
-              ∙ ap (λ s. encode (unraised s)) (sym (after_snoc (Yields c) (empty n) calls));
+              ∙ ap (λ s. encode (unraised s)) (sym (after_snoc (Some c) (empty n) calls));
           links = adds (λ a. a.links) t.links t'.links M.links L.links;
           cuts = adds (λ a. a.cuts) t.cuts t'.cuts M.cuts L.cuts;
         }

@@ -8,7 +8,7 @@ use native.Mathlib.Omega.{arith}
 use lib.ListN.{get_or, set}
 use Rattle.rules.specs.declared.Call.{Call}
 use Rattle.rules.specs.declared.Call.TheVariants.{Insert, DecreaseKey}
-use Rattle.rules.specs.declared.Line.TheVariants.{Yields}
+use Rattle.std.specs.Prelude.{Some}
 use Rattle.rules.specs.Lists.{sum_by}
 use Rattle.rules.specs.Forests.{none, empty}
 use Rattle.rules.specs.Answers.{refusal, after}
@@ -43,10 +43,10 @@ module _ (p loss hops span : ℕ) (l : ResultLists) (go : Progress) where
   module _
       (call : Call) (met : ℕ) (done : refusal (forests_of l.store) call ≡ 0) (l' : ResultLists) (r : Progress)
       (I : Improved call p loss hops span met l go l' r) where
-    improved_tracks : is_raise (Yields call) ≡ false → {n out : ℕ} {s t : Search}
+    improved_tracks : is_raise (Some call) ≡ false → {n out : ℕ} {s t : Search}
         → WellFormed (after (empty n) s.calls) → Tracks n out s l go
         → t.best ≡ set s.best p loss → t.last ≡ set s.last p span → t.joints ≡ set s.joints p hops
-        → t.calls ≡ s.calls ++ (Yields call ∷ []) → t.examined ≡ s.examined
+        → t.calls ≡ s.calls ++ (Some call ∷ []) → t.examined ≡ s.examined
         → met ≡ out + sum_by (λ w. w) t.queue.waits → Tracks n out t l' r
     improved_tracks u {n} {out} {s} {t} W H eb el ej ec ex em =
         record {

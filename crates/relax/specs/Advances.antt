@@ -8,10 +8,15 @@ use Rattle.rules.specs.WellFormed.{WellFormed}
 use Rattle.rules.specs.Words.{queues_of, forests_of}
 use Rattle.heap.specs.Allowed.{Moves}
 use Rattle.heap.specs.Performed.{Ready}
-use Rattle.paths.specs.Search.{Search, best_at}
+use Rattle.paths.specs.Search.{Search, best_at, offer}
 use Rattle.paths.specs.Feed.{ResultLists}
+use Rattle.relax.specs.declared.Offer.{Offer}
 use Rattle.relax.specs.declared.Progress.{Progress}
 use Rattle.relax.specs.Tracks.{Tracks}
+
+-- the search with the offer made
+abbrev pub offering : Offer → Search → Search
+offering o = offer o.place o.loss o.hops o.span
 
 -- A search in which place p may be offered a loss: if not met, it does not wait.
 pub record Offerable (n p : ℕ) (s : Search) : Type 0 where

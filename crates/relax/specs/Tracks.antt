@@ -1,6 +1,6 @@
 -- The state of a search in code: its result lists, its store and its progress are those of a search.
 use Rattle.std.specs.Prelude.{ℕ, ◌+◌, ◌≡◌, List}
-use Rattle.rules.specs.declared.Line.{Line}
+use Rattle.rules.specs.Lines.{Line}
 use Rattle.rules.specs.declared.Tally.{Tally}
 use Rattle.rules.specs.Lists.{sum_by}
 use Rattle.rules.specs.Forests.{empty}

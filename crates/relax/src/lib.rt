@@ -1,13 +1,13 @@
 // A span offers its end a loss, and the queue and the table follow (relaxation of an edge).
-#![tactic(auto)]
+#![tactic(auto, unfolding(crate::specs::Tracks::examine_one, crate::specs::Tracks::visit_one))]
 
 ghost use Rattle.std.specs.Prelude.{◌≡◌, ◌≢◌, ◌+◌, ◌<◌, length, get_or, set};
 ghost use Rattle.rules.specs.declared.Call.TheVariants.{Insert, DecreaseKey};
 ghost use Rattle.rules.specs.Forests.{none};
-ghost use Rattle.paths.specs.Search.{wins_tie, offer};
-ghost use Rattle.paths.specs.Feed.{result_lists};
+ghost use Rattle.paths.specs.Search.{wins_tie};
 ghost use Rattle.relax.specs.Tracks.{examine_one, visit_one};
-ghost use Rattle.relax.specs.Advances.{OfferReady, Improved, Advances};
+ghost use Rattle.relax.specs.Lent.{lists_of, SameLists};
+ghost use Rattle.relax.specs.Advances.{offering, OfferReady, Improved, Advances};
 
 use heap::decrease::decrease_key;
 use heap::insert::insert;
@@ -30,12 +30,9 @@ impl Progress {
         requires { self.examined < 4294967295 }
         ensures { result ≡ examine_one self }
     {
-        let tally = self.tally;
         Progress {
-            visited: self.visited,
-            met: self.met,
             examined: self.examined + 1,
-            tally,
+            ..self
         }
     }
 
@@ -44,145 +41,115 @@ impl Progress {
         requires { self.visited < 4294967295 }
         ensures { result ≡ visit_one self }
     {
-        let tally = self.tally;
         Progress {
             visited: self.visited + 1,
-            met: self.met,
-            examined: self.examined,
-            tally,
+            ..self
         }
     }
 }
 
-// The table shows a place the loss, the number of spans and the span.
-fn show(
-    best: &mut [u32],
-    last: &mut [u32],
-    joints: &mut [u32],
-    place: u32,
-    loss: u32,
-    hops: u32,
-    span: u32,
-)
-    requires place_in_bounds { place < length best.old }
-    requires place_in_bounds_2 { place < length last.old }
-    requires place_in_bounds_3 { place < length joints.old }
-    ensures { (best.new ≡ set best.old place loss)
-        × (last.new ≡ set last.old place span)
-        × (joints.new ≡ set joints.old place hops) }
-{
-    let i = place as usize;
-    best[i] = loss;
-    last[i] = span;
-    joints[i] = hops;
+// What a span offers its end: a loss over so many spans, of which it is the last.
+#[derive(Clone, Copy)]
+pub struct Offer {
+    pub place: u32,
+    pub loss: u32,
+    pub hops: u32,
+    pub span: u32,
 }
 
-// A place that was not met is inserted, and shown what it is offered.
-fn meet(
-    best: &mut [u32],
-    last: &mut [u32],
-    joints: &mut [u32],
-    store: &mut [u32],
-    place: u32,
-    loss: u32,
-    hops: u32,
-    span: u32,
-    go: Progress,
-) -> Progress
-    requires offer_ready { OfferReady place loss (result_lists best.old last.old joints.old store.old) go }
-    requires place_value { get_or best.old place 0 ≡ none }
-    ensures { Improved (Insert 0 place loss) place loss hops span (go.met + 1)
-        (result_lists best.old last.old joints.old store.old) go
-        (result_lists best.new last.new joints.new store.new) result }
-{
-    let n = items_of(store);
-    insert(store, n, 0, place, loss);
-    show(best, last, joints, place, loss, hops, span);
-    let tally = go.tally;
-    Progress {
-        visited: go.visited,
-        met: go.met + 1,
-        examined: go.examined,
-        tally,
-    }
-}
-
-// A place that was met with a larger loss has its key decreased, and is shown what it is offered.
-fn lower(
-    best: &mut [u32],
-    last: &mut [u32],
-    joints: &mut [u32],
-    store: &mut [u32],
-    place: u32,
-    loss: u32,
-    hops: u32,
-    span: u32,
-    go: Progress,
-) -> Progress
-    requires offer_ready { OfferReady place loss (result_lists best.old last.old joints.old store.old) go }
-    requires place_nonzero { get_or best.old place 0 ≢ none }
-    requires loss_bound { loss < get_or best.old place 0 }
-    ensures { Improved (DecreaseKey place loss) place loss hops span go.met
-        (result_lists best.old last.old joints.old store.old) go
-        (result_lists best.new last.new joints.new store.new) result }
-{
-    let n = items_of(store);
-    let before = go.tally;
-    let tally = decrease_key(store, n, place, loss, before);
-    show(best, last, joints, place, loss, hops, span);
-    Progress {
-        visited: go.visited,
-        met: go.met,
-        examined: go.examined,
-        tally,
-    }
+// The feed table and the store of the queue, as they are lent: the least loss of each place, the last span of its
+// chain and the number of spans in it.
+#[derive(Drop)]
+pub struct Table<'a> {
+    pub best: &'a mut [u32],
+    pub last: &'a mut [u32],
+    pub joints: &'a mut [u32],
+    pub store: &'a mut [u32],
 }
 
 // Whether a chain wins a tie against the one that is shown: by fewer spans, or by a lower-numbered last span.
+#[tactic(auto, unfolding(paths::specs::Search::wins_tie))]
 fn wins_tie(has_hops: u32, has_span: u32, hops: u32, span: u32) -> bool
     ensures { result ≡ wins_tie has_hops has_span hops span }
 {
-    if hops == has_hops {
-        return span < has_span;
-    }
-    hops < has_hops
+    (hops, span) < (has_hops, has_span)
 }
 
-// A place is offered a loss over so many spans, the last of which is given. An equal loss makes no call, but the better
-// chain is shown.
-pub fn offered(
-    best: &mut [u32],
-    last: &mut [u32],
-    joints: &mut [u32],
-    store: &mut [u32],
-    place: u32,
-    loss: u32,
-    hops: u32,
-    span: u32,
-    go: Progress,
-) -> Progress
-    requires { OfferReady place loss (result_lists best.old last.old joints.old store.old) go }
-    ensures { Advances place (offer place loss hops span)
-        (result_lists best.old last.old joints.old store.old) go
-        (result_lists best.new last.new joints.new store.new) result }
-{
-    let at = place as usize;
-    let has_loss = best[at];
-    if has_loss == NONE {
-        return meet(best, last, joints, store, place, loss, hops, span, go);
+impl<'a> Table<'a> {
+    // The place shows what it is offered.
+    fn show(&mut self, offer: Offer)
+        requires place_in_bounds { offer.place < length self.old.best.now }
+        requires place_in_bounds_2 { offer.place < length self.old.last.now }
+        requires place_in_bounds_3 { offer.place < length self.old.joints.now }
+        ensures same { SameLists self.old self.new }
+        ensures best_is { self.new.best.now ≡ set self.old.best.now offer.place offer.loss }
+        ensures last_is { self.new.last.now ≡ set self.old.last.now offer.place offer.span }
+        ensures joints_is { self.new.joints.now ≡ set self.old.joints.now offer.place offer.hops }
+        ensures store_is { self.new.store.now ≡ self.old.store.now }
+    {
+        let i = offer.place as usize;
+        self.best[i] = offer.loss;
+        self.last[i] = offer.span;
+        self.joints[i] = offer.hops;
     }
-    if loss < has_loss {
-        return lower(best, last, joints, store, place, loss, hops, span, go);
+
+    // A place that was not met is inserted, and shows what it is offered.
+    fn meet(&mut self, offer: Offer, go: Progress) -> Progress
+        requires offer_ready { OfferReady offer.place offer.loss (lists_of self.old) go }
+        requires place_value { get_or self.old.best.now offer.place 0 ≡ none }
+        ensures same { SameLists self.old self.new }
+        ensures improved { Improved (Insert 0 offer.place offer.loss) offer.place offer.loss offer.hops offer.span
+            (go.met + 1) (lists_of self.old) go (lists_of self.new) result }
+    {
+        let store = &mut *self.store;
+        let n = items_of(store);
+        insert(store, n, 0, offer.place, offer.loss);
+        self.show(offer);
+        Progress {
+            met: go.met + 1,
+            ..go
+        }
     }
-    if has_loss < loss {
-        return go;
+
+    // A place that was met with a larger loss has its key decreased, and shows what it is offered.
+    fn lower(&mut self, offer: Offer, go: Progress) -> Progress
+        requires offer_ready { OfferReady offer.place offer.loss (lists_of self.old) go }
+        requires place_nonzero { get_or self.old.best.now offer.place 0 ≢ none }
+        requires loss_bound { offer.loss < get_or self.old.best.now offer.place 0 }
+        ensures same { SameLists self.old self.new }
+        ensures improved { Improved (DecreaseKey offer.place offer.loss) offer.place offer.loss offer.hops offer.span
+            go.met (lists_of self.old) go (lists_of self.new) result }
+    {
+        let store = &mut *self.store;
+        let n = items_of(store);
+        let tally = decrease_key(store, n, offer.place, offer.loss, go.tally);
+        self.show(offer);
+        Progress { tally, ..go }
     }
-    let has_hops = joints[at];
-    let has_span = last[at];
-    if !wins_tie(has_hops, has_span, hops, span) {
-        return go;
+
+    // The place is offered a loss. An equal loss makes no call, but the better chain is shown. A place that is not met has
+    // no `Option`: C reads the words, of which NONE is one (`feed_table`).
+    pub fn relax(&mut self, offer: Offer, go: Progress) -> Progress
+        requires { OfferReady offer.place offer.loss (lists_of self.old) go }
+        ensures same { SameLists self.old self.new }
+        ensures advances { Advances offer.place (offering offer)
+            (lists_of self.old) go (lists_of self.new) result }
+    {
+        let at = offer.place as usize;
+        let has_loss = self.best[at];
+        if has_loss == NONE {
+            return self.meet(offer, go);
+        }
+        if offer.loss < has_loss {
+            return self.lower(offer, go);
+        }
+        if has_loss < offer.loss
+            || !wins_tie(self.joints[at], self.last[at], offer.hops, offer.span)
+        {
+            return go;
+        }
+        self.joints[at] = offer.hops;
+        self.last[at] = offer.span;
+        go
     }
-    joints[at] = hops;
-    last[at] = span;
-    go
 }

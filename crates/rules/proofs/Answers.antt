@@ -1,7 +1,7 @@
 -- A list of lines in two parts, and that a list keeps the forests well-formed.
 use mathlib.Core.Path.{◌≡◌, refl, ap}
 use mathlib.Core.List.{List, [], ◌∷◌, ◌++◌}
-use Rattle.rules.specs.declared.Line.{Line}
+use Rattle.rules.specs.Lines.{Line}
 use Rattle.rules.specs.Answers.{after, answer, answers}
 use Rattle.rules.specs.Forests.{Forests}
 pub use Rattle.rules.specs.Theorems.{AllInRange}

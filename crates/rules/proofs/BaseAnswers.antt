@@ -5,8 +5,8 @@ use mathlib.Core.List.{[], ◌∷◌}
 use mathlib.Core.Bool.{false, true≢false}
 use Rattle.rules.specs.declared.Call.{Call}
 use Rattle.rules.specs.declared.Call.TheVariants.{DecreaseKey, Delete, ExtractMin, FindMin, Insert, Meld, Raise}
-use Rattle.rules.specs.declared.Line.{Line}
-use Rattle.rules.specs.declared.Line.TheVariants.{NoCall, Yields}
+use Rattle.rules.specs.Lines.{Line}
+use Rattle.std.specs.Prelude.{Some, None}
 use Rattle.rules.specs.Answers.{after, answer, answers, refusal, unless_refused}
 use Rattle.rules.specs.BaseAnswers.{
   SameAsBase,
@@ -22,7 +22,7 @@ use Rattle.rules.specs.Forests.{Forests}
 use Rattle.rules.specs.Unraised.{is_raise}
 
 -- each of the six is refused and done by the same clause
-same_refusal : (s : Forests) (c : Call) → is_raise (Yields c) ≡ false → refusal s c ≡ base_refusal s c
+same_refusal : (s : Forests) (c : Call) → is_raise (Some c) ≡ false → refusal s c ≡ base_refusal s c
 unfolding refusal base_refusal is_raise
 same_refusal s (Insert h i k) e = refl
 same_refusal s (FindMin h) e = refl
@@ -32,7 +32,7 @@ same_refusal s (Delete i) e = refl
 same_refusal s (Meld a b) e = refl
 same_refusal s (Raise h d) e = absurd (true≢false e)
 
-same_perform : (s : Forests) (c : Call) → is_raise (Yields c) ≡ false → perform s c ≡ base_perform s c
+same_perform : (s : Forests) (c : Call) → is_raise (Some c) ≡ false → perform s c ≡ base_perform s c
 unfolding perform base_perform is_raise
 same_perform s (Insert h i k) e = refl
 same_perform s (FindMin h) e = refl
@@ -44,8 +44,8 @@ same_perform s (Raise h d) e = absurd (true≢false e)
 
 same_answer : (s : Forests) (l : Line) → is_raise l ≡ false → answer s l ≡ base_answer s l
 unfolding answer base_answer unless_refused base_unless_refused
-same_answer s NoCall e = refl
-same_answer s (Yields c) e =
+same_answer s None e = refl
+same_answer s (Some c) e =
     ap (λ r. unless_refused r s c) (same_refusal s c e) ∙ go (base_refusal s c)
   where
     go : (r : ℕ) → unless_refused r s c ≡ base_unless_refused r s c

@@ -6,8 +6,8 @@ use mathlib.Core.Bool.{Bool, true, false, cond, ◌&&◌}
 use native.Mathlib.Omega.{arith}
 use lib.Dec.{eqb}
 use borrow.Author.Tests.{eqb-true, eqb-false, ne_eqb, not-true, not-false}
-use Rattle.rules.specs.declared.Line.{Line}
-use Rattle.rules.specs.declared.Line.TheVariants.{NoCall, Yields}
+use Rattle.rules.specs.Lines.{Line}
+use Rattle.std.specs.Prelude.{Some, None}
 use Rattle.rules.specs.declared.Call.{Call}
 use Rattle.rules.specs.declared.Call.TheVariants.{DecreaseKey, Delete, ExtractMin, FindMin, Insert, Meld, Raise}
 use Rattle.rules.specs.Answers.{answer, refusal, refused, unless_refused}
@@ -193,8 +193,8 @@ perform_kept s S (Raise h d) e = record { formed = raise_formed h d s S; paid = 
 
 pub answer_kept : (s : Forests) → Formed s → (l : Line) → CallKept s (answer s l) (allowance s l)
 unfolding answer allowance unless_refused refused if_done
-answer_kept s S NoCall = record { formed = S; paid = omega arith }
-answer_kept s S (Yields c) = go (refusal s c) refl
+answer_kept s S None = record { formed = S; paid = omega arith }
+answer_kept s S (Some c) = go (refusal s c) refl
   where
     go : (r : ℕ) → refusal s c ≡ r → CallKept s (unless_refused r s c) (cond (eqb r 0) (price s c) 0)
     go zero e = perform_kept s S c e

@@ -8,8 +8,8 @@ use native.Mathlib.Omega.{arith}
 use lib.ListN.{get_or, set}
 use lib.Dec.{eqb}
 use borrow.Author.Tests.{ne_eqb}
-use Rattle.rules.specs.declared.Line.{Line}
-use Rattle.rules.specs.declared.Line.TheVariants.{NoCall, Yields}
+use Rattle.rules.specs.Lines.{Line}
+use Rattle.std.specs.Prelude.{Some, None}
 use Rattle.rules.specs.declared.Call.{Call}
 use Rattle.rules.specs.declared.Call.TheVariants.{DecreaseKey, Delete, ExtractMin, FindMin, Insert, Meld, Raise}
 use Rattle.rules.specs.Answers.{after, answer, refusal, refused, unless_refused}
@@ -110,8 +110,8 @@ perform-items s S c e = go c e S.disjoint (perform_kept s S c e).formed.disjoint
 answer-items : (s : Forests) → Formed s → (l : Line)
     → items (answer s l).next + if_done items_removed s l ≡ items s + if_done items_inserted s l
 unfolding answer unless_refused refused if_done
-answer-items s S NoCall = omega arith
-answer-items s S (Yields c) = go (refusal s c) refl
+answer-items s S None = omega arith
+answer-items s S (Some c) = go (refusal s c) refl
   where
     go : (r : ℕ) → refusal s c ≡ r
         → items (unless_refused r s c).next + cond (eqb r 0) (items_removed c) 0

@@ -9,8 +9,8 @@ use lib.ListN.{length, get_or, set, length-set}
 use lib.Seq.{get_or-set_same, get_or-set_other}
 use lib.Dec.{eqb}
 use borrow.Author.Tests.{eqb-false, ne_eqb}
-use Rattle.rules.specs.declared.Line.{Line}
-use Rattle.rules.specs.declared.Line.TheVariants.{NoCall, Yields}
+use Rattle.rules.specs.Lines.{Line}
+use Rattle.std.specs.Prelude.{Some, None}
 use Rattle.rules.specs.declared.Call.{Call}
 use Rattle.rules.specs.declared.Call.TheVariants.{DecreaseKey, Delete, ExtractMin, FindMin, Insert, Meld, Raise}
 use Rattle.rules.specs.Answers.{after, answer, refusal, refused, unless_refused}
@@ -111,8 +111,8 @@ call_amounts s D l A (Raise h d) e = go (eqb (count s h) 0) refl
 line_amounts : (s : Forests) → Disjoint s → (l : List ℕ) → Amounts s l → (m : Line)
     → Amounts (answer s m).next (amounts_after_line s m l)
 unfolding answer unless_refused refused amounts_after_line
-line_amounts s D l A NoCall = A
-line_amounts s D l A (Yields c) = go (refusal s c) refl
+line_amounts s D l A None = A
+line_amounts s D l A (Some c) = go (refusal s c) refl
   where
     go : (r : ℕ) → refusal s c ≡ r
         → Amounts (unless_refused r s c).next (cond (eqb r 0) (amounts_after_call s c l) l)

@@ -5,8 +5,8 @@ use mathlib.Core.Logic.{◌≢◌}
 use mathlib.Core.List.{List}
 use native.Mathlib.Omega.{arith}
 use borrow.Author.Tests.{ne_eqb}
-use Rattle.rules.specs.declared.Line.{Line}
-use Rattle.rules.specs.declared.Line.TheVariants.{NoCall, Yields}
+use Rattle.rules.specs.Lines.{Line}
+use Rattle.std.specs.Prelude.{Some, None}
 use Rattle.rules.specs.Answers.{answer, refusal, refused, unless_refused}
 use Rattle.rules.specs.Queues.{Queues, after_line, amounts_after_line}
 use Rattle.rules.specs.Theorems.{InRange, KeepsSound, RefusedKeepsWords}
@@ -38,11 +38,11 @@ keeps_sound w S l k = next_sound l S k refl
 -- a line whose code is not 0 was refused
 refused_keeps : (q : Queues) (l : Line) → (answer q.forests l).reply.code ≢ 0 → after_line q l ≡ q
 unfolding answer unless_refused refused amounts_after_line
-refused_keeps q NoCall n = refl
-refused_keeps q (Yields c) n = go (refusal q.forests c) refl n
+refused_keeps q None n = refl
+refused_keeps q (Some c) n = go (refusal q.forests c) refl n
   where
     go : (r : ℕ) → refusal q.forests c ≡ r → (unless_refused r q.forests c).reply.code ≢ 0
-        → after_line q (Yields c) ≡ q
+        → after_line q (Some c) ≡ q
     go zero e n = absurd (n (perform_code q.forests c))
     go (suc r) e n = rw (e, ne_eqb (suc r) 0 (λ z. omega arith))
 

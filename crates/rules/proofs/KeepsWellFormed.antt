@@ -8,8 +8,8 @@ use lib.ListN.{length, get_or, set, length-set, length-map}
 use lib.Seq.{get_or-set_same, get_or-set_other, set_out}
 use lib.Dec.{eqb, ltb}
 use borrow.Author.Tests.{ltb-true, ltb-false}
-use Rattle.rules.specs.declared.Line.{Line}
-use Rattle.rules.specs.declared.Line.TheVariants.{NoCall, Yields}
+use Rattle.rules.specs.Lines.{Line}
+use Rattle.std.specs.Prelude.{Some, None}
 use Rattle.rules.specs.declared.Call.{Call}
 use Rattle.rules.specs.declared.Call.TheVariants.{DecreaseKey, Delete, ExtractMin, FindMin, Insert, Meld, Raise}
 use Rattle.rules.specs.Answers.{answer, refusal, refused, unless_refused}
@@ -40,7 +40,7 @@ keys_set : (s : Forests) (i k : ℕ) (l : List ℕ) → KeysFit s → k < 429496
 unfolding KeysFit
 keys_set s i k l K f e x = rw e (fits_set s.key i k K f x)
 
-perform_keys : (s : Forests) → KeysFit s → (c : Call) → refusal s c ≡ 0 → InRange (Yields c)
+perform_keys : (s : Forests) → KeysFit s → (c : Call) → refusal s c ≡ 0 → InRange (Some c)
     → KeysFit (perform s c).next
 unfolding KeysFit InRange perform insert meld delete
 perform_keys s K (Insert h i k) e f = keys_set s i k (set s.key i k) K f refl
@@ -57,13 +57,13 @@ pub keeps_well_formed : KeepsWellFormed
 unfolding answer unless_refused refused
 keeps_well_formed s S l f = well_formed (answer s l).next (answer_kept s (to_formed s S) l).formed (keys l f)
   where
-    guarded : (c : Call) → InRange (Yields c) → (r : ℕ) → refusal s c ≡ r → KeysFit (unless_refused r s c).next
+    guarded : (c : Call) → InRange (Some c) → (r : ℕ) → refusal s c ≡ r → KeysFit (unless_refused r s c).next
     guarded c f zero e = perform_keys s S.keys c e f
     guarded c f (suc r) e = S.keys
 
     keys : (l : Line) → InRange l → KeysFit (answer s l).next
-    keys NoCall f = S.keys
-    keys (Yields c) f = guarded c f (refusal s c) refl
+    keys None f = S.keys
+    keys (Some c) f = guarded c f (refusal s c) refl
 
 -- the table keeps its length
 pub perform_size : (s : Forests) (c : Call) → table_size (perform s c).next ≡ table_size s
@@ -79,8 +79,8 @@ perform_size s (Raise h d) = refl
 
 pub keeps_table_size : KeepsTableSize
 unfolding answer unless_refused refused
-keeps_table_size s NoCall = refl
-keeps_table_size s (Yields c) = go (refusal s c)
+keeps_table_size s None = refl
+keeps_table_size s (Some c) = go (refusal s c)
   where
     go : (r : ℕ) → table_size (unless_refused r s c).next ≡ table_size s
     go zero = perform_size s c

@@ -67,3 +67,4 @@ pub mod Flatten
 pub mod UnraisedWords
 pub mod Unraised
 pub mod BaseAnswers
+pub mod Codes

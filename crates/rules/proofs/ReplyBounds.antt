@@ -7,8 +7,8 @@ use native.Mathlib.Omega.{arith}
 use lib.ListN.{length, get_or}
 use lib.Dec.{eqb}
 use Rattle.rules.specs.declared.Answer.{Answer}
-use Rattle.rules.specs.declared.Line.{Line}
-use Rattle.rules.specs.declared.Line.TheVariants.{NoCall, Yields}
+use Rattle.rules.specs.Lines.{Line}
+use Rattle.std.specs.Prelude.{Some, None}
 use Rattle.rules.specs.declared.Call.{Call}
 use Rattle.rules.specs.declared.Call.TheVariants.{DecreaseKey, Delete, ExtractMin, FindMin, Insert, Meld, Raise}
 use Rattle.rules.specs.Answers.{answer, refusal, refused, unless_refused}
@@ -96,7 +96,7 @@ perform_code s (Delete i) = (delete_says (eqb (minimum s (heap_number s i)) i) i
 perform_code s (Meld a b) = refl
 perform_code s (Raise h d) = refl
 
-perform-small : (s : Forests) → WellFormed s → (c : Call) → refusal s c ≡ 0 → InRange (Yields c)
+perform-small : (s : Forests) → WellFormed s → (c : Call) → refusal s c ≡ 0 → InRange (Some c)
     → Small (perform s c).reply
 unfolding KeysFit perform extract decrease_key delete InRange
 perform-small s W c e f =
@@ -120,7 +120,7 @@ perform-small s W c e f =
     item (Meld a b) e = omega (arith, (meld_ok s a b e).0)
     item (Raise h d) e = omega (arith, (raise_ok s h d e).0)
 
-    key : (c : Call) → refusal s c ≡ 0 → InRange (Yields c) → (perform s c).reply.key < 4294967296
+    key : (c : Call) → refusal s c ≡ 0 → InRange (Some c) → (perform s c).reply.key < 4294967296
     key (Insert h i k) e f = f
     key (FindMin h) e f = W.keys (minimum s h)
     key (ExtractMin h) e f = W.keys (minimum s h)
@@ -139,8 +139,8 @@ refused-small r s k = record { code = k; item = zero-le; key = omega arith; move
 -- every answer's numbers are small
 pub answer-small : (s : Forests) → WellFormed s → (l : Line) → InRange l → Small (answer s l).reply
 unfolding answer unless_refused
-answer-small s W NoCall f = refused-small 6 s (omega arith)
-answer-small s W (Yields c) f = go (refusal s c) refl
+answer-small s W None f = refused-small 6 s (omega arith)
+answer-small s W (Some c) f = go (refusal s c) refl
   where
     go : (r : ℕ) → refusal s c ≡ r → Small (unless_refused r s c).reply
     go zero e = perform-small s W c e f

@@ -7,7 +7,7 @@ use lib.ListN.{length}
 use Rattle.rules.specs.declared.Field.{Field}
 use Rattle.rules.specs.declared.Layout.{Layout}
 use Rattle.rules.specs.declared.Layout.TheVariants.{ByItem, ByKind}
-use Rattle.rules.specs.declared.Line.{Line}
+use Rattle.rules.specs.Lines.{Line}
 use Rattle.rules.specs.Answers.{answer, answers, after}
 use Rattle.rules.specs.Forests.{table_size}
 use Rattle.rules.specs.Queues.{Queues, after_line, after_lines, amount_of, amounts_after}

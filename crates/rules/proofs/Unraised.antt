@@ -9,8 +9,8 @@ use lib.Dec.{eqb}
 use Rattle.rules.specs.declared.Call.{Call}
 use Rattle.rules.specs.declared.Call.TheVariants.{DecreaseKey, Delete, ExtractMin, FindMin, Insert, Meld, Raise}
 use Rattle.rules.specs.declared.Layout.TheVariants.{ByKind}
-use Rattle.rules.specs.declared.Line.{Line}
-use Rattle.rules.specs.declared.Line.TheVariants.{NoCall, Yields}
+use Rattle.rules.specs.Lines.{Line}
+use Rattle.std.specs.Prelude.{Some, None}
 use Rattle.rules.specs.Answers.{after, answer, refusal}
 use Rattle.rules.specs.Forests.{Forests, count, heap_number}
 use Rattle.rules.specs.Queues.{amounts_after, amounts_after_call, amounts_after_line, amounts_left}
@@ -35,10 +35,10 @@ left_zero s h = go (eqb (count s h) 1)
 
 line_zero : (s : Forests) (l : Line) → is_raise l ≡ false → amounts_after_line s l zeros ≡ zeros
 unfolding amounts_after_line amounts_after_call is_raise
-line_zero s NoCall e = refl
-line_zero s (Yields c) e = go (eqb (refusal s c) 0) (call c e)
+line_zero s None e = refl
+line_zero s (Some c) e = go (eqb (refusal s c) 0) (call c e)
   where
-    call : (c : Call) → is_raise (Yields c) ≡ false → amounts_after_call s c zeros ≡ zeros
+    call : (c : Call) → is_raise (Some c) ≡ false → amounts_after_call s c zeros ≡ zeros
     call (Insert h i k) e = refl
     call (FindMin h) e = refl
     call (ExtractMin h) e = left_zero s h

@@ -1,9 +1,8 @@
 -- The answer to a line: refused under a code of the table (Codes, 6 to 13, and 25), or the call is done.
-use Rattle.std.specs.Prelude.{ℕ, zero, suc, ◌+◌, List, [], ◌∷◌, Bool, true, false, cond, ◌&&◌, ◌||◌, ltb, leb, eqb}
+use Rattle.std.specs.Prelude.{ℕ, zero, suc, ◌+◌, List, [], ◌∷◌, Bool, true, false, cond, ◌&&◌, ◌||◌, ltb, leb, eqb, Some, None}
 use Rattle.rules.specs.declared.Call.{Call}
 use Rattle.rules.specs.declared.Call.TheVariants.{Insert, FindMin, ExtractMin, DecreaseKey, Delete, Meld, Raise}
-use Rattle.rules.specs.declared.Line.{Line}
-use Rattle.rules.specs.declared.Line.TheVariants.{Yields, NoCall}
+use Rattle.rules.specs.Lines.{Line}
 use Rattle.rules.specs.declared.Answer.{Answer}
 use Rattle.rules.specs.Forests.{Forests, row_of, key_of, heap_of, table_size}
 use Rattle.rules.specs.Calls.{Outcome, perform}
@@ -32,16 +31,19 @@ refusal s (Meld a b) = cond (ltb 7 a || ltb 7 b) 7 (cond (eqb a b) 13 0)
 refusal s (Raise h d) = cond (ltb 7 h) 7 (cond (some_carried_over h d s (table_size s)) 25 0)
 
 -- Refused: the code, 0 for each other number, and the forests as they were.
+abbrev pub refused_reply : ℕ → Answer
+refused_reply code = record { code = code; item = 0; key = 0; links = 0; cuts = 0 }
+
 unfoldable pub refused : ℕ → Forests → Outcome
-refused code s = record { reply = record { code = code; item = 0; key = 0; links = 0; cuts = 0 }; next = s }
+refused code s = record { reply = refused_reply code; next = s }
 
 unfoldable pub unless_refused : ℕ → Forests → Call → Outcome
 unless_refused zero s c = perform s c
 unless_refused (suc code) s c = refused (suc code) s
 
 unfoldable pub answer : Forests → Line → Outcome
-answer s (Yields c) = unless_refused (refusal s c) s c
-answer s NoCall = refused 6 s
+answer s (Some c) = unless_refused (refusal s c) s c
+answer s None = refused 6 s
 
 -- A list of lines: the answers, and the forests after it.
 unfoldable pub answers : Forests → List Line → List Answer

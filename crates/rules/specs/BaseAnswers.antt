@@ -1,10 +1,9 @@
 -- The answers of the base, before change request 6: its six calls, refused and done as there, and A no call. Lines
 -- without A are answered as the base answers them, whatever the amounts are.
-use Rattle.std.specs.Prelude.{ℕ, zero, suc, ◌+◌, ◌≡◌, List, [], ◌∷◌, cond, ◌||◌, ltb, leb, eqb}
+use Rattle.std.specs.Prelude.{ℕ, zero, suc, ◌+◌, ◌≡◌, List, [], ◌∷◌, cond, ◌||◌, ltb, leb, eqb, Some, None}
 use Rattle.rules.specs.declared.Call.{Call}
 use Rattle.rules.specs.declared.Call.TheVariants.{Insert, FindMin, ExtractMin, DecreaseKey, Delete, Meld, Raise}
-use Rattle.rules.specs.declared.Line.{Line}
-use Rattle.rules.specs.declared.Line.TheVariants.{Yields, NoCall}
+use Rattle.rules.specs.Lines.{Line}
 use Rattle.rules.specs.declared.Answer.{Answer}
 use Rattle.rules.specs.Forests.{Forests, row_of, key_of, heap_of, table_size, count}
 use Rattle.rules.specs.Order.{minimum}
@@ -36,8 +35,8 @@ base_unless_refused zero s c = base_perform s c
 base_unless_refused (suc code) s c = refused (suc code) s
 
 unfoldable pub base_answer : Forests → Line → Outcome
-base_answer s (Yields c) = base_unless_refused (base_refusal s c) s c
-base_answer s NoCall = refused 6 s
+base_answer s (Some c) = base_unless_refused (base_refusal s c) s c
+base_answer s None = refused 6 s
 
 unfoldable pub base_answers : Forests → List Line → List Answer
 base_answers s [] = []

@@ -1,10 +1,9 @@
 -- The ledger (the paper's demand 3): what a list of lines moved, what it was allowed, and the claim over both.
-use Rattle.std.specs.Prelude.{ℕ, ◌+◌, ◌≤◌, List, [], ◌∷◌, cond, take, drop, eqb}
+use Rattle.std.specs.Prelude.{ℕ, ◌+◌, ◌≤◌, List, [], ◌∷◌, cond, take, drop, eqb, Some, None}
 use Rattle.rules.specs.declared.Call.{Call}
 use Rattle.rules.specs.declared.Call.TheVariants.{Insert, FindMin, ExtractMin, DecreaseKey, Delete, Meld, Raise}
 use Rattle.rules.specs.declared.Answer.{Answer}
-use Rattle.rules.specs.declared.Line.{Line}
-use Rattle.rules.specs.declared.Line.TheVariants.{Yields, NoCall}
+use Rattle.rules.specs.Lines.{Line}
 use Rattle.rules.specs.Lists.{sum_by}
 use Rattle.rules.specs.Forests.{Forests, heap_number, count, potential}
 use Rattle.rules.specs.Answers.{refusal, answer, answers, after}
@@ -13,8 +12,8 @@ use Rattle.rules.specs.WellFormed.{WellFormed}
 
 -- a number of a call that is done, and 0 of any other line
 unfoldable pub if_done : (Call → ℕ) → Forests → Line → ℕ
-if_done f s (Yields c) = cond (eqb (refusal s c) 0) (f c) 0
-if_done f s NoCall = 0
+if_done f s (Some c) = cond (eqb (refusal s c) 0) (f c) 0
+if_done f s None = 0
 
 -- What a call that is done may cost, by its kind and whatever moves it made: a lowering that cuts nothing and a
 -- deletion that links cost as any other. R is taken of the heap's item count before the call.

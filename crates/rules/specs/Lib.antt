@@ -3,9 +3,11 @@ pub mod Forests
 pub mod Order
 pub mod Cut
 pub mod Consolidate
+pub mod Lines
 pub mod Calls
 pub mod Answers
 pub mod Queues
+pub mod Refusals
 pub mod Fibonacci
 pub mod WellFormed
 pub mod Ledger

@@ -1,10 +1,9 @@
 -- Implicit keys (change request 6): each heap has an amount, and the word of an item's key is the key less the amount
 -- of its heap. Forests keep the keys themselves, so no rule of the calls knows amounts: they are beside the forests.
-use Rattle.std.specs.Prelude.{ℕ, ◌+◌, ◌-◌, ◌%◌, List, [], ◌∷◌, cond, get_or, set, replicate, eqb}
+use Rattle.std.specs.Prelude.{ℕ, ◌+◌, ◌-◌, ◌%◌, List, [], ◌∷◌, cond, get_or, set, replicate, eqb, Some, None}
 use Rattle.rules.specs.declared.Call.{Call}
 use Rattle.rules.specs.declared.Call.TheVariants.{Insert, FindMin, ExtractMin, DecreaseKey, Delete, Meld, Raise}
-use Rattle.rules.specs.declared.Line.{Line}
-use Rattle.rules.specs.declared.Line.TheVariants.{Yields, NoCall}
+use Rattle.rules.specs.Lines.{Line}
 use Rattle.rules.specs.Forests.{Forests, empty, heap_number, count}
 use Rattle.rules.specs.Calls.{perform}
 use Rattle.rules.specs.Answers.{refusal, answer, after}
@@ -52,8 +51,8 @@ amounts_after_call s (Raise h d) amounts =
 
 -- by a line, which may be refused; by a list of lines
 unfoldable pub amounts_after_line : Forests → Line → List ℕ → List ℕ
-amounts_after_line s (Yields c) amounts = cond (eqb (refusal s c) 0) (amounts_after_call s c amounts) amounts
-amounts_after_line s NoCall amounts = amounts
+amounts_after_line s (Some c) amounts = cond (eqb (refusal s c) 0) (amounts_after_call s c amounts) amounts
+amounts_after_line s None amounts = amounts
 
 unfoldable pub amounts_after : Forests → List Line → List ℕ → List ℕ
 amounts_after s [] amounts = amounts

@@ -1,11 +1,10 @@
 -- What is proved of the rules. Each statement is a type; its proof is in proofs/, under the same name in lower case.
 -- The ledger (demand 3) has a file of its own.
-use Rattle.std.specs.Prelude.{ℕ, suc, ◌+◌, ◌%◌, ◌≤◌, ◌<◌, ◌≡◌, ◌≢◌, List, [], ◌∷◌, map, true, length}
+use Rattle.std.specs.Prelude.{ℕ, suc, ◌+◌, ◌%◌, ◌≤◌, ◌<◌, ◌≡◌, ◌≢◌, List, [], ◌∷◌, map, true, length, Some, None}
 use Rattle.rules.specs.declared.Call.{Call}
 use Rattle.rules.specs.declared.Call.TheVariants.{Insert, FindMin, ExtractMin, DecreaseKey, Delete, Meld, Raise}
 use Rattle.rules.specs.declared.Layout.{Layout}
-use Rattle.rules.specs.declared.Line.{Line}
-use Rattle.rules.specs.declared.Line.TheVariants.{Yields, NoCall}
+use Rattle.rules.specs.Lines.{Line}
 use Rattle.rules.specs.Lists.{sum_to}
 use Rattle.rules.specs.Forests.{
   Forests,
@@ -36,14 +35,14 @@ EmptyWellFormed = (n : ℕ) → n ≤ 4096 → WellFormed (empty n)
 -- A line's numbers are at most 4,294,967,295. Of these only an inserted key is kept; it may be lowered, and a raise
 -- that would carry it too far is refused.
 unfoldable pub InRange : Line → Type 0
-InRange (Yields (Insert h i k)) = k < 4294967296
-InRange (Yields (FindMin h)) = Unit {0}
-InRange (Yields (ExtractMin h)) = Unit {0}
-InRange (Yields (DecreaseKey i k)) = Unit {0}
-InRange (Yields (Delete i)) = Unit {0}
-InRange (Yields (Meld a b)) = Unit {0}
-InRange (Yields (Raise h d)) = Unit {0}
-InRange NoCall = Unit {0}
+InRange (Some (Insert h i k)) = k < 4294967296
+InRange (Some (FindMin h)) = Unit {0}
+InRange (Some (ExtractMin h)) = Unit {0}
+InRange (Some (DecreaseKey i k)) = Unit {0}
+InRange (Some (Delete i)) = Unit {0}
+InRange (Some (Meld a b)) = Unit {0}
+InRange (Some (Raise h d)) = Unit {0}
+InRange None = Unit {0}
 
 -- each line of a list is
 abbrev pub AllInRange : List Line → Type 0
@@ -102,7 +101,7 @@ Rising least (r ∷ rs) = (least ≤ r) × Rising (suc r) rs
 abbrev pub RanksRise : Type 0
 RanksRise =
     (s : Forests) → WellFormed s → (h : ℕ) → refusal s (ExtractMin h) ≡ 0 →
-    let t : Forests = (answer s (Yields (ExtractMin h))).next in
+    let t : Forests = (answer s (Some (ExtractMin h))).next in
     Rising 0 (map (rank_of t) (row_of t h))
 
 -- The minimum of a heap that is not empty is the one item of it that comes before all others of it.

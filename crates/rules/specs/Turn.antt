@@ -5,7 +5,7 @@ use Rattle.std.specs.Prelude.{ℕ, ◌≡◌, ◌↔◌, List, [], ◌∷◌, tr
 use Rattle.rules.specs.declared.Answer.{Answer}
 use Rattle.rules.specs.declared.Layout.{Layout}
 use Rattle.rules.specs.declared.Layout.TheVariants.{ByItem, ByKind}
-use Rattle.rules.specs.declared.Line.{Line}
+use Rattle.rules.specs.Lines.{Line}
 use Rattle.rules.specs.Answers.{answer, answers}
 use Rattle.rules.specs.Queues.{Queues, after_line, after_lines}
 use Rattle.rules.specs.Theorems.{AllInRange}

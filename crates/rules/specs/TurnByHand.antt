@@ -1,10 +1,9 @@
 -- A store for three items in both orders, written out: what `I,0,0,1`, `I,0,1,5`, `I,0,2,3`, `T,0` and `A,0,10` leave.
 -- Item 0 was taken; 1 stands under 2; the keys are 15 and 13, and their words 5 and 3.
-use Rattle.std.specs.Prelude.{ℕ, ◌≡◌, List, [], ◌∷◌, ◌++◌}
+use Rattle.std.specs.Prelude.{ℕ, ◌≡◌, List, [], ◌∷◌, ◌++◌, Some, None}
 use Rattle.rules.specs.declared.Call.TheVariants.{Insert, ExtractMin, Raise, DecreaseKey}
 use Rattle.rules.specs.declared.Layout.TheVariants.{ByItem, ByKind}
-use Rattle.rules.specs.declared.Line.{Line}
-use Rattle.rules.specs.declared.Line.TheVariants.{Yields, NoCall}
+use Rattle.rules.specs.Lines.{Line}
 use Rattle.rules.specs.Forests.{none}
 use Rattle.rules.specs.Queues.{empty_queues, after_lines}
 use Rattle.rules.specs.Turn.{turn, turn_back, line_on}
@@ -12,8 +11,8 @@ use Rattle.rules.specs.Words.{encode_in}
 
 unfoldable pub lines_turned : List Line
 lines_turned =
-    Yields (Insert 0 0 1) ∷ Yields (Insert 0 1 5) ∷ Yields (Insert 0 2 3) ∷ Yields (ExtractMin 0)
-    ∷ Yields (Raise 0 10) ∷ []
+    Some (Insert 0 0 1) ∷ Some (Insert 0 1 5) ∷ Some (Insert 0 2 3) ∷ Some (ExtractMin 0)
+    ∷ Some (Raise 0 10) ∷ []
 
 -- the words of seven empty heaps, and before them those of heap 0, which come first in both orders
 unfoldable pub empty_heap_words : List ℕ
@@ -59,6 +58,6 @@ pub record TurnWorked : Type 0 where
   pub turned : turn old_words ≡ new_words
   pub back : turn_back new_words ≡ old_words
   -- a line on words of either order, done and refused
-  pub cut_new : (line_on ByItem new_words (Yields (DecreaseKey 1 4))).words ≡ new_cut
-  pub cut_old : turn (line_on ByKind old_words (Yields (DecreaseKey 1 4))).words ≡ new_cut
-  pub kept : (line_on ByKind old_words NoCall).words ≡ old_words
+  pub cut_new : (line_on ByItem new_words (Some (DecreaseKey 1 4))).words ≡ new_cut
+  pub cut_old : turn (line_on ByKind old_words (Some (DecreaseKey 1 4))).words ≡ new_cut
+  pub kept : (line_on ByKind old_words None).words ≡ old_words

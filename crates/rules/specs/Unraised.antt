@@ -1,12 +1,11 @@
 -- Where no heap is raised nothing else has changed. By kind, which is their order in the base, the words are those of
 -- the base with a 0 after each heap's four; and lines without A keep all amounts 0. That they are answered as before is
 -- `SameAsBase`.
-use Rattle.std.specs.Prelude.{ℕ, ◌+◌, ◌*◌, ◌≡◌, Bool, true, false, length}
+use Rattle.std.specs.Prelude.{ℕ, ◌+◌, ◌*◌, ◌≡◌, Bool, true, false, length, Some, None}
 use mathlib.Core.List.{List, [], ◌∷◌, ◌++◌, map, flatten}
 use Rattle.rules.specs.declared.Call.TheVariants.{Insert, FindMin, ExtractMin, DecreaseKey, Delete, Meld, Raise}
 use Rattle.rules.specs.declared.Layout.TheVariants.{ByKind}
-use Rattle.rules.specs.declared.Line.{Line}
-use Rattle.rules.specs.declared.Line.TheVariants.{Yields, NoCall}
+use Rattle.rules.specs.Lines.{Line}
 use Rattle.rules.specs.Lists.{tabulate}
 use Rattle.rules.specs.Forests.{
   Forests,
@@ -69,14 +68,14 @@ pub record UnraisedWords : Type 0 where
 -- ---- lines without A
 
 unfoldable pub is_raise : Line → Bool
-is_raise (Yields (Insert h i k)) = false
-is_raise (Yields (FindMin h)) = false
-is_raise (Yields (ExtractMin h)) = false
-is_raise (Yields (DecreaseKey i k)) = false
-is_raise (Yields (Delete i)) = false
-is_raise (Yields (Meld a b)) = false
-is_raise (Yields (Raise h d)) = true
-is_raise NoCall = false
+is_raise (Some (Insert h i k)) = false
+is_raise (Some (FindMin h)) = false
+is_raise (Some (ExtractMin h)) = false
+is_raise (Some (DecreaseKey i k)) = false
+is_raise (Some (Delete i)) = false
+is_raise (Some (Meld a b)) = false
+is_raise (Some (Raise h d)) = true
+is_raise None = false
 
 abbrev pub WithoutRaise : List Line → Type 0
 WithoutRaise [] = Unit {0}

@@ -2,7 +2,7 @@
 use Rattle.std.specs.Prelude.{ℕ, suc, List, [], ◌∷◌, cond, take, eqb}
 use Rattle.rules.specs.declared.Answer.{Answer}
 use Rattle.rules.specs.declared.Field.TheVariants.{Amount, Key}
-use Rattle.rules.specs.declared.Line.{Line}
+use Rattle.rules.specs.Lines.{Line}
 use Rattle.rules.specs.Lists.{tabulate}
 use Rattle.rules.specs.Forests.{empty, row_of, potential}
 use Rattle.rules.specs.Answers.{is_empty, answers, after}

@@ -2,6 +2,8 @@
 #![tactic(auto)]
 
 ghost use Rattle.std.specs.Prelude.{◌≡◌, ◌+◌, ◌<◌, ◌≤◌};
+ghost use Rattle.rules.specs.Refusals.{code};
+ghost use Rattle.rules.specs.Answers.{refused_reply};
 
 // A call on the queues: one of seven kinds, each with its own numbers.
 #[derive(Clone, Copy)]
@@ -15,13 +17,6 @@ pub enum Call {
     Raise { heap: u32, by: u32 },
 }
 
-// A line of a sheet: the call that it yields, or that it yields none and is refused.
-#[derive(Clone, Copy)]
-pub enum Line {
-    Yields(Call),
-    NoCall,
-}
-
 // What a line is answered. A refused line has its code and four zeros.
 #[derive(Clone, Copy)]
 pub struct Answer {
@@ -30,6 +25,60 @@ pub struct Answer {
     pub key: u32,
     pub links: u32,
     pub cuts: u32,
+}
+
+impl Answer {
+    // The answer to a line that is refused.
+    pub fn refused(refusal: Refusal) -> Answer
+        ensures { result ≡ refused_reply (code refusal) }
+    {
+        Answer {
+            code: refusal.code(),
+            item: 0,
+            key: 0,
+            links: 0,
+            cuts: 0,
+        }
+    }
+}
+
+// Why a line, a run, a feed call or a map is refused. The papers number the reasons; 0 is a call that is done.
+#[derive(Clone, Copy, Debug, PartialEq, Eq)]
+pub enum Refusal {
+    StoreSize = 1,
+    SheetLength = 2,
+    LineCount = 3,
+    OutputLength = 4,
+    UnsoundStore = 5,
+    NoCall = 6,
+    NoSuchHeap = 7,
+    NoSuchItem = 8,
+    ItemInHeap = 9,
+    ItemFree = 10,
+    LargerKey = 11,
+    EmptyHeap = 12,
+    SameHeap = 13,
+    PlaceCount = 14,
+    StartPlace = 15,
+    SpanLists = 16,
+    ResultLists = 17,
+    SpanEnds = 18,
+    SpanLoss = 19,
+    SpanOrder = 20,
+    MalformedMap = 21,
+    PlaceList = 22,
+    SupplyWindow = 23,
+    Minute = 24,
+    KeyOverflow = 25,
+}
+
+impl Refusal {
+    // The number that the papers give it.
+    pub fn code(self) -> u32
+        ensures { result ≡ code self }
+    {
+        self as u32
+    }
 }
 
 // The kinds of words in a store: five to a heap, eight to an item.

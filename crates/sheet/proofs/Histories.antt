@@ -4,7 +4,7 @@ use mathlib.Core.Path.{◌≡◌, refl, sym, ap, ◌∙◌}
 use mathlib.Core.List.{List, [], ◌∷◌, ◌++◌, append_assoc}
 use lib.ListN.{length, take}
 use lib.Seq.{take-append_seam}
-use Rattle.rules.specs.declared.Line.{Line}
+use Rattle.rules.specs.Lines.{Line}
 use Rattle.rules.specs.Answers.{after, answers}
 use Rattle.rules.specs.Forests.{Forests}
 use Rattle.rules.specs.Queues.{after_lines, amounts_after}

@@ -3,7 +3,7 @@ use Prim.Native.Nat.{ℕ}
 use mathlib.Core.Path.{◌≡◌, refl, sym, ap, ◌∙◌}
 use mathlib.Core.List.{List}
 use Rattle.rules.specs.declared.Layout.TheVariants.{ByItem, ByKind}
-use Rattle.rules.specs.declared.Line.{Line}
+use Rattle.rules.specs.Lines.{Line}
 use Rattle.rules.specs.Answers.{answers}
 use Rattle.rules.specs.Queues.{after_lines}
 use Rattle.rules.specs.Turn.{turn, replies_on, words_on}

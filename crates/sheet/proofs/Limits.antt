@@ -1,5 +1,5 @@
 -- The codes 1 to 4, by the conditions in the table's order, and what a run within the limits has.
-use Prim.Native.Nat.{ℕ, suc, ◌*◌, ◌<◌, ◌≤◌}
+use Prim.Native.Nat.{ℕ, ◌*◌, ◌<◌, ◌≤◌}
 use mathlib.Core.Path.{◌≡◌, refl, sym, ◌∙◌}
 use mathlib.Core.List.{List}
 use mathlib.Core.Bool.{Bool, true, false, cond, not}
@@ -14,7 +14,9 @@ use Rattle.store.proofs.Sizes.{store_sized}
 use Rattle.text.specs.Lines.{lines}
 use Rattle.text.proofs.Cases.{by_cond}
 use Rattle.lines.proofs.LinesOf.{lines-length}
-use Rattle.sheet.specs.declared.Checked.{Checked}
+use Rattle.std.specs.Prelude.{Ok, Err}
+use Rattle.rules.specs.declared.Refusal.{Refusal}
+use Rattle.rules.specs.Refusals.{code, code_of}
 use Rattle.sheet.specs.Promises.{Limited}
 use Rattle.sheet.specs.Runs.{limit_code}
 
@@ -59,14 +61,10 @@ limit_le store sheet out =
 
 -- ---- the codes
 
-pub met : {store sheet out : List ℕ} {l : Checked} (k : ℕ) → limit_code store sheet out ≡ suc k → l.code ≡ suc k
-    → Limited store sheet out l
-met k e q =
-    record {
-      code = q ∙ sym e;
-      items = λ z. absurd (omega (arith, q, z));
-      lines = λ z. absurd (omega (arith, q, z));
-    }
+-- a condition that is met
+pub met : {store sheet out : List ℕ} {e : Refusal} → limit_code store sheet out ≡ code e → Limited store sheet out (Err e)
+unfolding code_of
+met q = record { code = sym q; items = tt; lines = tt }
 
 module _ (store sheet out : List ℕ) where
   pub code_1 : is_store store ≡ false → limit_code store sheet out ≡ 1
@@ -96,12 +94,12 @@ module _ (store sheet out : List ℕ) where
             rw a (simp (le-ltb _ _ b, le-ltb _ _ few_lines, lt-ltb _ _ r'))
 
         pub none_met : 32 * n ≤ length out → {k : ℕ} → k ≡ items_in store
-            → Limited store sheet out (record { code = 0; items = k; lines = n })
-        unfolding limit_code
+            → Limited store sheet out (Ok (record { items = k; lines = n }))
+        unfolding limit_code code_of
         none_met r q =
             let r' : 32 * length (lines sheet) ≤ length out = omega arith in
             record {
-              code = rw a (simp (le-ltb _ _ b, le-ltb _ _ few_lines, le-ltb _ _ r'));
-              items = λ z. q;
-              lines = λ z. p ∙ sym (lines-length sheet);
+              code = sym (rw a (simp (le-ltb _ _ b, le-ltb _ _ few_lines, le-ltb _ _ r')));
+              items = q;
+              lines = p ∙ sym (lines-length sheet);
             }

@@ -6,7 +6,7 @@ use mathlib.Core.Bool.{true}
 use native.Mathlib.Omega.{arith}
 use lib.ListN.{length, take, length-append}
 use lib.Seq.{sets, sets-eq, take-append_seam}
-use Rattle.rules.specs.declared.Line.{Line}
+use Rattle.rules.specs.Lines.{Line}
 use Rattle.rules.specs.Answers.{after, answers}
 use Rattle.rules.specs.Forests.{Forests}
 use Rattle.rules.specs.Queues.{Queues, empty_queues, after_lines}

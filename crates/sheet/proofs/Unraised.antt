@@ -2,7 +2,7 @@
 use mathlib.Core.Path.{◌≡◌, sym, ap, ◌∙◌}
 use mathlib.Core.List.{List}
 use Prim.Native.Nat.{ℕ}
-use Rattle.rules.specs.declared.Line.{Line}
+use Rattle.rules.specs.Lines.{Line}
 use Rattle.rules.specs.Forests.{Forests, empty}
 use Rattle.rules.specs.Answers.{after}
 use Rattle.rules.specs.Queues.{unraised, after_lines}

@@ -1,6 +1,6 @@
 -- Kept runs one after the other, each on the words that the last one left: the warm restarts.
 use Rattle.std.specs.Prelude.{ℕ, zero, suc, List, [], ◌∷◌, ◌++◌, take}
-use Rattle.rules.specs.declared.Line.{Line}
+use Rattle.rules.specs.Lines.{Line}
 use Rattle.rules.specs.Answers.{after}
 use Rattle.rules.specs.Forests.{Forests}
 use Rattle.lines.specs.Parse.{lines_of}

@@ -1,6 +1,8 @@
 -- What the inner functions of a run ask of the store and of the output, and what they promise.
-use Rattle.std.specs.Prelude.{ℕ, ◌+◌, ◌*◌, ◌≤◌, ◌≡◌, List, length}
-use Rattle.rules.specs.declared.Line.{Line}
+use Rattle.std.specs.Prelude.{ℕ, ◌+◌, ◌*◌, ◌≤◌, ◌≡◌, List, length, Result, IfOk}
+use Rattle.rules.specs.Lines.{Line}
+use Rattle.rules.specs.declared.Refusal.{Refusal}
+use Rattle.rules.specs.Refusals.{code_of}
 use Rattle.rules.specs.Answers.{answer, answers}
 use Rattle.rules.specs.Queues.{after_line, after_lines}
 use Rattle.rules.specs.Theorems.{InRange}
@@ -9,8 +11,7 @@ use Rattle.text.specs.Lines.{lines}
 use Rattle.text.specs.Output.{Wrote}
 use Rattle.lines.specs.Parse.{lines_of}
 use Rattle.lines.specs.Print.{answer_row, printed}
-use Rattle.sheet.specs.declared.Checked.{Checked}
-use Rattle.sheet.specs.declared.Ran.{Ran}
+use Rattle.sheet.specs.declared.Within.{Within}
 use Rattle.sheet.specs.Runs.{limit_code}
 
 -- a sound store, room for a line of output, and a call whose numbers are words
@@ -34,14 +35,8 @@ pub record RanLines (w sheet out : List ℕ) (r : ℕ) (w' out' : List ℕ) : Ty
   pub words : w' ≡ encode (after_lines (queues_of w) (lines_of sheet))
   pub wrote : Wrote out 0 (printed (answers (forests_of w) (lines_of sheet))) out' r
 
--- the first of the codes 1 to 4 whose condition is met; 0, and then the number of items and the number of lines
-pub record Limited (store sheet out : List ℕ) (l : Checked) : Type 0 where
-  pub code : l.code ≡ limit_code store sheet out
-  pub items : l.code ≡ 0 → l.items ≡ items_in store
-  pub lines : l.code ≡ 0 → l.lines ≡ length (lines_of sheet)
-
--- the code of a refusal, and two zeros
-pub record Refuses (code : ℕ) (r : Ran) : Type 0 where
-  pub same_code : r.code ≡ code
-  pub no_lines : r.lines ≡ 0
-  pub no_bytes : r.bytes ≡ 0
+-- the first of the codes 1 to 4 whose condition is met; where none is, the number of items and the number of lines
+pub record Limited (store sheet out : List ℕ) (l : Result Within Refusal) : Type 0 where
+  pub code : code_of l ≡ limit_code store sheet out
+  pub items : IfOk l (λ w. w.items ≡ items_in store)
+  pub lines : IfOk l (λ w. w.lines ≡ length (lines_of sheet))

@@ -1,8 +1,10 @@
 -- A run of a sheet on a store, fresh or kept: result, store and output as one total function of what was lent
 -- (scope paper, Sheet, and Codes 1 to 5).
-use Rattle.std.specs.Prelude.{ℕ, zero, suc, ◌*◌, ◌≡◌, List, cond, not, length, ltb}
+use Rattle.std.specs.Prelude.{ℕ, zero, suc, ◌*◌, ◌≡◌, List, cond, not, length, ltb, Result, Ok, Err}
 use Rattle.std.proofs.lemmas.List.Edits.{sets}
-use Rattle.rules.specs.declared.Line.{Line}
+use Rattle.rules.specs.Lines.{Line}
+use Rattle.rules.specs.declared.Refusal.{Refusal}
+use Rattle.rules.specs.Refusals.{code_of}
 use Rattle.rules.specs.Answers.{answers}
 use Rattle.rules.specs.Queues.{Queues, empty_queues, after_lines}
 use Rattle.rules.specs.Words.{items_in, is_store, encode, queues_of}
@@ -59,10 +61,19 @@ kept_run store sheet out =
     unless_limit (limit_code store sheet out) store out
     (cond (not (sound_words store)) (refused_run 5 store out) (done_run (queues_of store) (lines_of sheet) out))
 
+-- the lines answered and the bytes written, 0 after a refusal
+unfoldable pub lines_done : Result Ran Refusal → ℕ
+lines_done (Ok r) = r.lines
+lines_done (Err e) = 0
+
+unfoldable pub bytes_done : Result Ran Refusal → ℕ
+bytes_done (Ok r) = r.bytes
+bytes_done (Err e) = 0
+
 -- A run that answers r and leaves these words and these bytes did all that the definition says.
-pub record Leaves (run : Run) (r : Ran) (store out : List ℕ) : Type 0 where
-  pub same_code : r.code ≡ run.code
-  pub same_lines : r.lines ≡ run.lines
-  pub same_bytes : r.bytes ≡ run.bytes
+pub record Leaves (run : Run) (r : Result Ran Refusal) (store out : List ℕ) : Type 0 where
+  pub same_code : code_of r ≡ run.code
+  pub same_lines : lines_done r ≡ run.lines
+  pub same_bytes : bytes_done r ≡ run.bytes
   pub same_store : store ≡ run.store
   pub same_out : out ≡ run.out

@@ -1,7 +1,7 @@
 -- Where no heap is raised and no line is A, runs are those of the base, before change request 6.
 use Rattle.std.specs.Prelude.{◌≡◌, List, ℕ, length}
 use Rattle.std.proofs.lemmas.List.Edits.{sets}
-use Rattle.rules.specs.declared.Line.{Line}
+use Rattle.rules.specs.Lines.{Line}
 use Rattle.rules.specs.Forests.{Forests, empty}
 use Rattle.rules.specs.WellFormed.{WellFormed}
 use Rattle.rules.specs.Words.{items_in}

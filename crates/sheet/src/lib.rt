@@ -1,46 +1,38 @@
 // Sheets of queue calls: each line is read and answered, in fresh and in kept runs.
 #![tactic(auto)]
 
-ghost use Rattle.std.specs.Prelude.{◌≡◌};
-ghost use Rattle.sheet.specs.Promises.{Answerable, Answered, Runnable, RanLines, Limited, Refuses};
-ghost use Rattle.sheet.specs.Runs.{fresh_run, kept_run, Leaves};
+ghost use Rattle.std.specs.Prelude.{◌≡◌, ◌≤◌, [], ◌∷◌, length};
+ghost use Rattle.lines.specs.Parse.{lines_of};
+ghost use Rattle.sheet.specs.Promises.{Answerable, Answered, Runnable, RanLines, Limited};
+ghost use Rattle.sheet.specs.Runs.{fresh_run, kept_run, lines_done, bytes_done, Leaves};
 
 use audit::sound;
 use heap::perform::perform;
 use lines::answers::put_answer;
-use lines::reader::{NextLine, read_line};
-use rules::{Answer, Line, Tally};
+use lines::reader::lines_in;
+use rules::{Answer, Call, Layout, Refusal, Tally};
 use store::{is_store, items_of, make_empty};
 
 // ---- the lines of a sheet
 
 // Answers a line on a sound store: writes the answer from `at` on, and returns the position after it.
-fn answer_line(store: &mut [u32], out: &mut [u8], at: usize, line: Line) -> usize
+fn answer_line(store: &mut [u32], out: &mut [u8], at: usize, line: Option<Call>) -> usize
     requires { Answerable store.old out.old at line }
     ensures { Answered store.old out.old at line result
         store.new out.new }
 {
-    let Line::Yields(call) = line else {
-        return put_answer(
-            out,
-            at,
-            Answer {
-                code: 6,
-                item: 0,
-                key: 0,
-                links: 0,
-                cuts: 0,
-            },
-        );
+    let Some(call) = line else {
+        return put_answer(out, at, Answer::refused(Refusal::NoCall));
     };
-    let reply = perform(store, call, Tally { links: 0, cuts: 0 });
-    let tally = reply.tally;
-    let answer = Answer {
-        code: reply.code,
-        item: reply.item,
-        key: reply.key,
-        links: tally.links,
-        cuts: tally.cuts,
+    let answer = match perform(store, call, Tally { links: 0, cuts: 0 }) {
+        Ok(reply) => Answer {
+            code: 0,
+            item: reply.item,
+            key: reply.key,
+            links: reply.tally.links,
+            cuts: reply.tally.cuts,
+        },
+        Err(refusal) => Answer::refused(refusal),
     };
     put_answer(out, at, answer)
 }
@@ -51,118 +43,95 @@ fn run_lines(store: &mut [u32], sheet: &[u8], out: &mut [u8]) -> usize
     ensures { RanLines store.old sheet.now out.old result
         store.new out.new }
 {
-    let mut at = 0;
     let mut to = 0;
-    loop {
-        let NextLine::Found(line, end) = read_line(sheet, at) else {
-            break;
-        };
+    for line in lines_in(sheet) {
         to = answer_line(store, out, to, line);
-        at = end + 1;
     }
     to
 }
 
 // ---- runs
 
-// What a run answers: its code, 0 if it is done, the lines answered and the bytes written; two zeros after a refusal.
+// What a run that is done answers: the lines answered and the bytes written.
 #[derive(Clone, Copy)]
 pub struct Ran {
-    pub code: u8,
     pub lines: u32,
     pub bytes: u32,
 }
 
-// The first of the codes 1 to 4 whose condition is met; else 0, the items of the store and the lines of the sheet.
+// The lines answered and the bytes written, two zeros after a refusal: what a host gets beside the code.
+pub fn figures(ran: Result<Ran, Refusal>) -> [u32; 2]
+    ensures { result ≡ lines_done ran ∷ bytes_done ran ∷ [] }
+{
+    match ran {
+        Ok(ran) => [ran.lines, ran.bytes],
+        Err(_) => [0, 0],
+    }
+}
+
+// The items of a store and the lines of a sheet that are within the limits.
 #[derive(Clone, Copy)]
-struct Checked {
-    code: u8,
+struct Within {
     items: usize,
     lines: u32,
 }
 
-// Beyond a limit only the code counts.
-fn beyond(code: u8) -> Checked
-    ensures { result.code ≡ code }
-{
-    Checked {
-        code,
-        items: 0,
-        lines: 0,
-    }
-}
-
-fn check_limits(store: &[u32], sheet: &[u8], out: &[u8]) -> Checked
+// The first of the refusals 1 to 4 whose condition is met.
+fn check_limits(store: &[u32], sheet: &[u8], out: &[u8]) -> Result<Within, Refusal>
     ensures { Limited store.now sheet.now out.now result }
 {
     if !is_store(store) {
-        return beyond(1);
+        return Err(Refusal::StoreSize);
     }
     if sheet.len() > 60000 {
-        return beyond(2);
+        return Err(Refusal::SheetLength);
     }
     let lines = text::line_count(sheet);
     if lines > 2000 {
-        return beyond(3);
+        return Err(Refusal::LineCount);
     }
     if out.len() < 32 * lines {
-        return beyond(4);
+        return Err(Refusal::OutputLength);
     }
-    let items = items_of(store);
-    Checked {
-        code: 0,
-        items,
+    Ok(Within {
+        items: items_of(store),
         lines: lines as u32,
-    }
+    })
 }
 
-// A run that is refused under a code.
-fn refused_run(code: u8) -> Ran
-    ensures { Refuses code result }
+// Answers the lines of a sheet within the limits on a sound store.
+fn run_within(store: &mut [u32], sheet: &[u8], out: &mut [u8], lines: u32) -> Ran
+    requires runnable { Runnable store.old sheet.now out.old }
+    requires few { length (lines_of sheet.now) ≤ 2000 }
+    ensures same { result.lines ≡ lines }
+    ensures ran { RanLines store.old sheet.now out.old result.bytes
+        store.new out.new }
 {
+    let bytes = run_lines(store, sheet, out);
     Ran {
-        code,
-        lines: 0,
-        bytes: 0,
+        lines,
+        bytes: bytes as u32,
     }
 }
 
 // Runs a sheet on the store made empty.
-pub fn run_fresh(store: &mut [u32], sheet: &[u8], out: &mut [u8]) -> Ran
+pub fn run_fresh(store: &mut [u32], sheet: &[u8], out: &mut [u8]) -> Result<Ran, Refusal>
     ensures { Leaves (fresh_run store.old sheet.now out.old) result
         store.new out.new }
 {
-    let within = check_limits(store, sheet, out);
-    let code = within.code;
-    if code != 0 {
-        return refused_run(code);
-    }
+    let within = check_limits(store, sheet, out)?;
     make_empty(store, within.items);
-    let bytes = run_lines(store, sheet, out);
-    Ran {
-        code: 0,
-        lines: within.lines,
-        bytes: bytes as u32,
-    }
+    Ok(run_within(store, sheet, out, within.lines))
 }
 
 // Runs a sheet on the store as it is.
-pub fn run_kept(store: &mut [u32], sheet: &[u8], out: &mut [u8]) -> Ran
+pub fn run_kept(store: &mut [u32], sheet: &[u8], out: &mut [u8]) -> Result<Ran, Refusal>
     ensures { Leaves (kept_run store.old sheet.now out.old) result
         store.new out.new }
 {
-    let within = check_limits(store, sheet, out);
-    let code = within.code;
-    if code != 0 {
-        return refused_run(code);
+    let within = check_limits(store, sheet, out)?;
+    if !sound(store, Layout::ByItem) {
+        return Err(Refusal::UnsoundStore);
     }
-    if !sound(store) {
-        return refused_run(5);
-    }
-    let bytes = run_lines(store, sheet, out);
-    Ran {
-        code: 0,
-        lines: within.lines,
-        bytes: bytes as u32,
-    }
+    Ok(run_within(store, sheet, out, within.lines))
 }

@@ -1,21 +1,14 @@
 -- Tests that are joined by `and`, and tests of all numbers below n.
 use Prim.Native.Nat.{ℕ, zero, suc, ◌<◌}
-use mathlib.Core.Path.{◌≡◌, refl, sym, ap, ◌∙◌}
+use mathlib.Core.Path.{◌≡◌, refl, ap, ◌∙◌}
 use mathlib.Core.Logic.{◌≢◌}
-use mathlib.Core.Bool.{Bool, true, false, not}
+use mathlib.Core.Bool.{Bool, true, false}
 use native.Mathlib.Nat.{le_refl}
 use native.Mathlib.Omega.{arith}
 use lib.Dec.{eqb}
-use borrow.Author.Tests.{eqb-true, eqb-false, not-true, not-false}
+use borrow.Author.Tests.{eqb-true, eqb-false}
 use Rattle.rules.proofs.Occurs.{and_split}
 use Rattle.soundness.specs.Check.{all_to}
-
--- what a function answered of a test, and the code then asked of the answer
-pub told_false : (r t : Bool) → r ≡ t → not r ≡ true → t ≡ false
-told_false r t e f = sym e ∙ not-true r f
-
-pub told_true : (r t : Bool) → r ≡ t → not r ≡ false → t ≡ true
-told_true r t e f = sym e ∙ not-false r f
 
 pub all_to-at : (n : ℕ) (f : ℕ → Bool) → all_to n f ≡ true → (i : ℕ) → i < n → f i ≡ true
 unfolding all_to

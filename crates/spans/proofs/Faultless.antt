@@ -1,9 +1,8 @@
 -- Whether a span is faulty, by the code of its faults, and whether one of those below a number is.
-use Prim.Native.Nat.{ℕ, ◌+◌, ◌≤◌}
+use Prim.Native.Nat.{ℕ, ◌+◌}
 use mathlib.Core.Path.{◌≡◌, refl}
 use mathlib.Core.Bool.{Bool, true, false, cond, not, ◌||◌}
 use native.Mathlib.Numerals.{add-one}
-use native.Mathlib.Omega.{arith}
 use lib.ListN.{get_or}
 use lib.Dec.{eqb}
 use Rattle.paths.specs.Map.{SpanLists, Windows, at_minute}
@@ -49,9 +48,3 @@ module _ (places : ℕ) (l : SpanLists) (w : Windows) (minute : ℕ) where
       → (t || f) ≡ not (eqb (code (e + 1)) 0)
   unfolding code_below span_code supply_fault
   faulty_next e before t f qt qb qf = rw (add-one, qt, qf, qb) (either (code e) _)
-
-  -- all are looked at
-  pub none_faulty : (e k : ℕ) (t : Bool) → t ≡ not (eqb (code e) 0) → e ≤ k → k ≤ e → not t ≡ eqb (code k) 0
-  none_faulty e k t qt i j =
-      let q : k ≡ e = omega arith in
-      rw (q, qt) (not_twice (eqb (code e) 0))

@@ -1,3 +1,4 @@
+pub mod Refused
 pub mod SpansCode
 pub mod Faultless
 pub mod FeedCodes

@@ -1,5 +1,5 @@
 -- The code of the spans, found by a loop over them: one law for each turn, and for each way out.
-use Prim.Native.Nat.{ℕ, zero, suc, ◌+◌, ◌-◌, ◌≤◌, ◌<◌}
+use Prim.Native.Nat.{ℕ, zero, suc, ◌+◌, ◌-◌, ◌<◌}
 use mathlib.Core.Path.{◌≡◌, sym, ap, ◌∙◌}
 use mathlib.Core.Logic.{◌≢◌}
 use mathlib.Core.List.{List}
@@ -23,23 +23,27 @@ module _ (places : ℕ) (l : SpanLists) (w : Windows) (minute : ℕ) where
       let ih = code_stays k d j (omega arith) z in
       rw (ne_eqb (code j) 0 (λ e. z (sym ih ∙ e))) ih
 
-  -- One turn of a loop: the spans below e are not faulty, and c is the code of span e.
-  module _
-      (e before ends window c : ℕ) (z : code e ≡ 0) (qb : before ≡ previous l.from e)
-      (qe : ends ≡ fault places (get_or l.from e 0) (get_or l.to e 0) (get_or l.loss e 0) before)
-      (qw : window ≡ window_fault (get_or w.opens e 0) (get_or w.closes e 0)) (r : c ≡ first_code ends window) where
-    turn_code : code (suc e) ≡ c
-    unfolding code_below span_code supply_fault
-    turn_code = rw (z, sym qb, sym qe, sym qw) (sym r)
+  -- One turn of a loop: no span below e is faulty, and c is the code of span e.
+  module _ (e : ℕ) (z : code e ≡ 0) where
+    turn_code : code (suc e) ≡ span_code places l (at_minute minute w) e
+    unfolding code_below
+    turn_code = rw z
 
-    pub loop_on : c ≡ 0 → code (e + 1) ≡ 0
-    loop_on w = rw add-one (turn_code ∙ w)
+    -- what the code finds of span e, from which `before` is the span before it
+    module _
+        (before c : ℕ) (qb : before ≡ previous l.from e)
+        (r : c
+        ≡ first_code (fault places (get_or l.from e 0) (get_or l.to e 0) (get_or l.loss e 0) before)
+        (window_fault (get_or w.opens e 0) (get_or w.closes e 0))) where
+      found : code (suc e) ≡ c
+      unfolding span_code supply_fault
+      found = turn_code ∙ rw (sym qb, sym r)
 
-    pub loop_out : (k : ℕ) → e < k → c ≢ 0 → c ≡ code k
-    loop_out k h x = sym (code_stays (suc e) (k - suc e) k (omega arith) (λ w. x (sym turn_code ∙ w)) ∙ turn_code)
+      pub loop_on : c ≡ 0 → code (e + 1) ≡ 0
+      loop_on w = rw add-one (found ∙ w)
 
-  pub loop_ends : (e k : ℕ) → code e ≡ 0 → e ≤ k → k ≤ e → 0 ≡ code k
-  loop_ends e k z i j = let q : k ≡ e = omega arith in rw q (sym z)
+      pub loop_out : (k : ℕ) → e < k → c ≢ 0 → c ≡ code k
+      loop_out k h x = sym (code_stays (suc e) (k - suc e) k (omega arith) (λ w. x (sym found ∙ w)) ∙ found)
 
 pub previous-next : (from : List ℕ) (e : ℕ) → get_or from e 0 ≡ previous from (e + 1)
 unfolding previous

@@ -11,11 +11,9 @@ fn pass_spans(from: &[u32], u: u32, first: usize) -> usize
     requires first_span { FirstSpan from.now u first }
     ensures { FirstSpan from.now (u + 1) result }
 {
+    // No `for` with a return in it: with that, `feed_budget` of budget 0 takes 4 hundredths longer.
     let mut e = first;
-    while e < from.len() {
-        if u < from[e] {
-            return e;
-        }
+    while e < from.len() && from[e] <= u {
         e += 1;
     }
     e
@@ -27,11 +25,9 @@ pub fn index_spans(places: u32, from: &[u32], index: &mut Index)
     ensures { IsIndex places from.now index.new }
 {
     index[0] = 0;
-    let mut u = 0;
     let mut e = 0;
-    while u < places {
+    for u in 0..places {
         e = pass_spans(from, u, e);
-        u += 1;
-        index[u as usize] = e as u32;
+        index[u as usize + 1] = e as u32;
     }
 }

@@ -1,42 +1,40 @@
-// The codes of a feed call, in the order in which they are tested.
-ghost use Rattle.std.specs.Prelude.{◌≡◌, cond, not, ◌&&◌, ◌||◌, ℕ, ◌≤◌, eqb, ltb, leb};
-ghost use Rattle.paths.specs.Map.{span_lists, windows, at_minute, map_at, last_minute};
-ghost use Rattle.paths.specs.Codes.{fault, window_fault, first_code, spans_code, result_lists_fit, feed_code};
-ghost use Rattle.spans.specs.Lists.{OneLength};
+// Why a feed call is refused, in the order in which the reasons are tested.
+ghost use Rattle.std.specs.Prelude.{◌≡◌, cond, not, ◌&&◌, ◌||◌, ◌≤◌, length, eqb, ltb, leb};
+ghost use Rattle.rules.specs.Refusals.{code_of};
+ghost use Rattle.paths.specs.Map.{spans, last_minute};
+ghost use Rattle.paths.specs.Codes.{fault, window_fault, first_code};
+ghost use Rattle.paths.specs.Codes.{span_lists_fit, window_lists_fit, result_lists_fit, feed_code};
+ghost use Rattle.spans.specs.Lists.{OneLength, spans_in, windows_in, map_from, faults};
 
-use super::window::window_fault;
+use super::MapView;
+use super::window::check_window;
+use rules::Refusal;
 use store::size_for;
 
-// The fault of a span, 18, 19, 20, or 0; `before` is the from of the span before it.
-fn fault_of(places: u32, from: u32, to: u32, loss: u32, before: u32) -> u32
-    ensures { result ≡ fault places from to loss before }
-{
-    if places <= from {
-        return 18;
-    }
-    if places <= to {
-        return 18;
-    }
-    if loss == 0 {
-        return 19;
-    }
-    if 1000000 < loss {
-        return 19;
-    }
-    if from < before {
-        return 20;
-    }
-    0
+// The lengths of what a feed call is lent beside the map: the result lists, the place list and the store.
+#[derive(Clone, Copy)]
+pub struct Lengths {
+    pub best: usize,
+    pub last: usize,
+    pub joints: usize,
+    pub listed: usize,
+    pub store: usize,
 }
 
-// The first of two codes that is not 0.
-fn first_code(code: u32, next: u32) -> u32
-    ensures { result ≡ first_code code next }
+// The faults of a span, without its window's; `before` is the from of the span before it.
+fn check_span(places: u32, from: u32, to: u32, loss: u32, before: u32) -> Result<(), Refusal>
+    ensures { code_of result ≡ fault places from to loss before }
 {
-    if code == 0 {
-        return next;
+    if places <= from || places <= to {
+        return Err(Refusal::SpanEnds);
     }
-    code
+    if loss == 0 || 1000000 < loss {
+        return Err(Refusal::SpanLoss);
+    }
+    if from < before {
+        return Err(Refusal::SpanOrder);
+    }
+    Ok(())
 }
 
 // Whether a span or its window has a fault, without a branch.
@@ -55,199 +53,130 @@ fn is_faulty(
     span | (closes <= opens) | (1440 < closes)
 }
 
-// Whether no span is faulty. No span ends the loop, so that several are tested at a time. Faults are the same at every
-// minute.
-fn faultless(
-    places: u32,
-    from: &[u32],
-    to: &[u32],
-    loss: &[u32],
-    opens: &[u32],
-    closes: &[u32],
-) -> bool
-    requires { OneLength (span_lists from.now to.now loss.now) (windows opens.now closes.now) }
-    ensures { (minute : ℕ) → result ≡ eqb (spans_code places
-        (span_lists from.now to.now loss.now)
-        (at_minute minute (windows opens.now closes.now))) 0 }
+// Whether no span is faulty. No span ends the loop, so that several are tested at a time; a chain of iterators over five
+// lists, each a pair more, would be no plainer.
+fn faultless(map: MapView) -> bool
+    requires { OneLength (spans_in map) (windows_in map) }
+    ensures { result ≡ eqb (faults map.entry) 0 }
 {
-    let mut e = 0;
     let mut before = 0;
     let mut faulty = false;
-    while e < from.len() {
-        let span_from = from[e];
+    for e in 0..map.from.len() {
+        let from = map.from[e];
         faulty = faulty
             | is_faulty(
-                places, span_from, to[e], loss[e], before, opens[e], closes[e],
+                map.places,
+                from,
+                map.to[e],
+                map.loss[e],
+                before,
+                map.opens[e],
+                map.closes[e],
             );
-        before = span_from;
-        e += 1;
+        before = from;
     }
     !faulty
 }
 
-// The code of the lowest-numbered faulty span, or 0.
-fn lowest_fault(
-    places: u32,
-    from: &[u32],
-    to: &[u32],
-    loss: &[u32],
-    opens: &[u32],
-    closes: &[u32],
-) -> u32
-    requires { OneLength (span_lists from.now to.now loss.now) (windows opens.now closes.now) }
-    ensures { (minute : ℕ) → result ≡ spans_code places
-        (span_lists from.now to.now loss.now)
-        (at_minute minute (windows opens.now closes.now)) }
+// The fault of the lowest-numbered faulty span, if one is.
+fn lowest_fault(map: MapView) -> Result<(), Refusal>
+    requires { OneLength (spans_in map) (windows_in map) }
+    ensures { code_of result ≡ faults map.entry }
 {
-    let mut e = 0;
     let mut before = 0;
-    while e < from.len() {
-        let span_from = from[e];
-        let ends = fault_of(places, span_from, to[e], loss[e], before);
-        let window = window_fault(opens[e], closes[e]);
-        let code = first_code(ends, window);
-        if code != 0 {
-            return code;
-        }
-        before = span_from;
-        e += 1;
+    for e in 0..map.from.len() {
+        let from = map.from[e];
+        check_span(map.places, from, map.to[e], map.loss[e], before)?;
+        check_window(map.opens[e], map.closes[e])?;
+        before = from;
     }
-    0
+    Ok(())
 }
 
 // The same, at once where no span is faulty.
-fn spans_code(
-    places: u32,
-    from: &[u32],
-    to: &[u32],
-    loss: &[u32],
-    opens: &[u32],
-    closes: &[u32],
-) -> u32
-    requires { OneLength (span_lists from.now to.now loss.now) (windows opens.now closes.now) }
-    ensures { (minute : ℕ) → result ≡ spans_code places
-        (span_lists from.now to.now loss.now)
-        (at_minute minute (windows opens.now closes.now)) }
+fn check_spans(map: MapView) -> Result<(), Refusal>
+    requires { OneLength (spans_in map) (windows_in map) }
+    ensures { code_of result ≡ faults map.entry }
 {
-    if faultless(places, from, to, loss, opens, closes) {
-        return 0;
+    if faultless(map) {
+        return Ok(());
     }
-    lowest_fault(places, from, to, loss, opens, closes)
+    lowest_fault(map)
 }
 
-// 14 for no place or too many, 15 for a start that is none of them, or 0.
-fn places_code(places: u32, start: u32) -> u32
-    ensures { result ≡ cond (eqb places 0 || ltb 4096 places) 14 (cond (leb places start) 15 0) }
+// No place or too many, and a start that is none of them.
+fn check_places(places: u32, start: u32) -> Result<(), Refusal>
+    ensures { code_of result ≡ cond (eqb places 0 || ltb 4096 places) 14 (cond (leb places start) 15 0) }
 {
-    if places == 0 {
-        return 14;
-    }
-    if 4096 < places {
-        return 14;
+    if places == 0 || 4096 < places {
+        return Err(Refusal::PlaceCount);
     }
     if places <= start {
-        return 15;
+        return Err(Refusal::StartPlace);
     }
-    0
+    Ok(())
 }
 
-// 24 for a minute that is not of the day, or 0.
-fn minute_code(minute: u32) -> u32
-    ensures { result ≡ cond (not (leb minute last_minute)) 24 0 }
+// A minute that is not of the day.
+fn check_minute(minute: u32) -> Result<(), Refusal>
+    ensures { code_of result ≡ cond (not (leb minute last_minute)) 24 0 }
 {
     if 1439 < minute {
-        return 24;
+        return Err(Refusal::Minute);
     }
-    0
+    Ok(())
 }
 
-// 16 for span lists that differ in length or are too long, or 0, by their lengths.
-fn span_lists_code(from: usize, to: usize, loss: usize, opens: usize, closes: usize) -> u32
-    ensures { result ≡ cond
-        (not (eqb to from && eqb loss from && leb from 16384 && (eqb opens from && eqb closes from))) 16 0 }
+// Span and window lists that differ in length or are too long.
+fn check_span_lists(map: MapView) -> Result<(), Refusal>
+    ensures { code_of result ≡ cond (not (span_lists_fit (spans_in map.entry)
+        && window_lists_fit (length map.entry.from.now) (map_from map.entry).supply)) 16 0 }
 {
-    if to != from {
-        return 16;
+    let spans = map.from.len();
+    if map.to.len() != spans || map.loss.len() != spans || 16384 < spans {
+        return Err(Refusal::SpanLists);
     }
-    if loss != from {
-        return 16;
+    if map.opens.len() != spans || map.closes.len() != spans {
+        return Err(Refusal::SpanLists);
     }
-    if 16384 < from {
-        return 16;
-    }
-    if opens != from {
-        return 16;
-    }
-    if closes != from {
-        return 16;
-    }
-    0
+    Ok(())
 }
 
-// 17 for result lists or a store of another size than that for the places, or 0.
-fn result_lists_code(places: usize, best: usize, last: usize, joints: usize, store: usize) -> u32
+// Result lists or a store of another size than that for the places.
+fn check_result_lists(places: usize, lent: Lengths) -> Result<(), Refusal>
     requires { places ≤ 4096 }
-    ensures { result ≡ cond (not (result_lists_fit places best last joints store)) 17 0 }
+    ensures { code_of result ≡ cond (not (result_lists_fit places lent.best lent.last lent.joints lent.store)) 17 0 }
 {
-    if best != places {
-        return 17;
+    if lent.best != places || lent.last != places || lent.joints != places {
+        return Err(Refusal::ResultLists);
     }
-    if last != places {
-        return 17;
+    if lent.store != size_for(places) {
+        return Err(Refusal::ResultLists);
     }
-    if joints != places {
-        return 17;
-    }
-    if store != size_for(places) {
-        return 17;
-    }
-    0
+    Ok(())
 }
 
-// 22 if the place list has not a word for each place, or 0.
-fn place_list_code(listed: usize, places: usize) -> u32
-    ensures { result ≡ cond (ltb listed places) 22 0 }
+// A place list that has not a word for each place.
+fn check_place_list(listed: usize, places: usize) -> Result<(), Refusal>
+    ensures { code_of result ≡ cond (ltb listed places) 22 0 }
 {
     if listed < places {
-        return 22;
+        return Err(Refusal::PlaceList);
     }
-    0
+    Ok(())
 }
 
-// The first condition that a feed call meets, by its code, or 0; best, last, joints, listed and store are the lengths
-// of what is lent.
-pub fn feed_code(
-    places: u32,
-    start: u32,
-    minute: u32,
-    from: &[u32],
-    to: &[u32],
-    loss: &[u32],
-    opens: &[u32],
-    closes: &[u32],
-    best: usize,
-    last: usize,
-    joints: usize,
-    listed: usize,
-    store: usize,
-) -> u32
-    ensures { result ≡ feed_code
-        (map_at places start minute (span_lists from.now to.now loss.now)
-        (windows opens.now closes.now))
-        best last joints listed store }
+// The first condition that a feed call meets, if it meets one.
+pub fn check_feed(map: MapView, lent: Lengths) -> Result<(), Refusal>
+    ensures { code_of result
+        ≡ feed_code (map_from map.entry) lent.best lent.last lent.joints lent.listed lent.store }
 {
-    let place = places_code(places, start);
-    let day = minute_code(minute);
-    let lists = span_lists_code(from.len(), to.len(), loss.len(), opens.len(), closes.len());
-    let early = first_code(place, first_code(day, lists));
+    check_places(map.places, map.start)?;
+    check_minute(map.minute)?;
     // The tests after these need few places, and lists of one length.
-    if early != 0 {
-        return early;
-    }
-    let n = places as usize;
-    let results = result_lists_code(n, best, last, joints, store);
-    let list = place_list_code(listed, n);
-    let lent = first_code(results, list);
-    let spans = spans_code(places, from, to, loss, opens, closes);
-    first_code(lent, spans)
+    check_span_lists(map)?;
+    let places = map.places as usize;
+    check_result_lists(places, lent)?;
+    check_place_list(lent.listed, places)?;
+    check_spans(map)
 }

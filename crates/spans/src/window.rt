@@ -1,27 +1,24 @@
 // Supply windows: whether a span is usable at a minute, and the fault of a window.
 ghost use Rattle.std.specs.Prelude.{◌≡◌};
+ghost use Rattle.rules.specs.Refusals.{code_of};
 ghost use Rattle.paths.specs.Map.{usable_at};
 ghost use Rattle.paths.specs.Codes.{window_fault};
+
+use rules::Refusal;
 
 // Whether a span with these opening and closing minutes is usable at a minute.
 pub fn usable_at(minute: u32, opens: u32, closes: u32) -> bool
     ensures { result ≡ usable_at minute opens closes }
 {
-    if minute < opens {
-        return false;
-    }
-    minute < closes
+    opens <= minute && minute < closes
 }
 
-// The fault of a window, 23, or 0.
-pub fn window_fault(opens: u32, closes: u32) -> u32
-    ensures { result ≡ window_fault opens closes }
+// The fault of a window that closes before or as it opens, or after the day.
+pub fn check_window(opens: u32, closes: u32) -> Result<(), Refusal>
+    ensures { code_of result ≡ window_fault opens closes }
 {
-    if closes <= opens {
-        return 23;
+    if closes <= opens || 1440 < closes {
+        return Err(Refusal::SupplyWindow);
     }
-    if 1440 < closes {
-        return 23;
-    }
-    0
+    Ok(())
 }

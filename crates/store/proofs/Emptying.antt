@@ -4,7 +4,7 @@ use mathlib.Core.Path.{◌≡◌, refl, sym, ap, subst, ◌∙◌}
 use mathlib.Core.Bool.{Bool, true, false, cond}
 use mathlib.Core.List.{List, [], ◌∷◌}
 use native.Mathlib.Omega.{arith}
-use lib.ListN.{length, replicate, length-replicate}
+use lib.ListN.{length-replicate}
 use lib.Dec.{eqb, ltb, eqb-zero-suc}
 use borrow.Author.Tests.{eqb-true, eqb-false, ltb-true, ltb-false, lt-ltb, le-ltb}
 use Rattle.rules.specs.declared.Layout.TheVariants.{ByItem}
@@ -29,11 +29,11 @@ use Rattle.rules.specs.Lists.{sum_by}
 use Rattle.rules.specs.Forests.{none, empty, count}
 use Rattle.rules.specs.Order.{least_in, minimum}
 use Rattle.rules.specs.Queues.{amount_of, empty_queues}
-use Rattle.rules.specs.Words.{field_size, at, head_or, last_or, state_of, unless_free, word, words_of, encode, encode_in}
+use Rattle.rules.specs.Words.{field_size, head_or, last_or, state_of, unless_free, word, words_of, encode, encode_in}
 use Rattle.rules.proofs.ByKind.{apart_from, by_kinds}
 use Rattle.rules.proofs.EmptyForests.{get_or_all}
 use Rattle.rules.proofs.Words.{words_equal}
-use Rattle.store.specs.Says.{Sized, Values, Says, Changes}
+use Rattle.store.specs.Says.{Values, Says, Changes}
 use Rattle.store.specs.Empty.{empty_heap}
 use Rattle.store.proofs.Says.{says_as}
 use Rattle.store.proofs.SetAt.{cond_same}
@@ -45,10 +45,6 @@ nones = FirstTree ∷ LastTree ∷ Minimum ∷ []
 -- the first k heaps are empty, all other words 0
 abbrev pub emptied : ℕ → Values
 emptied k f i = cond (is_one_of nones f) (cond (ltb i k) none 0) 0
-
--- all words 0: no heap is empty yet
-emptied_none : (f : Field) (i : ℕ) → 0 ≡ emptied 0 f i
-emptied_none f i = rw (le-ltb i 0 (omega arith)) (sym (cond_same (is_one_of nones f) 0))
 
 -- emptying a heap leaves the words of every other kind
 pub empty_else : (h : ℕ) (v : Values) (f : Field) → Apart (Amount ∷ Count ∷ nones) f → (i : ℕ)
@@ -103,13 +99,6 @@ emptied_all n Rank i k = rw (get_or_all {A = List ℕ} n i [])
 emptied_all n State i k = rw (get_or_all {A = ℕ} n i 0)
 
 -- ---- the steps
-
-pub none_emptied : (n : ℕ) (w w' : List ℕ) → Sized n w → w' ≡ replicate (length w) 0 → Says n w' (emptied 0)
-none_emptied n w w' s e =
-    rw e (record {
-      sized = record { size = length-replicate (length w) 0 ∙ s.size; small = s.small };
-      says = λ f i k. get_or_all (length w) (at n f i) 0 ∙ emptied_none f i;
-    })
 
 pub more_emptied : {n : ℕ} {w w' : List ℕ} (h : ℕ) → Says n w (emptied h) → Changes n w (empty_heap h) w'
     → Says n w' (emptied (h + 1))

@@ -1,6 +1,6 @@
--- The words of an owner are in the store, and what storing a link of its list changes.
+-- What storing a link of an owner's list changes.
 use Prim.Native.Nat.{ℕ, ◌<◌}
-use mathlib.Core.Path.{◌≡◌, sym, subst}
+use mathlib.Core.Path.{◌≡◌, sym}
 use mathlib.Core.Logic.{◌≢◌}
 use mathlib.Core.List.{List}
 use native.Mathlib.Omega.{arith}
@@ -14,21 +14,9 @@ use Rattle.rules.proofs.Places.{field_size-small}
 use Rattle.rules.proofs.Words.{set_word_other, set_word_own}
 use Rattle.store.specs.declared.Owner.{Owner}
 use Rattle.store.specs.declared.Owner.TheVariants.{Row, Children}
-use Rattle.store.specs.Says.{Within, Values, Says, Changes}
-use Rattle.store.specs.Siblings.{Inside, OwnerReady, first_of, last_of, set_first, set_last, set_next, set_prev}
+use Rattle.store.specs.Says.{Values, Says, Changes}
+use Rattle.store.specs.Siblings.{first_of, last_of, set_first, set_last, set_next, set_prev}
 use Rattle.store.proofs.Says.{says_as}
-
-pub row_within : {n : ℕ} {w : List ℕ} {o : Owner} {h : ℕ} (f : Field) → field_size n f ≡ 8 → o ≡ Row h → OwnerReady n w o
-    → Within n w f h
-row_within {n} {w} {o} {h} f r e p =
-    let k : h < 8 = subst (Inside n) e p.inside in
-    record { sized = p.sized; inside = omega arith }
-
-pub children_within : {n : ℕ} {w : List ℕ} {o : Owner} {i : ℕ} (f : Field) → field_size n f ≡ n → o ≡ Children i
-    → OwnerReady n w o → Within n w f i
-children_within {n} {w} {o} {i} f r e p =
-    let k : i < n = subst (Inside n) e p.inside in
-    record { sized = p.sized; inside = omega arith }
 
 -- ---- a link stored: the word of an item, or an end of the list
 

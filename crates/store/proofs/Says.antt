@@ -1,5 +1,5 @@
 -- The laws of `Says` and `Changes`.
-use Prim.Native.Nat.{ℕ, ◌<◌, ◌≤◌}
+use Prim.Native.Nat.{ℕ, ◌<◌}
 use mathlib.Core.Path.{◌≡◌, refl, ◌∙◌}
 use mathlib.Core.Bool.{Bool, true, false, cond}
 use mathlib.Core.List.{List}
@@ -11,7 +11,7 @@ use Rattle.rules.specs.declared.Layout.TheVariants.{ByItem}
 use Rattle.rules.specs.declared.Field.{Field}
 use Rattle.rules.specs.SetWord.{field_number, set_word}
 use Rattle.rules.specs.Words.{field_size, place_in, at, look}
-use Rattle.rules.proofs.Places.{field_size-small, place_bound}
+use Rattle.rules.proofs.Places.{place_bound}
 use Rattle.rules.proofs.Words.{look-set}
 use Rattle.store.specs.Says.{Sized, Within, Values, Says, Changes}
 
@@ -25,9 +25,6 @@ pub says_as : (n : ℕ) (w : List ℕ) (u v : Values) → Says n w u
 says_as n w u v s e = record { sized = s.sized; says = λ f i h. s.says f i h ∙ e f i h }
 
 -- a word of the store is at a place of the slice
-pub within_small : {n : ℕ} {w : List ℕ} {f : Field} {i : ℕ} → Within n w f i → i ≤ 4096
-within_small {n} {w} {f} {i} h = omega (arith, h.inside, field_size-small n f h.sized.small)
-
 pub within_slice : (o : Layout) {n : ℕ} {w : List ℕ} {f : Field} {i : ℕ} → Within n w f i → place_in o n f i < length w
 within_slice o {n} {w} {f} {i} h = omega (arith, h.sized.size, place_bound o n f i h.inside)
 

@@ -2,11 +2,7 @@
 use Rattle.std.specs.Prelude.{ℕ, ◌<◌, ◌≤◌, ◌≡◌, List, length}
 use Rattle.rules.specs.declared.Field.{Field}
 use Rattle.rules.specs.Forests.{Forests}
-use Rattle.rules.specs.Words.{store_size, field_size, at, look, word}
-
--- p is the place of word i of a kind, for any number of items
-abbrev pub IsPlace : Field → ℕ → ℕ → Type 0
-IsPlace f i p = (n : ℕ) → p ≡ at n f i
+use Rattle.rules.specs.Words.{store_size, field_size, look, word}
 
 -- a store for n items
 pub record Sized (n : ℕ) (w : List ℕ) : Type 0 where

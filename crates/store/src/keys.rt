@@ -2,7 +2,7 @@
 ghost use Rattle.std.specs.Prelude.{◌≡◌, ◌<◌};
 ghost use Rattle.rules.specs.declared.Field.TheVariants.{Key};
 ghost use Rattle.rules.specs.Queues.{key_from, key_word};
-ghost use Rattle.rules.specs.Words.{look_in, look};
+ghost use Rattle.rules.specs.Words.{look_in};
 ghost use Rattle.store.specs.Empty.{amount_settled};
 ghost use Rattle.store.specs.ItemOrder.{item_key, key_stored};
 ghost use Rattle.store.specs.Says.{Sized, Within, Changes};
@@ -14,33 +14,24 @@ use rules::{Field, Layout};
 pub fn key_from(amount: u32, word: u32) -> u32
     ensures { result ≡ key_from amount word }
 {
-    (((word as u64) + (amount as u64)) % 4294967296) as u32
+    word.wrapping_add(amount)
 }
 
 // The word of a key, by the amount of its heap.
 pub fn key_word(amount: u32, key: u32) -> u32
     ensures { result ≡ key_word amount key }
 {
-    (((key as u64) + (4294967296 - (amount as u64))) % 4294967296) as u32
+    key.wrapping_sub(amount)
 }
 
-// The key of an item of heap h, in either order.
-pub fn key_in(s: &[u32], layout: Layout, n: usize, h: u32, i: u32) -> u32
+// The key of an item of heap h, in either order of the words.
+pub fn key_of(s: &[u32], layout: Layout, n: usize, h: u32, i: u32) -> u32
     requires within { Within n s.now Key i }
     requires h_bound { h < 8 }
     ensures { result ≡ item_key h (look_in layout n s.now) i }
 {
     let amount = get_in(s, layout, n, Field::Amount, h);
     key_from(amount, get_in(s, layout, n, Field::Key, i))
-}
-
-// The same in the order in use.
-pub fn key_of(s: &[u32], n: usize, h: u32, i: u32) -> u32
-    requires within { Within n s.now Key i }
-    requires h_bound { h < 8 }
-    ensures { result ≡ item_key h (look n s.now) i }
-{
-    key_in(s, Layout::ByItem, n, h, i)
 }
 
 // The key of an item of heap h stored.

@@ -1,13 +1,13 @@
 // The words of a store for n items: the only code that knows how many there are and where each lies.
 // Nothing above this crate computes a size or indexes a store, but for `worked`, which prints words as they lie.
+// The words and n are two parameters: as fields of a lent struct, every contract would have to say besides that n stays.
 #![tactic(auto)]
 
-ghost use Rattle.std.specs.Prelude.{◌≡◌, ◌<◌, ◌≤◌, length, replicate};
+ghost use Rattle.std.specs.Prelude.{◌≡◌, ◌<◌, ◌≤◌};
 ghost use Rattle.rules.specs.Queues.{empty_queues};
-ghost use Rattle.rules.specs.SetWord.{field_number, set_word};
-ghost use Rattle.rules.specs.declared.Layout.TheVariants.{ByKind};
+ghost use Rattle.rules.specs.SetWord.{set_word};
 ghost use Rattle.rules.specs.Words.{store_size, items_in, is_store, place_in, look_in, look, encode};
-ghost use Rattle.store.specs.Says.{IsPlace, Sized, Within, Changes};
+ghost use Rattle.store.specs.Says.{Sized, Within, Changes};
 ghost use Rattle.store.specs.Empty.{empty_heap, free_item};
 ghost use Rattle.store.specs.Siblings.{
   parent_in,
@@ -56,6 +56,9 @@ pub const HEAP_WORDS: usize = 40;
 
 pub const ITEM_WORDS: usize = 8;
 
+// The most items that a store is for.
+const MOST_ITEMS: usize = 4096;
+
 // The words of a store for n items.
 pub fn size_for(n: usize) -> usize
     requires { n ≤ 4096 }
@@ -68,11 +71,7 @@ pub fn size_for(n: usize) -> usize
 pub fn items_of(s: &[u32]) -> usize
     ensures { result ≡ items_in s.now }
 {
-    let words = s.len();
-    if words < HEAP_WORDS {
-        return 0;
-    }
-    (words - HEAP_WORDS) / ITEM_WORDS
+    s.len().saturating_sub(HEAP_WORDS) / ITEM_WORDS
 }
 
 // Whether the length is that of a store, for at most 4,096 items.
@@ -80,75 +79,34 @@ pub fn is_store(s: &[u32]) -> bool
     ensures { result ≡ is_store s.now }
 {
     let n = items_of(s);
-    if n > 4096 {
-        return false;
-    }
-    s.len() == size_for(n)
+    n <= MOST_ITEMS && s.len() == size_for(n)
 }
 
-// The number of a kind: five of a heap, then eight of an item, in the sequence in which they lie.
-fn kind_number(f: Field) -> usize
-    ensures { result ≡ field_number f }
-{
-    match f {
-        Field::FirstTree => 0,
-        Field::LastTree => 1,
-        Field::Minimum => 2,
-        Field::Count => 3,
-        Field::Amount => 4,
-        Field::Key => 5,
-        Field::Parent => 6,
-        Field::FirstChild => 7,
-        Field::LastChild => 8,
-        Field::Next => 9,
-        Field::Prev => 10,
-        Field::Rank => 11,
-        Field::State => 12,
-    }
-}
-
-// Where word i of a kind lies, for any number of items.
-fn place(f: Field, i: usize) -> usize
-    requires { i ≤ 4096 }
-    ensures { IsPlace f i result }
-{
-    let number = kind_number(f);
-    if number < 5 {
-        return 5 * i + number;
-    }
-    HEAP_WORDS + ITEM_WORDS * i + (number - 5)
-}
-
-// Where it lies in an old store for n items.
-fn old_place(n: usize, f: Field, i: usize) -> usize
+// Where word i of a kind lies. The kinds are numbered in the sequence in which their words lie: five of a heap, then
+// eight of an item.
+fn place(layout: Layout, n: usize, f: Field, i: usize) -> usize
     requires n_bound { n ≤ 4096 }
     requires i_bound { i ≤ 4096 }
-    ensures { result ≡ place_in ByKind n f i }
+    ensures { result ≡ place_in layout n f i }
 {
-    let number = kind_number(f);
+    let number = f as usize;
     if number < 5 {
         return 5 * i + number;
     }
-    HEAP_WORDS + (number - 5) * n + i
+    match layout {
+        Layout::ByItem => HEAP_WORDS + ITEM_WORDS * i + (number - 5),
+        Layout::ByKind => HEAP_WORDS + (number - 5) * n + i,
+    }
 }
 
 // ---- words
 
-// Word i of a kind.
+// Word i of a kind, in the order in use: what a hundred calls mean, so they do not name it.
 pub fn get(s: &[u32], n: usize, f: Field, i: u32) -> u32
     requires { Within n s.now f i }
     ensures { result ≡ look n s.now f i }
 {
-    let at = place(f, i as usize);
-    s[at]
-}
-
-// The same in an old store.
-fn get_old(s: &[u32], n: usize, f: Field, i: u32) -> u32
-    requires { Within n s.now f i }
-    ensures { result ≡ look_in ByKind n s.now f i }
-{
-    let at = old_place(n, f, i as usize);
+    let at = place(Layout::ByItem, n, f, i as usize);
     s[at]
 }
 
@@ -159,7 +117,7 @@ pub fn get_in(s: &[u32], layout: Layout, n: usize, f: Field, i: u32) -> u32
 {
     match layout {
         Layout::ByItem => get(s, n, f, i),
-        Layout::ByKind => get_old(s, n, f, i),
+        Layout::ByKind => s[place(Layout::ByKind, n, f, i as usize)],
     }
 }
 
@@ -168,22 +126,11 @@ pub fn put(s: &mut [u32], n: usize, f: Field, i: u32, x: u32)
     requires { Within n s.old f i }
     ensures { Changes n s.old (set_word f i x) s.new }
 {
-    let at = place(f, i as usize);
+    let at = place(Layout::ByItem, n, f, i as usize);
     s[at] = x;
 }
 
-// Every word 0.
-fn fill(s: &mut [u32])
-    ensures { s.new ≡ replicate (length s.old) 0 }
-{
-    let mut i: usize = 0;
-    while i < s.len() {
-        s[i] = 0;
-        i += 1;
-    }
-}
-
-// The words of an empty heap.
+// The words of an empty heap. A line for each word says which value it has; a loop over kinds and values says no more.
 pub fn empty_heap(s: &mut [u32], n: usize, h: u32)
     requires sized { Sized n s.old }
     requires h_bound { h < 8 }
@@ -196,7 +143,7 @@ pub fn empty_heap(s: &mut [u32], n: usize, h: u32)
     put(s, n, Field::Amount, h, 0);
 }
 
-// The words of a free item.
+// The words of a free item, each by its own line, as above.
 pub fn free_item(s: &mut [u32], n: usize, i: u32)
     requires sized { Sized n s.old }
     requires i_lt_n { i < n }
@@ -217,7 +164,7 @@ pub fn make_empty(s: &mut [u32], n: usize)
     requires { Sized n s.old }
     ensures { s.new ≡ encode (empty_queues n) }
 {
-    fill(s);
+    s.fill(0);
     for h in 0..8 {
         empty_heap(s, n, h);
     }
@@ -236,7 +183,7 @@ pub fn last(s: &[u32], n: usize, o: Owner) -> u32
     }
 }
 
-// The first of a list stored.
+// The first of a list stored. One function for both ends would match owner and end: four cases for two.
 fn put_first(s: &mut [u32], n: usize, o: Owner, x: u32)
     requires { OwnerReady n s.old o }
     ensures { Changes n s.old (set_first o x) s.new }
@@ -258,7 +205,7 @@ fn put_last(s: &mut [u32], n: usize, o: Owner, x: u32)
     }
 }
 
-// x follows a, or is the first of the list where a is NONE.
+// x follows a, or is the first of the list where a is NONE. It differs from put_prev in the word, the end and the side.
 fn put_next(s: &mut [u32], n: usize, o: Owner, a: u32, x: u32)
     requires { LinkReady n s.old o a }
     ensures { Changes n s.old (set_next o a x) s.new }
@@ -292,18 +239,15 @@ fn parent_in(o: Owner) -> u32
     }
 }
 
-// The rank of the owner, if it is an item, one more.
+// The rank of the owner, if it is an item, one more. It asks something else of the words than drop_rank does.
 fn add_rank(s: &mut [u32], n: usize, o: Owner)
     requires owner_ready { OwnerReady n s.old o }
     requires rank_rises { RankRises o (look n s.old) }
     ensures { Changes n s.old (add_rank o) s.new }
 {
-    match o {
-        Owner::Row(_) => {}
-        Owner::Children(p) => {
-            let r = get(s, n, Field::Rank, p);
-            put(s, n, Field::Rank, p, r + 1);
-        }
+    if let Owner::Children(p) = o {
+        let r = get(s, n, Field::Rank, p);
+        put(s, n, Field::Rank, p, r + 1);
     }
 }
 
@@ -313,12 +257,9 @@ fn drop_rank(s: &mut [u32], n: usize, o: Owner)
     requires rank_falls { RankFalls o (look n s.old) }
     ensures { Changes n s.old (drop_rank o) s.new }
 {
-    match o {
-        Owner::Row(_) => {}
-        Owner::Children(p) => {
-            let r = get(s, n, Field::Rank, p);
-            put(s, n, Field::Rank, p, r - 1);
-        }
+    if let Owner::Children(p) = o {
+        let r = get(s, n, Field::Rank, p);
+        put(s, n, Field::Rank, p, r - 1);
     }
 }
 

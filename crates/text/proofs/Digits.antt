@@ -1,5 +1,5 @@
 -- Runs of digits and their values, and the loop that reads them.
-use Rattle.std.proofs.Common.{◌≡◌, ℕ, suc, ◌+◌, ◌-◌, ◌*◌, ◌%◌, ◌^◌, ◌<◌, ◌≤◌, min, ◌⊎◌, List, [], ◌∷◌, length, get_or, take, drop, sym, refl, inl, inr, ⊎_elim, pow-suc, add-one, arith, drop_of_length-le, drop-cons, le-leb}
+use Rattle.std.proofs.Common.{◌≡◌, ℕ, suc, ◌+◌, ◌-◌, ◌*◌, ◌%◌, ◌^◌, ◌<◌, ◌≤◌, min, max, ◌⊎◌, List, [], ◌∷◌, length, get_or, take, drop, sym, refl, inl, inr, ⊎_elim, pow-suc, add-one, arith, drop_of_length-le, drop-cons, le-leb}
 use native.Mathlib.Nat.{pow-le-pow_right}
 use lib.Seq.{take-nil}
 use borrow.Author.Tests.{lt-leb}
@@ -27,6 +27,9 @@ module _ (b : ℕ) (bs : List ℕ) where
 -- the byte b less 48 is d, wrapped to 64 bits
 abbrev WrapsTo : (b d : ℕ) → Type 0
 WrapsTo b d = (d + 48) % 2 ^ 64 ≡ b
+
+pub wraps_to : (b : ℕ) → b < 2 ^ 8 → WrapsTo b ((b + 18446744073709551568) % 18446744073709551616)
+wraps_to b h = omega arith
 
 module _ {b d : ℕ} (wraps : WrapsTo b d) where
   digit_byte : d ≤ 9 → b ≡ d + 48
@@ -81,6 +84,10 @@ module _ {s : List ℕ} {at i v : ℕ} (r : DigitsReadTo s at i v) where
 
   run_read : digit_run (drop i s) ≡ [] → DigitsRead (first_digits s at) at i v
   run_read e = all_read (rw e (take-nil (at + suc most_digits - i)))
+
+  pub goes_on : {end : ℕ} → end ≡ max at (min (length s) (at + suc most_digits)) → i < end
+      → i < min (length s) (at + suc most_digits)
+  goes_on e h = omega (arith, r.from)
 
   -- reading goes on at i
   module _ (more : i < min (length s) (at + suc most_digits)) where

@@ -1,26 +1,25 @@
 -- Worked examples of fields, lines and what is written, by computation.
 use Rattle.std.proofs.Common.{◌≡◌, [], ◌∷◌, refl}
 use Rattle.text.specs.Numbers.{is_digit, digit_run, value_from, well_formed, number_of, number_at}
-use Rattle.text.specs.Fields.{ends_at, field_at, row_from, named, numbers_from}
+use Rattle.text.specs.Fields.{ends_at, field_at, row_from}
 use Rattle.text.specs.Lines.{ahead, line_length, lines}
 use Rattle.text.specs.Decimal.{digits_of, decimal, field, row}
-use Rattle.text.specs.declared.Numbers.TheVariants.{Two, Three, Other}
 
 -- `3,0` from its first number on, `I,0,1,57` from its first comma on, and `3,` with no number after the comma
-reads_two : numbers_from (51 ∷ 44 ∷ 48 ∷ []) (number_at (51 ∷ 44 ∷ 48 ∷ []) 0) ≡ Two 3 0
-unfolding numbers_from named row_from field_at number_at number_of digit_run is_digit well_formed value_from
+reads_two : row_from 3 (51 ∷ 44 ∷ 48 ∷ []) [] (number_at (51 ∷ 44 ∷ 48 ∷ []) 0) ≡ 3 ∷ 0 ∷ []
+unfolding row_from field_at number_at number_of digit_run is_digit well_formed value_from
     ends_at line_length
 reads_two = refl
 
 reads_three :
-    numbers_from (73 ∷ 44 ∷ 48 ∷ 44 ∷ 49 ∷ 44 ∷ 53 ∷ 55 ∷ []) (field_at (73 ∷ 44 ∷ 48 ∷ 44 ∷ 49 ∷ 44 ∷ 53 ∷ 55 ∷ []) 1)
-    ≡ Three 0 1 57
-unfolding numbers_from named row_from field_at number_at number_of digit_run is_digit well_formed value_from
+    row_from 3 (73 ∷ 44 ∷ 48 ∷ 44 ∷ 49 ∷ 44 ∷ 53 ∷ 55 ∷ []) [] (field_at (73 ∷ 44 ∷ 48 ∷ 44 ∷ 49 ∷ 44 ∷ 53 ∷ 55 ∷ []) 1)
+    ≡ 0 ∷ 1 ∷ 57 ∷ []
+unfolding row_from field_at number_at number_of digit_run is_digit well_formed value_from
     ends_at line_length
 reads_three = refl
 
-refuses_comma : numbers_from (51 ∷ 44 ∷ []) (number_at (51 ∷ 44 ∷ []) 0) ≡ Other
-unfolding numbers_from named row_from field_at number_at number_of digit_run is_digit well_formed value_from
+refuses_comma : row_from 3 (51 ∷ 44 ∷ []) [] (number_at (51 ∷ 44 ∷ []) 0) ≡ []
+unfolding row_from field_at number_at number_of digit_run is_digit well_formed value_from
     ends_at line_length
 refuses_comma = refl
 

@@ -1,27 +1,22 @@
 -- Fields, and the numbers of a line from what each reading found.
-use Rattle.std.proofs.Common.{◌≡◌, ℕ, zero, suc, ◌+◌, ◌≤◌, Bool, true, false, cond, ◌&&◌, eqb, leb, List, [], ◌∷◌, ◌++◌, length, get_or, drop, sym, refl, ◌∙◌, subst, arith, eq-eqb, ne_eqb, eqb-true}
+use Rattle.std.proofs.Common.{◌≡◌, ℕ, zero, suc, ◌+◌, ◌≤◌, Bool, true, false, cond, ◌&&◌, eqb, leb, List, [], ◌∷◌, ◌++◌, length, get_or, drop, refl, subst, arith, eq-eqb, ne_eqb, eqb-true, Some, None}
 use lib.ListN.{get_or-eq_default}
 use Rattle.text.specs.Lines.{line_length}
-use Rattle.text.specs.Numbers.{digit_run, largest, number_at, number_of, value_from, well_formed}
-use Rattle.text.specs.Fields.{comma, ends_at, field_at, row_from, named, InLine, FieldsRead}
-use Rattle.text.specs.declared.LineRead.{LineRead}
-use Rattle.text.specs.declared.Number.{Number}
-use Rattle.text.specs.declared.Number.TheVariants.{Value, Nothing}
-use Rattle.text.specs.declared.Numbers.{Numbers}
-use Rattle.text.specs.declared.Numbers.TheVariants.{Other}
+use Rattle.text.specs.Numbers.{Number, digit_run, largest, number_at, number_of, value_from, well_formed}
+use Rattle.text.specs.Fields.{comma, ends_at, field_at, row_from, InLine}
 use Rattle.text.proofs.Cases.{by_cond}
-use Rattle.text.proofs.LineRest.{comma_inside, ends_line, left, run_in_line}
+use Rattle.text.proofs.LineRest.{comma_inside, left, run_in_line}
 
 module _ (s : List ℕ) (at : ℕ) where
   pub field-comma : get_or s at 0 ≡ comma → field_at s at ≡ number_at s (at + 1)
   unfolding field_at
   field-comma e = simp (eq-eqb _ _ e)
 
-  pub field-none : (get_or s at 0 ≡ comma → ⊥) → field_at s at ≡ Nothing
+  pub field-none : (get_or s at 0 ≡ comma → ⊥) → field_at s at ≡ None
   unfolding field_at
   field-none n = simp (ne_eqb _ _ n)
 
-  pub field_past : length s ≤ at → field_at s at ≡ Nothing
+  pub field_past : length s ≤ at → field_at s at ≡ None
   unfolding field_at
   field_past h = rw (get_or-eq_default s 0 h)
 
@@ -33,13 +28,13 @@ unfolding row_from
 full-row s read n = refl
 
 -- there is none
-pub none_row : (most : ℕ) (s read : List ℕ) {n : Number} → n ≡ Nothing → row_from most s read n ≡ []
+pub none_row : (most : ℕ) (s read : List ℕ) {n : Number} → n ≡ None → row_from most s read n ≡ []
 unfolding row_from
 none_row zero s read e = refl
 none_row (suc most) s read e = rw e
 
 -- there is one
-module _ (most : ℕ) (s read : List ℕ) {n : Number} {x at : ℕ} (e : n ≡ Value x at) where
+module _ (most : ℕ) (s read : List ℕ) {n : Number} {x at : ℕ} (e : n ≡ Some (x, at)) where
   -- the line ends after it
   pub end_row : ends_at s at ≡ true → row_from (suc most) s read n ≡ read ++ x ∷ []
   unfolding row_from
@@ -56,9 +51,9 @@ number_in_line : (s ds : List ℕ) (at : ℕ) → at + length ds ≤ line_length
 unfolding number_of InLine
 number_in_line s ds at h =
     by_cond (InLine s) (well_formed ds && leb (value_from 0 ds) largest)
-    {x = Value (value_from 0 ds) (at + length ds)} {y = Nothing} h tt
+    {x = Some (value_from 0 ds, at + length ds)} {y = None} h tt
 
-field-cond : (t : Bool) (s : List ℕ) (n : Number) → (t ≡ true → InLine s n) → InLine s (cond t n Nothing)
+field-cond : (t : Bool) (s : List ℕ) (n : Number) → (t ≡ true → InLine s n) → InLine s (cond t n None)
 unfolding InLine
 field-cond true s n h = h refl
 field-cond false s n h = tt
@@ -72,44 +67,7 @@ field_in_line s at h =
     number_in_line s (digit_run (drop (at + 1) s)) (at + 1)
     (omega (arith, run_in_line (drop (at + 1) s), left s (at + 1) k)))
 
--- ---- the ways that a reader of numbers ends
-
 -- a number that was read within the first line ends there
-in_line : (s : List ℕ) {n : Number} {x at : ℕ} → n ≡ Value x at → InLine s n → at ≤ line_length s
+pub in_line : (s : List ℕ) {n : Number} {x at : ℕ} → n ≡ Some (x, at) → InLine s n → at ≤ line_length s
 unfolding InLine
 in_line s e i = subst (InLine s) e i
-
-module _ (s read : List ℕ) {n : Number} {r : LineRead} where
-  other_read : {m : Numbers} → m ≡ Other → r.numbers ≡ Other → FieldsRead s n m r
-  other_read e o = record { same = o ∙ sym e; ends = λ i ne. absurd (ne o) }
-
-  -- there is no number
-  pub none_read : (most : ℕ) → n ≡ Nothing → r.numbers ≡ Other → FieldsRead s n (named (row_from most s read n)) r
-  unfolding named
-  none_read most e = other_read (rw (none_row most s read e))
-
-  module _ (most : ℕ) {x at : ℕ} (e : n ≡ Value x at) where
-    -- the line ends after the number
-    pub end_read : ends_at s at ≡ true → r.numbers ≡ named (read ++ x ∷ []) → r.end ≡ at
-        → FieldsRead s n (named (row_from (suc most) s read n)) r
-    end_read end q p =
-        record {
-          same = q ∙ rw (end_row most s read e end);
-          ends = λ i ne. p ∙ ends_line s at (in_line s e i) end;
-        }
-
-    -- it goes on
-    pub on_read : ends_at s at ≡ false
-        → FieldsRead s (field_at s at) (named (row_from most s (read ++ x ∷ []) (field_at s at))) r
-        → FieldsRead s n (named (row_from (suc most) s read n)) r
-    on_read on R =
-        record {
-          same = R.same ∙ rw (on_row most s read e on);
-          ends = λ i ne. R.ends (field_in_line s at (in_line s e i)) ne;
-        }
-
-  -- it goes on after the last number that may stand there
-  pub full_read : {x at : ℕ} → n ≡ Value x at → ends_at s at ≡ false → r.numbers ≡ Other
-      → FieldsRead s n (named (row_from 1 s read n)) r
-  unfolding named
-  full_read {x} {at} e on = other_read (rw (on_row 0 s read e on, full-row s (read ++ x ∷ []) (field_at s at)))

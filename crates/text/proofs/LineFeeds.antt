@@ -1,9 +1,9 @@
 -- How many LF there are, as loops count them: byte by byte in a part, and part by part in a text.
-use Rattle.std.proofs.Common.{◌≡◌, ℕ, ◌+◌, ◌-◌, ◌<◌, ◌≤◌, cond, eqb, ◌⊎◌, List, [], ◌∷◌, ◌++◌, length, get_or, take, drop, sym, ap, ◌∙◌, inl, inr, ⊎_elim, add_assoc, add-one, arith, length-drop, take-append-drop, drop_of_length-le, length-take-le, drop-cons, drop-drop, eq-eqb, ne_eqb}
+use Rattle.std.proofs.Common.{◌≡◌, ℕ, ◌+◌, ◌-◌, ◌<◌, ◌≤◌, cond, eqb, ◌⊎◌, List, [], ◌∷◌, ◌++◌, length, get_or, take, drop, refl, sym, ap, ◌∙◌, inl, inr, ⊎_elim, add_assoc, add-one, arith, length-drop, take-append-drop, drop_of_length-le, length-take-le, drop-cons, drop-drop, eq-eqb, ne_eqb}
 use Rattle.text.specs.Lines.{line_feed, line_feeds}
 use Rattle.text.proofs.Cases.{by_cond}
 
-feeds_append : (a b : List ℕ) → line_feeds (a ++ b) ≡ line_feeds a + line_feeds b
+pub feeds_append : (a b : List ℕ) → line_feeds (a ++ b) ≡ line_feeds a + line_feeds b
 unfolding line_feeds
 feeds_append [] b = omega arith
 feeds_append (x ∷ a) b = rw (feeds_append a b) (sym (add_assoc (cond (eqb x line_feed) 1 0) (line_feeds a) (line_feeds b)))
@@ -17,6 +17,11 @@ feeds_le (b ∷ bs) =
     (eqb b line_feed)
     (omega (arith, feeds_le bs))
     (omega (arith, feeds_le bs))
+
+pub feeds_none : (s : List ℕ) → length s ≡ 0 → line_feeds s ≡ 0
+unfolding line_feeds
+feeds_none [] e = refl
+feeds_none (b ∷ bs) e = absurd (omega arith)
 
 -- n of the LF stand before i
 pub record Counted (s : List ℕ) (n i : ℕ) : Type 0 where

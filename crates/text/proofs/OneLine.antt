@@ -1,10 +1,8 @@
 -- What is read within the first line of a text is what is read of that line alone.
-use Rattle.std.proofs.Common.{◌≡◌, ℕ, zero, suc, ◌+◌, ◌≤◌, Bool, true, false, cond, eqb, List, [], ◌∷◌, ◌++◌, get_or, take, drop, sym, refl, ◌∙◌, arith, get_or-drop, eqb-true}
+use Rattle.std.proofs.Common.{◌≡◌, ℕ, zero, suc, ◌+◌, ◌≤◌, Bool, true, false, cond, eqb, List, [], ◌∷◌, ◌++◌, get_or, take, drop, sym, refl, ◌∙◌, arith, get_or-drop, eqb-true, Some, None}
 use Rattle.text.specs.Lines.{line_length}
-use Rattle.text.specs.Numbers.{number_at}
-use Rattle.text.specs.Fields.{comma, ends_at, field_at, row_from, numbers_from, InLine}
-use Rattle.text.specs.declared.Number.{Number}
-use Rattle.text.specs.declared.Number.TheVariants.{Value, Nothing}
+use Rattle.text.specs.Numbers.{Number, number_at}
+use Rattle.text.specs.Fields.{comma, ends_at, field_at, row_from, InLine}
 use Rattle.text.proofs.Fields.{field_in_line}
 use Rattle.text.proofs.LineRest.{comma_inside, drop_line, same_comma, same_length, same_run}
 
@@ -28,7 +26,7 @@ module _ (s : List ℕ) where
     comma_same : eqb (get_or line at 0) comma ≡ eqb (get_or s at 0) comma
     comma_same = rw (head line, head s, drop_line s at h) (same_comma (drop at s))
 
-  field-cond : (t : Bool) (a b : Number) → (t ≡ true → a ≡ b) → cond t a Nothing ≡ cond t b Nothing
+  field-cond : (t : Bool) (a b : Number) → (t ≡ true → a ≡ b) → cond t a None ≡ cond t b None
   field-cond true a b e = e refl
   field-cond false a b e = refl
 
@@ -42,11 +40,11 @@ module _ (s : List ℕ) where
   row_same : (most : ℕ) (read : List ℕ) (n : Number) → InLine s n → row_from most line read n ≡ row_from most s read n
   unfolding row_from InLine
   row_same zero read n h = refl
-  row_same (suc most) read Nothing h = refl
-  row_same (suc most) read (Value x at) h =
+  row_same (suc most) read None h = refl
+  row_same (suc most) read (Some (x, at)) h =
       rw (ends_same at h, field_same at h, row_same most (read ++ x ∷ []) (field_at s at) (field_in_line s at h))
 
   -- the numbers that follow the byte at a position
-  pub fields_same : (at : ℕ) → at ≤ line_length s → numbers_from line (field_at line at) ≡ numbers_from s (field_at s at)
-  unfolding numbers_from
-  fields_same at h = rw (field_same at h, row_same 3 [] (field_at s at) (field_in_line s at h))
+  pub fields_same : (most at : ℕ) → at ≤ line_length s
+      → row_from most line [] (field_at line at) ≡ row_from most s [] (field_at s at)
+  fields_same most at h = rw (field_same at h, row_same most [] (field_at s at) (field_in_line s at h))

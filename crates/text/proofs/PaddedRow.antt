@@ -1,10 +1,9 @@
 -- A line of numbers is read as these numbers, whatever zeros stand before them.
-use Rattle.std.proofs.Common.{◌≡◌, ℕ, zero, suc, ◌+◌, true, false, cond, leb, List, [], ◌∷◌, ◌++◌, length, get_or, drop, sym, refl, ap, ◌∙◌, append-nil, add-zero, arith, get_or-drop, drop-drop, ne_eqb}
+use Rattle.std.proofs.Common.{◌≡◌, ℕ, zero, suc, ◌+◌, true, false, cond, leb, List, [], ◌∷◌, ◌++◌, length, get_or, drop, sym, ap, ◌∙◌, append-nil, add-zero, arith, get_or-drop, drop-drop, ne_eqb, Some}
 use lib.Seq.{drop-append_seam, append_snoc}
 use lib.Dec.{leb-zero, leb-suc-zero, leb-suc-suc}
-use borrow.Author.Tests.{lt-leb}
 use Rattle.text.specs.Numbers.{number_at}
-use Rattle.text.specs.Fields.{comma, ends_at, field_at, row_from, named}
+use Rattle.text.specs.Fields.{comma, ends_at, field_at, row_from}
 use Rattle.text.specs.Lines.{line_length}
 use Rattle.text.specs.Padding.{
   Padded,
@@ -16,7 +15,6 @@ use Rattle.text.specs.Padding.{
   AllStand,
   ReadsRow,
 }
-use Rattle.text.specs.declared.Number.TheVariants.{Value}
 use Rattle.text.proofs.Digits.{run_nil, run_low}
 use Rattle.text.proofs.Fields.{field-comma, full-row, end_row, on_row}
 use Rattle.text.proofs.RoundTrip.{reads_padded}
@@ -34,7 +32,7 @@ module _ (s : List ℕ) (at : ℕ) (p : Padded) (m : MayStand p) where
     alone : drop at s ≡ padded_digits p ++ []
     alone = d ∙ sym (append-nil (padded_digits p))
 
-    read_last : number_at s at ≡ Value p.number (after at p)
+    read_last : number_at s at ≡ Some (p.number, after at p)
     read_last = reads_padded s at p [] m run_nil alone
 
     ends : ends_at s (after at p) ≡ true
@@ -43,7 +41,7 @@ module _ (s : List ℕ) (at : ℕ) (p : Padded) (m : MayStand p) where
 
   -- a comma stands after it
   module _ (rest : List ℕ) (d : drop at s ≡ padded_digits p ++ comma ∷ rest) where
-    read_on : number_at s at ≡ Value p.number (after at p)
+    read_on : number_at s at ≡ Some (p.number, after at p)
     read_on = reads_padded s at p (comma ∷ rest) m (run_low comma rest (omega arith)) d
 
     goes_on : ends_at s (after at p) ≡ false
@@ -82,12 +80,3 @@ row-after (suc most) s read at p (q ∷ ps) (m, a) d =
 pub reads_row : ReadsRow
 unfolding at_most
 reads_row most s at p ps a d = row-after most s [] at p ps a d
-
--- more than three numbers have no name
-pub named_few : (row : List ℕ) → named (at_most 3 row) ≡ named row
-unfolding at_most named
-named_few [] = refl
-named_few (x ∷ []) = refl
-named_few (x ∷ y ∷ []) = refl
-named_few (x ∷ y ∷ z ∷ []) = refl
-named_few (x ∷ y ∷ z ∷ t ∷ row) = rw (lt-leb (length (x ∷ y ∷ z ∷ t ∷ row)) 3 (omega arith))

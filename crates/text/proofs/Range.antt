@@ -1,9 +1,7 @@
 -- No number that is read is above the largest.
-use Rattle.std.proofs.Common.{ℕ, zero, suc, ◌+◌, ◌<◌, ◌≤◌, ◌&&◌, eqb, leb, List, [], ◌∷◌, ◌++◌, length, get_or, drop, ⊎_elim}
-use Rattle.text.specs.Numbers.{largest, digit_run, value_from, well_formed, number_of, number_at, NumberFits}
+use Rattle.std.proofs.Common.{ℕ, zero, suc, ◌+◌, ◌<◌, ◌≤◌, ◌&&◌, eqb, leb, List, [], ◌∷◌, ◌++◌, length, get_or, drop, ⊎_elim, Some, None}
+use Rattle.text.specs.Numbers.{Number, largest, digit_run, value_from, well_formed, number_of, number_at, NumberFits}
 use Rattle.text.specs.Fields.{comma, ends_at, field_at, row_from, RowFits}
-use Rattle.text.specs.declared.Number.{Number}
-use Rattle.text.specs.declared.Number.TheVariants.{Value, Nothing}
 use Rattle.text.proofs.Cases.{le_or_lt, by_cond}
 use Rattle.text.proofs.NumberAt.{number_large}
 
@@ -13,8 +11,8 @@ of_small ds at h =
     by_cond
     NumberFits
     (well_formed ds && leb (value_from 0 ds) largest)
-    {x = Value (value_from 0 ds) (at + length ds)}
-    {y = Nothing}
+    {x = Some (value_from 0 ds, at + length ds)}
+    {y = None}
     h
     (tt {0})
 
@@ -39,8 +37,8 @@ pub row_in_range :
     (most : ℕ) (s read : List ℕ) (n : Number) → RowFits read → NumberFits n → RowFits (row_from most s read n)
 unfolding row_from RowFits NumberFits
 row_in_range zero s read n r h = tt
-row_in_range (suc most) s read Nothing r h = tt
-row_in_range (suc most) s read (Value x at) r h =
+row_in_range (suc most) s read None r h = tt
+row_in_range (suc most) s read (Some (x, at)) r h =
     let with-x = fits_snoc read x r h in
     by_cond RowFits (ends_at s at) with-x
     (row_in_range most s (read ++ x ∷ []) (field_at s at) with-x (field_in_range s at))

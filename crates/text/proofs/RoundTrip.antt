@@ -1,10 +1,8 @@
 -- A number that was written in decimal is read back, with zeros before it too, and nothing else is read as a number.
-use Rattle.std.proofs.Common.{◌≡◌, ℕ, ◌<◌, ◌≤◌, List, length, drop, subst, ⊎_elim, arith}
-use Rattle.text.specs.Numbers.{largest, digit_run, value_from, most_digits, number_at}
+use Rattle.std.proofs.Common.{◌≡◌, ℕ, ◌<◌, ◌≤◌, List, length, drop, subst, ⊎_elim, arith, Some, None}
+use Rattle.text.specs.Numbers.{Number, largest, digit_run, value_from, most_digits, number_at}
 use Rattle.text.specs.Laws.{ReadsBack}
 use Rattle.text.specs.Padding.{with_zeros, padded_digits, ReadsPadded, IsPadded, ReadsOnlyPadded}
-use Rattle.text.specs.declared.Number.{Number}
-use Rattle.text.specs.declared.Number.TheVariants.{Value, Nothing}
 use Rattle.text.proofs.Cases.{le_or_lt}
 use Rattle.text.proofs.Rule.{no_digit, too_many, well}
 use Rattle.text.proofs.NumberAt.{number_is, number_bad, number_large}
@@ -29,14 +27,14 @@ reads_back s at n rest h e d =
 
 -- what is claimed of digits that were read
 unfoldable Claim : List ℕ → Number → Type 0
-Claim ds (Value n end) = IsPadded ds n
-Claim ds Nothing = Unit {0}
+Claim ds (Some (n, end)) = IsPadded ds n
+Claim ds None = Unit {0}
 
 module _ (s : List ℕ) (at : ℕ) where
   abbrev run : List ℕ
   run = digit_run (drop at s)
 
-  no_number : Nothing ≡ number_at s at → Claim run (number_at s at)
+  no_number : None ≡ number_at s at → Claim run (number_at s at)
   unfolding Claim
   no_number e = rw (← e) (tt {0})
 

@@ -1,9 +1,7 @@
 -- Numbers and rows worked by hand: what is read at the beginning of a text.
-use Rattle.std.specs.Prelude.{◌≡◌, ℕ, List, [], ◌∷◌, ◌++◌, map, replicate}
-use Rattle.text.specs.Numbers.{number_at}
+use Rattle.std.specs.Prelude.{◌≡◌, ℕ, List, [], ◌∷◌, ◌++◌, map, replicate, Some, None}
+use Rattle.text.specs.Numbers.{Number, number_at}
 use Rattle.text.specs.Fields.{row_from}
-use Rattle.text.specs.declared.Number.{Number}
-use Rattle.text.specs.declared.Number.TheVariants.{Value, Nothing}
 
 unfoldable pub first_number : List ℕ → Number
 first_number s = number_at s 0
@@ -32,8 +30,8 @@ pub record WorkedNumbers : Type 0 where
   -- each with the position after its last digit
   pub numbers :
       map first_number number_texts
-      ≡ Value 0 1 ∷ Value 7 1 ∷ Value 7 2 ∷ Value 0 10 ∷ Value 12 10 ∷ Value 4294967295 10 ∷ []
-  pub others : map first_number no_number_texts ≡ replicate 6 Nothing
+      ≡ Some (0, 1) ∷ Some (7, 1) ∷ Some (7, 2) ∷ Some (0, 10) ∷ Some (12, 10) ∷ Some (4294967295, 10) ∷ []
+  pub others : map first_number no_number_texts ≡ replicate 6 None
 
 -- ---- rows
 

@@ -1,15 +1,14 @@
 -- Statements about the text layer that its users rest on. Their proofs stand in proofs/ under the same words.
-use Rattle.std.specs.Prelude.{◌≡◌, ℕ, suc, ◌+◌, ◌^◌, ◌<◌, ◌≤◌, true, cond, List, [], ◌++◌, length, drop, slice_index}
+use Rattle.std.specs.Prelude.{◌≡◌, ℕ, suc, ◌+◌, ◌^◌, ◌<◌, ◌≤◌, true, cond, List, [], ◌++◌, length, drop, slice_index, Some}
 use Rattle.text.specs.Numbers.{largest, digit_run, number_at}
 use Rattle.text.specs.Lines.{lines, line_feeds, closed}
 use Rattle.text.specs.Decimal.{decimal}
-use Rattle.text.specs.declared.Number.TheVariants.{Value}
 
 -- a number that was written is read back, whatever stands after it but a digit
 abbrev pub ReadsBack : Type 0
 ReadsBack =
     (s : List ℕ) (at n : ℕ) (rest : List ℕ) → n ≤ largest → digit_run rest ≡ [] → drop at s ≡ decimal n ++ rest
-    → number_at s at ≡ Value n (at + length (decimal n))
+    → number_at s at ≡ Some (n, at + length (decimal n))
 
 -- text after a closed text adds its lines to those before it
 abbrev pub LinesAppend : Type 0

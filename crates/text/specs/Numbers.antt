@@ -1,7 +1,5 @@
 -- Numbers read from bytes: the rule for their digits, their value, and the number at a position.
-use Rattle.std.specs.Prelude.{◌≡◌, ℕ, suc, ◌+◌, ◌-◌, ◌*◌, ◌≤◌, Bool, cond, ◌&&◌, List, [], ◌∷◌, length, take, drop, nat_le}
-use Rattle.text.specs.declared.Number.{Number}
-use Rattle.text.specs.declared.Number.TheVariants.{Value, Nothing}
+use Rattle.std.specs.Prelude.{◌≡◌, ℕ, suc, ◌+◌, ◌-◌, ◌*◌, ◌≤◌, Bool, cond, ◌&&◌, List, [], ◌∷◌, length, take, drop, nat_le, Option, Some, None}
 
 -- the largest number that a text may name
 abbrev pub largest : ℕ
@@ -29,10 +27,14 @@ most_digits = 10
 unfoldable pub well_formed : List ℕ → Bool
 well_formed ds = nat_le 1 (length ds) && nat_le (length ds) most_digits
 
--- the number of a run of digits that begins at a position, with the position after it
+-- what is read of a number, where there is one: its value, and the position after it
+abbrev pub Number : Type 0
+Number = Option (ℕ × ℕ)
+
+-- the number of a run of digits that begins at a position
 unfoldable pub number_of : List ℕ → ℕ → Number
 number_of ds at =
-    cond (well_formed ds && nat_le (value_from 0 ds) largest) (Value (value_from 0 ds) (at + length ds)) Nothing
+    cond (well_formed ds && nat_le (value_from 0 ds) largest) (Some (value_from 0 ds, at + length ds)) None
 
 -- the number at a position of a text
 unfoldable pub number_at : List ℕ → ℕ → Number
@@ -40,8 +42,8 @@ number_at s at = number_of (digit_run (drop at s)) at
 
 -- a number that was read is at most the largest
 unfoldable pub NumberFits : Number → Type 0
-NumberFits (Value v at) = v ≤ largest
-NumberFits Nothing = Unit {0}
+NumberFits (Some (v, at)) = v ≤ largest
+NumberFits None = Unit {0}
 
 -- ---- for the functions inside
 

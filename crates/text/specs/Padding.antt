@@ -1,10 +1,9 @@
 -- Zeros before numbers: what follows from the rule for digits. No reader is defined by these. Proofs stand in proofs/
 -- under the same words.
-use Rattle.std.specs.Prelude.{◌≡◌, ℕ, ◌+◌, ◌≤◌, cond, List, [], ◌∷◌, ◌++◌, map, length, drop, replicate, nat_le}
+use Rattle.std.specs.Prelude.{◌≡◌, ℕ, ◌+◌, ◌≤◌, cond, List, [], ◌∷◌, ◌++◌, map, length, drop, replicate, nat_le, Some}
 use Rattle.text.specs.Numbers.{largest, digit_run, most_digits, number_at}
 use Rattle.text.specs.Fields.{comma, row_from}
 use Rattle.text.specs.Decimal.{decimal}
-use Rattle.text.specs.declared.Number.TheVariants.{Value}
 
 -- a number, and how many zeros stand before it
 pub record Padded : Type 0 where
@@ -27,7 +26,7 @@ pub record MayStand (p : Padded) : Type 0 where
 abbrev pub ReadsPadded : Type 0
 ReadsPadded =
     (s : List ℕ) (at : ℕ) (p : Padded) (rest : List ℕ) → MayStand p → digit_run rest ≡ []
-    → drop at s ≡ padded_digits p ++ rest → number_at s at ≡ Value p.number (at + length (padded_digits p))
+    → drop at s ≡ padded_digits p ++ rest → number_at s at ≡ Some (p.number, at + length (padded_digits p))
 
 -- Nothing else is read as a number: where n is read, its digits stand there, with some zeros before them.
 pub record IsPadded (ds : List ℕ) (n : ℕ) : Type 0 where
@@ -36,7 +35,7 @@ pub record IsPadded (ds : List ℕ) (n : ℕ) : Type 0 where
   pub digits : ds ≡ padded_digits (with_zeros zeros n)
 
 abbrev pub ReadsOnlyPadded : Type 0
-ReadsOnlyPadded = (s : List ℕ) (at n end : ℕ) → number_at s at ≡ Value n end → IsPadded (digit_run (drop at s)) n
+ReadsOnlyPadded = (s : List ℕ) (at n end : ℕ) → number_at s at ≡ Some (n, end) → IsPadded (digit_run (drop at s)) n
 
 -- ---- a line of numbers
 

@@ -1,22 +1,14 @@
 // Text as bytes: numbers, fields and lines are read here, numbers are written in `output`.
 #![tactic(auto)]
 
-ghost use Rattle.std.specs.Prelude.{◌≡◌, suc, ◌+◌, ◌≤◌, min, [], ◌∷◌, length};
+ghost use Rattle.std.specs.Prelude.{◌≡◌, suc, ◌+◌, min, max, [], length, ◌≤◌};
 ghost use Rattle.text.specs.Numbers.{most_digits, number_at, first_digits, DigitsRead};
-ghost use Rattle.text.specs.declared.Numbers.TheVariants.{Other};
-ghost use Rattle.text.specs.Fields.{field_at, ends_at, row_from, named, numbers_from, FieldsRead, RowRead};
+ghost use Rattle.text.specs.Fields.{field_at, ends_at, row_from, RowAnswered};
 ghost use Rattle.text.specs.Lines.{lines, line_end, line_feeds};
 
 pub mod output;
 
 // ---- numbers
-
-// A number and the position after it.
-#[derive(Clone, Copy)]
-pub enum Number {
-    Value(u32, usize),
-    Nothing,
-}
 
 // Where the digits that are read end, and their value.
 #[derive(Clone, Copy)]
@@ -27,193 +19,95 @@ struct DigitRun {
 
 // Where reading digits from `at` on ends at the latest: with the text, or after one digit too many.
 fn reading_end(s: &[u8], at: usize) -> usize
-    ensures { result ≡ min (length s.now) (at + suc most_digits) }
+    ensures { result ≡ max at (min (length s.now) (at + suc most_digits)) }
 {
-    let len = s.len();
-    if len <= at {
-        return len;
-    }
-    if len - at <= 11 {
-        return len;
-    }
-    at + 11
+    at.max(s.len().min(at.saturating_add(11)))
 }
 
 // Eleven digits are read at most, so their value fits.
 fn digits_at(s: &[u8], at: usize) -> DigitRun
     ensures { DigitsRead (first_digits s.now at) at result.end result.value }
 {
-    let stop = reading_end(s, at);
-    let mut i = at;
-    let mut v: u64 = 0;
-    while i < stop {
+    let end = reading_end(s, at);
+    let mut value: u64 = 0;
+    for i in at..end {
         // A byte below `0` wraps to a number above 9: one test instead of two finds a byte that is no digit.
-        let d = std::num::wrapping_sub_u64(s[i] as u64, 48);
-        if d > 9 {
-            break;
+        let digit = (s[i] as u64).wrapping_sub(48);
+        if digit > 9 {
+            return DigitRun { end: i, value };
         }
-        v = v * 10 + d;
-        i += 1;
+        value = value * 10 + digit;
     }
-    DigitRun { end: i, value: v }
+    DigitRun { end, value }
 }
 
-// The number at a position: one to ten digits, and a value of 32 bits.
-pub fn number_at(s: &[u8], at: usize) -> Number
+// The number at a position, of one to ten digits and a value of 32 bits, and the position after it.
+pub fn number_at(s: &[u8], at: usize) -> Option<(u32, usize)>
     ensures { result ≡ number_at s.now at }
 {
-    let d = digits_at(s, at);
-    let end = d.end;
-    let value = d.value;
+    let DigitRun { end, value } = digits_at(s, at);
     if end == at {
-        return Number::Nothing;
+        return None;
     }
     if value > 4294967295 {
-        return Number::Nothing;
+        return None;
     }
     if end - at > 10 {
-        return Number::Nothing;
+        return None;
     }
-    Number::Value(value as u32, end)
+    Some((value as u32, end))
 }
 
 // ---- fields
 
-// The numbers of a line; Other where it is no line of one to three numbers.
-#[derive(Clone, Copy)]
-pub enum Numbers {
-    One(u32),
-    Two(u32, u32),
-    Three(u32, u32, u32),
-    Other,
-}
-
-// The numbers of a line, and where it ends; no end is given beside Other.
-#[derive(Clone, Copy)]
-pub struct LineRead {
-    pub numbers: Numbers,
-    pub end: usize,
-}
-
-// The number after the comma at a position.
-pub fn field_at(s: &[u8], at: usize) -> Number
+// The number after the comma at a position, and the position after it.
+pub fn field_at(s: &[u8], at: usize) -> Option<(u32, usize)>
     ensures { result ≡ field_at s.now at }
 {
-    if at < s.len() {
-        if s[at] == b',' {
-            return number_at(s, at + 1);
-        }
+    match s.get(at) {
+        Some(b',') => number_at(s, at + 1),
+        _ => None,
     }
-    Number::Nothing
 }
 
 // Whether a line ends at a position.
 fn ends_at(s: &[u8], at: usize) -> bool
     ensures { result ≡ ends_at s.now at }
 {
-    if at < s.len() {
-        return s[at] == b'\n';
-    }
-    true
-}
-
-// No line of one to three numbers.
-fn no_fields() -> LineRead
-    ensures { result.numbers ≡ Other }
-{
-    LineRead {
-        numbers: Numbers::Other,
-        end: 0,
+    match s.get(at) {
+        Some(b) => *b == b'\n',
+        None => true,
     }
 }
 
-fn three_from(s: &[u8], x: u32, y: u32, third: Number) -> LineRead
-    ensures { FieldsRead s.now third (named (row_from 1 s.now (x ∷ y ∷ []) third)) result }
-{
-    let Number::Value(z, at) = third else {
-        return no_fields();
-    };
-    if ends_at(s, at) {
-        return LineRead {
-            numbers: Numbers::Three(x, y, z),
-            end: at,
-        };
-    }
-    no_fields()
-}
-
-fn two_from(s: &[u8], x: u32, second: Number) -> LineRead
-    ensures { FieldsRead s.now second (named (row_from 2 s.now (x ∷ []) second)) result }
-{
-    let Number::Value(y, at) = second else {
-        return no_fields();
-    };
-    if ends_at(s, at) {
-        return LineRead {
-            numbers: Numbers::Two(x, y),
-            end: at,
-        };
-    }
-    three_from(s, x, y, field_at(s, at))
-}
-
-// One to three numbers up to the end of the first line of s, the first of which the caller has read. The text is
-// not searched for that end: it is where the numbers end.
-pub fn numbers_from(s: &[u8], first: Number) -> LineRead
-    ensures { FieldsRead s.now first (numbers_from s.now first) result }
-{
-    let Number::Value(x, at) = first else {
-        return no_fields();
-    };
-    if ends_at(s, at) {
-        return LineRead {
-            numbers: Numbers::One(x),
-            end: at,
-        };
-    }
-    two_from(s, x, field_at(s, at))
-}
-
-// The numbers of a line, first to last, and zeros after them: `count` of them, or 0 where it is no line of one to five
-// numbers.
+// The numbers of a line, first to last, `count` of them and zeros after them, and where the line ends.
 #[derive(Clone, Copy)]
-pub struct NumberRow {
+pub struct NumberRow<const N: usize> {
     pub count: usize,
-    pub numbers: [u32; 5],
+    pub numbers: [u32; N],
+    pub end: usize,
 }
 
-// No line of one to five numbers.
-fn no_row() -> NumberRow
-    ensures { RowRead [] result }
+// One to N numbers up to the end of the first line of s, the first of which the caller has read. The text is not
+// searched for that end: it is where the numbers end.
+pub fn row_from<const N: usize>(s: &[u8], first: Option<(u32, usize)>) -> Option<NumberRow<N>>
+    ensures { RowAnswered s.now first (row_from N s.now [] first) result }
 {
-    NumberRow {
-        count: 0,
-        numbers: [0; 5],
-    }
-}
-
-// One to five numbers up to the end of the first line of s, the first of which the caller has read.
-pub fn row_from(s: &[u8], first: Number) -> NumberRow
-    ensures { RowRead (row_from 5 s.now [] first) result }
-{
-    let mut numbers: [u32; 5] = [0; 5];
-    let mut count = 0;
+    let mut numbers = [0u32; N];
     let mut next = first;
-    while count < 5 {
-        let Number::Value(x, at) = next else {
-            return no_row();
-        };
-        numbers[count] = x;
-        count += 1;
+    for i in 0..N {
+        let (x, at) = next?;
+        numbers[i] = x;
         if ends_at(s, at) {
-            return NumberRow {
-                count: count,
-                numbers: numbers,
-            };
+            return Some(NumberRow {
+                count: i + 1,
+                numbers,
+                end: at,
+            });
         }
         next = field_at(s, at);
     }
-    no_row()
+    None
 }
 
 // ---- lines
@@ -222,14 +116,12 @@ pub fn row_from(s: &[u8], first: Number) -> NumberRow
 pub fn line_end(s: &[u8], at: usize) -> usize
     ensures { result ≡ line_end s.now at }
 {
-    let mut i = at;
-    while i < s.len() {
+    for i in at..s.len() {
         if s[i] == b'\n' {
-            break;
+            return i;
         }
-        i += 1;
     }
-    i
+    at.max(s.len())
 }
 
 // How many LF a short part of a text has. A byte counts them, so that many bytes are compared at a time.
@@ -238,12 +130,10 @@ fn line_feeds_in(part: &[u8]) -> u8
     ensures { result ≡ line_feeds part.now }
 {
     let mut n: u8 = 0;
-    let mut i = 0;
-    while i < part.len() {
-        if part[i] == b'\n' {
+    for b in part {
+        if *b == b'\n' {
             n += 1;
         }
-        i += 1;
     }
     n
 }
@@ -252,13 +142,10 @@ fn line_feeds(s: &[u8]) -> usize
     ensures { result ≡ line_feeds s.now }
 {
     let mut n = 0;
-    let mut at = 0;
-    while s.len() - at > 255 {
-        let end = at + 255;
-        n += line_feeds_in(&s[at..end]) as usize;
-        at = end;
+    for part in s.chunks(255) {
+        n += line_feeds_in(part) as usize;
     }
-    n + line_feeds_in(&s[at..]) as usize
+    n
 }
 
 // How many lines there are.
@@ -266,12 +153,8 @@ pub fn line_count(s: &[u8]) -> usize
     ensures { result ≡ length (lines s.now) }
 {
     let n = line_feeds(s);
-    let len = s.len();
-    if len == 0 {
-        return n;
+    match s.last() {
+        None | Some(b'\n') => n,
+        Some(_) => n + 1,
     }
-    if s[len - 1] == b'\n' {
-        return n;
-    }
-    n + 1
 }

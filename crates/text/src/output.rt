@@ -3,26 +3,12 @@ ghost use Rattle.std.specs.Prelude.{◌≡◌, ◌+◌, ◌<◌, ◌≤◌, [], 
 ghost use Rattle.text.specs.Decimal.{decimal, field};
 ghost use Rattle.text.specs.Output.{Wrote};
 
-// How many digits n has in decimal. Three or four tests tell; a row of them would take up to nine.
+// How many digits n has in decimal.
 fn digit_count(n: u32) -> usize
+    requires { 0 < n }
     ensures { result ≡ length (decimal n) }
 {
-    if n < 100000 {
-        if n < 100 {
-            return if n < 10 { 1 } else { 2 };
-        }
-        if n < 1000 {
-            return 3;
-        }
-        return if n < 10000 { 4 } else { 5 };
-    }
-    if n < 10000000 {
-        return if n < 1000000 { 6 } else { 7 };
-    }
-    if n < 100000000 {
-        return 8;
-    }
-    if n < 1000000000 { 9 } else { 10 }
+    n.ilog10() as usize + 1
 }
 
 // Writes n in decimal from `at` on, a single digit at once, else from its last digit to its first, and returns the
@@ -38,6 +24,7 @@ pub fn put_number(out: &mut [u8], at: usize, n: u32) -> usize
     let end = at + digit_count(n);
     let mut i = end;
     let mut m = n;
+    // A `while`, since the value that is left ends it and no count.
     while m >= 10 {
         i -= 1;
         out[i] = b'0' + ((m % 10) as u8);

@@ -11,8 +11,8 @@ ghost use Rattle.store.specs.Says.{Sized, Within, Changes};
 ghost use Rattle.turn.specs.Steps.{heap_kinds, item_kinds, words_from, TurnedTo};
 ghost use Rattle.turn.specs.TurnStore.{turn_code, turned_words};
 
-use audit::sound_in;
-use rules::{Field, Layout};
+use audit::sound;
+use rules::{Field, Layout, Refusal};
 use store::{get_in, is_store, items_of, put};
 
 // Word i of a kind, from its old place to its new one.
@@ -26,7 +26,7 @@ fn turn_word(old: &[u32], turned: &mut [u32], n: usize, f: Field, i: u32)
     put(turned, n, f, i, x);
 }
 
-// The words of heap h.
+// The words of heap h: a line for each kind, which is no longer than an array of the kinds and a loop over it.
 fn turn_heap(old: &[u32], turned: &mut [u32], n: usize, h: u32)
     requires sized { Sized n old.now }
     requires sized_2 { Sized n turned.old }
@@ -41,7 +41,7 @@ fn turn_heap(old: &[u32], turned: &mut [u32], n: usize, h: u32)
     turn_word(old, turned, n, Field::Amount, h);
 }
 
-// The words of item i.
+// The words of item i, likewise.
 fn turn_item(old: &[u32], turned: &mut [u32], n: usize, i: u32)
     requires sized { Sized n old.now }
     requires sized_2 { Sized n turned.old }
@@ -76,28 +76,25 @@ fn turn_items(old: &[u32], turned: &mut [u32], n: usize)
     requires turned_to { TurnedTo n (look_in ByKind n old.now) 8 0 turned.old }
     ensures { turned.new ≡ turn old.now }
 {
-    let m = n as u32;
-    let mut i: u32 = 0;
-    while i < m {
+    for i in 0..n as u32 {
         turn_item(old, turned, n, i);
-        i += 1;
     }
 }
 
-// Turns a sound old store, or refuses under 1 or 5 and leaves the second buffer as it was. Returns the code.
+// Turns a sound old store, or refuses under 1 or 5 and leaves the second buffer as it was. Returns the code, as C asks.
 #[unsafe(no_mangle)]
 pub extern "C" fn turn_store(old: &[u32], turned: &mut [u32]) -> u32
     ensures { (result ≡ turn_code old.now turned.old)
         × (turned.new ≡ turned_words old.now turned.old) }
 {
     if !is_store(old) {
-        return 1;
+        return Refusal::StoreSize.code();
     }
     if turned.len() != old.len() {
-        return 1;
+        return Refusal::StoreSize.code();
     }
-    if !sound_in(old, Layout::ByKind) {
-        return 5;
+    if !sound(old, Layout::ByKind) {
+        return Refusal::UnsoundStore.code();
     }
     let n = items_of(old);
     turn_heaps(old, turned, n);

@@ -6,7 +6,7 @@ ghost use Rattle.std.specs.Prelude.{◌+◌, ◌≤◌};
 ghost use Rattle.rules.specs.Words.{store_size};
 ghost use Rattle.store.specs.Says.{Sized};
 
-use rules::Field;
+use rules::{Field, Refusal};
 use sheet::{Ran, run_fresh, run_kept};
 use std::io;
 use store::get;
@@ -14,8 +14,7 @@ use store::get;
 // A number, and a byte after it.
 fn print(rt: &impl Print, x: u32, end: u8) -> io::Result<()> {
     rt.print(x)?;
-    let after = [end];
-    rt.write_all(&after)
+    rt.write_all(&[end])
 }
 
 // The row of heap 0, on a line of its own.
@@ -23,14 +22,12 @@ fn show_row(rt: &impl Print, s: &[u32]) -> io::Result<()>
     requires { Sized 9 s.now }
 {
     let mut x = get(s, 9, Field::FirstTree, 0);
-    let mut left: u32 = 9;
-    while left > 0 {
+    for _ in 0..9 {
         if x >= 9 {
             break;
         }
         print(rt, x, b' ')?;
         x = get(s, 9, Field::Next, x);
-        left -= 1;
     }
     rt.write_all(b"\n")
 }
@@ -42,10 +39,8 @@ fn show_line(rt: &impl Print, s: &[u32], from: usize, words: usize) -> io::Resul
     requires words_bound { from + words ≤ store_size 9 }
 {
     let last = from + words - 1;
-    let mut p = from;
-    while p < last {
+    for p in from..last {
         print(rt, s[p], b' ')?;
-        p += 1;
     }
     print(rt, s[last], b'\n')
 }
@@ -76,44 +71,22 @@ fn show_items(rt: &impl Print, s: &[u32]) -> io::Result<()>
 }
 
 // What a run answered and left, under its name.
-fn show(rt: &impl Print, name: u8, ran: Ran, store: &[u32], out: &[u8]) -> io::Result<()>
+fn show(
+    rt: &impl Print,
+    name: u8,
+    ran: Result<Ran, Refusal>,
+    store: &[u32],
+    out: &[u8],
+) -> io::Result<()>
     requires { Sized 9 store.now }
 {
-    let line = [name, b'\n'];
-    rt.write_all(&line)?;
-    let bytes = ran.bytes as usize;
-    if bytes <= out.len() {
-        rt.write_all(&out[..bytes])?;
+    rt.write_all(&[name, b'\n'])?;
+    if let Ok(ran) = ran {
+        rt.write_all(out.get(..ran.bytes as usize).unwrap_or(&[]))?;
     }
     show_row(rt, store)?;
     show_heaps(rt, store)?;
     show_items(rt, store)
-}
-
-fn show_fresh(
-    rt: &impl Print,
-    name: u8,
-    sheet: &[u8],
-    store: &mut [u32],
-    out: &mut [u8],
-) -> io::Result<()>
-    requires { Sized 9 store.old }
-{
-    let ran = run_fresh(store, sheet, out);
-    show(rt, name, ran, store, out)
-}
-
-fn show_kept(
-    rt: &impl Print,
-    name: u8,
-    sheet: &[u8],
-    store: &mut [u32],
-    out: &mut [u8],
-) -> io::Result<()>
-    requires { Sized 9 store.old }
-{
-    let ran = run_kept(store, sheet, out);
-    show(rt, name, ran, store, out)
 }
 
 // (f), (g) and (h) go on, each on the store that the run before it left.
@@ -125,11 +98,19 @@ fn main(rt: HostRuntime) -> io::Result<()> {
     let d = b"I,0,0,5\nI,0,1,3\nI,0,2,8\nI,0,3,1\nT,0\nD,0,3\n";
     let e =
         b"I,0,0,0\nI,0,1,10\nI,0,2,20\nI,0,3,30\nI,0,4,40\nI,0,5,50\nI,0,6,60\nI,0,7,70\nI,0,8,80\nT,0\n";
-    show_fresh(&rt, b'b', b, &mut store, &mut out)?;
-    show_fresh(&rt, b'c', c, &mut store, &mut out)?;
-    show_fresh(&rt, b'd', d, &mut store, &mut out)?;
-    show_fresh(&rt, b'e', e, &mut store, &mut out)?;
-    show_kept(&rt, b'f', b"D,8,5\nD,6,4\nD,7,3\n", &mut store, &mut out)?;
-    show_kept(&rt, b'g', b"X,3\n", &mut store, &mut out)?;
-    show_kept(&rt, b'h', b"T,0\n", &mut store, &mut out)
+    for (name, sheet) in [
+        (b'b', &b[..]),
+        (b'c', &c[..]),
+        (b'd', &d[..]),
+        (b'e', &e[..]),
+    ] {
+        let ran = run_fresh(&mut store, sheet, &mut out);
+        show(&rt, name, ran, &store, &out)?;
+    }
+    let f = b"D,8,5\nD,6,4\nD,7,3\n";
+    for (name, sheet) in [(b'f', &f[..]), (b'g', &b"X,3\n"[..]), (b'h', &b"T,0\n"[..])] {
+        let ran = run_kept(&mut store, sheet, &mut out);
+        show(&rt, name, ran, &store, &out)?;
+    }
+    Ok(())
 }

@@ -6,11 +6,11 @@ pub returns : goal.returns
 unfolding free_zero
 returns c =
     rw (
-      ← c.word_at-key.ensures.is,
-      ← c.word_at-parent.ensures.is,
-      ← c.word_at-first.ensures.is,
-      ← c.word_at-last.ensures.is,
-      ← c.word_at-next.ensures.is,
-      ← c.word_at-prev.ensures.is,
-      ← c.word_at-rank.ensures.is,
+      ← c.word-key.ensures.is,
+      ← c.word-parent.ensures.is,
+      ← c.word-first.ensures.is,
+      ← c.word-last.ensures.is,
+      ← c.word-next.ensures.is,
+      ← c.word-prev.ensures.is,
+      ← c.word-rank.ensures.is,
     )

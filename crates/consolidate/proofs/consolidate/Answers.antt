@@ -23,14 +23,9 @@ link_row-linked-requires c =
 pub write_row-requires : goal.write_row-requires
 unfolding LinksRow
 write_row-requires c =
-    let S = c.link_row-linked.ensures.links_row c.requires.least c.requires.amounts c.requires.forests c.requires.children c.requires.gathered c.requires.formed in record {
-      row_ready = record { amounts = c.requires.amounts; forests = (link_row c.args.h c.requires.forests).forests; state = S.state };
-      taken_value = c.link_row-linked.ensures.taken_value;
-    }
-
-pub link-requires : goal.link-requires
-link-requires c =
-    omega (arith, c.link_row-linked.ensures.links_bound, c.requires.fits)
+    let p = c.requires in
+    let S = c.link_row-linked.ensures.links_row p.least p.amounts p.forests p.children p.gathered p.formed in
+    record { amounts = p.amounts; forests = (link_row c.args.h p.forests).forests; state = S.state }
 
 pub returns : goal.returns
 unfolding LinksRow WritesRow Consolidates consolidate consolidate_within link_row

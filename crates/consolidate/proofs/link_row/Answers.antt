@@ -1,69 +1,76 @@
 -- `consolidate::link_row` meets its contract.
-use mathlib.Core.Path.{refl, sym, ap}
+use mathlib.Core.Path.{sym, ap}
 use native.Mathlib.Omega.{arith}
 use Rattle.linking_places.specs.Taken.{taken_of, tree_bit}
-use Rattle.consolidate.specs.Consolidating.{LinksRow}
+use Rattle.consolidate.specs.Consolidating.{LinksRow, link_row}
 use Rattle.consolidate.proofs.LinkingRow.{links_few, walk_ends, walk_inside, walk_left, walk_ready, walk_starts, walk_step}
 use Rattle.consolidate.proofs.link_row.Goals as goal
 
-pub get-x-requires : goal.get-x-requires
-get-x-requires c =
-    record { sized = c.requires.gathered.says.sized; inside = c.requires.heap }
-
 pub loop-x-init : goal.loop-x-init
 unfolding taken_of tree_bit
-loop-x-init c = (
-  refl,
-  sym (ap taken_of c.free_places-places.ensures),
-  λ m a u cs R W. rw c.free_places-places.ensures (walk_starts _ R W c.requires.heap c.get-x.ensures),
-)
+loop-x-init c =
+    let p = c.requires in
+    record {
+      number = sym (ap taken_of c.free_places.ensures);
+      here = record {
+        amounts = p.amounts;
+        goal = link_row c.args.h p.forests;
+        linking = rw c.free_places.ensures (walk_starts _ p.gathered p.formed p.heap c.get-x.ensures);
+      };
+      goes_on = λ m a u cs R W. rw c.free_places.ensures (walk_starts _ R W p.heap c.get-x.ensures);
+    }
 
 pub returns : goal.returns
 unfolding LinksRow
 returns c =
-    let here = c.loop-x.invariant.2 c.requires.least c.requires.amounts c.requires.forests c.requires.children c.requires.gathered c.requires.formed in
+    let inv = c.loop-x.invariant in
     record {
-      links_row = λ m a u cs R W. walk_ends (c.loop-x.invariant.2 m a u cs R W) c.loop-x-test.false;
-      links_bound = links_few here;
-      taken_value = c.loop-x.invariant.1;
+      links_row = λ m a u cs R W. walk_ends (inv.goes_on m a u cs R W) c.loop-x-test.false;
+      links_bound = links_few inv.here.linking;
     }
 
 pub get-next-requires : goal.get-next-requires
 get-next-requires c =
-    let here = c.loop-x.invariant.2 c.requires.least c.requires.amounts c.requires.forests c.requires.children c.requires.gathered c.requires.formed in
-    let g = here in
-    record { sized = g.state.says.sized; inside = walk_inside g c.loop-x-test.true }
+    let G = c.loop-x.invariant.here.linking in
+    record { sized = G.state.says.sized; inside = walk_inside G c.loop-x-test.true }
 
 pub release_tree-requires : goal.release_tree-requires
 release_tree-requires c =
-    let here = c.loop-x.invariant.2 c.requires.least c.requires.amounts c.requires.forests c.requires.children c.requires.gathered c.requires.formed in
-    let g = here in
+    let G = c.loop-x.invariant.here.linking in
     record {
-      h_bound = g.state.heap;
-      within = record { sized = g.state.says.sized; inside = walk_inside g c.loop-x-test.true };
+      h_bound = G.state.heap;
+      within = record { sized = G.state.says.sized; inside = walk_inside G c.loop-x-test.true };
     }
 
-pub climb-c-requires : goal.climb-c-requires
-climb-c-requires c =
-    let here = c.loop-x.invariant.2 c.requires.least c.requires.amounts c.requires.forests c.requires.children c.requires.gathered c.requires.formed in
-    record {
-      climb_ready = walk_ready here c.loop-x-test.true c.release_tree.ensures;
-      held_taken_value = c.loop-x.invariant.1;
-    }
+pub climb-climbed-requires : goal.climb-climbed-requires
+climb-climbed-requires c =
+    walk_ready c.loop-x.invariant.here.linking c.loop-x-test.true c.release_tree.ensures
+
+pub invariant_of-linked : goal.invariant_of-linked
+invariant_of-linked c = record { taken_places = c.loop-x.invariant.number }
+
+pub invariant_of-linked-2 : goal.invariant_of-linked-2
+invariant_of-linked-2 c = record { taken_places = c.loop-x.invariant.number }
 
 pub loop-x-smaller : goal.loop-x-smaller
 loop-x-smaller c =
-    let here = c.loop-x.invariant.2 c.requires.least c.requires.amounts c.requires.forests c.requires.children c.requires.gathered c.requires.formed in
-    let g = here in
+    let G = c.loop-x.invariant.here.linking in
     let s =
-    walk_step g c.loop-x-test.true c.get-next.ensures c.release_tree.ensures c.climb-c.ensures.climbs in
-    omega (arith, walk_left g, walk_left s.next, s.less)
+    walk_step G c.loop-x-test.true c.get-next.ensures c.release_tree.ensures c.climb-climbed.ensures in
+    omega (arith, walk_left G, walk_left s.next, s.less)
 
 pub loop-x-preserved : goal.loop-x-preserved
-loop-x-preserved c = (
-  omega (arith, c.climb-c.auto.s, c.release_tree.auto.s, c.loop-x.invariant.0),
-  c.climb-c.ensures.taken_value,
-  λ m a u cs R W.
-      (walk_step (c.loop-x.invariant.2 m a u cs R W) c.loop-x-test.true c.get-next.ensures
-      c.release_tree.ensures c.climb-c.ensures.climbs).next,
-)
+loop-x-preserved c =
+    let inv = c.loop-x.invariant in
+    let t = c.loop-x-test.true in
+    let k = c.climb-climbed.ensures in
+    record {
+      number = c.climb-climbed.result.taken_places;
+      here = record {
+        amounts = inv.here.amounts;
+        goal = inv.here.goal;
+        linking = (walk_step inv.here.linking t c.get-next.ensures c.release_tree.ensures k).next;
+      };
+      goes_on = λ m a u cs R W.
+          (walk_step (inv.goes_on m a u cs R W) t c.get-next.ensures c.release_tree.ensures k).next;
+    }

@@ -11,14 +11,17 @@ use Rattle.linking_places.specs.Places.{trees_of}
 use Rattle.linking_places.specs.Taken.{taken_of}
 use Rattle.consolidate.specs.Consolidating.{link_row}
 use Rattle.consolidate.specs.Stored.{Gathered}
-use Rattle.consolidate.proofs.LinkingRow.{LinkingRow}
+use Rattle.consolidate.proofs.LinkingRow.{LinkingRow, SomeRow}
 use Rattle.consolidate.proofs.link_row.Given as goal
 
+-- in the loop `linked` is its links, its number and its places, in this order
 abbrev pub invariant-loop-x : goal.invariant-loop-x
-invariant-loop-x l =
-    (length l.s ≡ length l.initial.s) × (l.taken ≡ taken_of (trees_of l.places)) ×
-    ((m : ℕ) (amounts : ℕ → ℕ) (u : Forests) (cs : List ℕ) → Gathered l.n l.h m l.initial.s cs amounts u → WellFormed u
-    → LinkingRow l.n l.h 0 amounts (link_row l.h u) l.s (trees_of l.places) l.x l.links)
+invariant-loop-x l = record {
+  number : l.linked.1.0 ≡ taken_of (trees_of l.linked.1.1.0);
+  here : SomeRow l.n l.h l.s (trees_of l.linked.1.1.0) l.x l.linked.0;
+  goes_on : (m : ℕ) (amounts : ℕ → ℕ) (u : Forests) (cs : List ℕ) → Gathered l.n l.h m l.initial.s cs amounts u → WellFormed u
+      → LinkingRow l.n l.h 0 amounts (link_row l.h u) l.s (trees_of l.linked.1.1.0) l.x l.linked.0;
+}
 
 -- the trees to come, read off the words
 abbrev pub decreases-loop-x : goal.decreases-loop-x

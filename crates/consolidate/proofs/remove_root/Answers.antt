@@ -1,15 +1,7 @@
 -- `consolidate::remove_root` meets its contract.
 use Rattle.consolidate.specs.Removed.{DetachesRoot, RemovesRoot}
-use Rattle.consolidate.proofs.RemoveRootSteps.{release_ready, root_inside, root_removed_lem}
+use Rattle.consolidate.proofs.RemoveRootSteps.{release_ready, root_removed_lem}
 use Rattle.consolidate.proofs.remove_root.Goals as goal
-
-pub get-first-requires : goal.get-first-requires
-get-first-requires c =
-    record { sized = c.requires.rowed.says.sized; inside = root_inside c.requires.rowed c.requires.rooted }
-
-pub get-rank-requires : goal.get-rank-requires
-get-rank-requires c =
-    record { sized = c.requires.rowed.says.sized; inside = root_inside c.requires.rowed c.requires.rooted }
 
 pub release-requires : goal.release-requires
 unfolding DetachesRoot
@@ -24,6 +16,3 @@ returns c =
     λ m a t R O.
     root_removed_lem R O (c.detach_root.ensures m a t R O) c.get-first.ensures c.get-rank.ensures
     c.release.ensures
-
-pub detach_root-requires : goal.detach_root-requires
-detach_root-requires c = c.requires

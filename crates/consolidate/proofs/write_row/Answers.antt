@@ -1,95 +1,99 @@
 -- `consolidate::write_row` meets its contract.
-use Prim.Native.Nat.{◌+◌, ◌<◌}
-use mathlib.Core.Path.{refl}
+use Prim.Native.Nat.{ℕ, ◌+◌}
+use mathlib.Core.Path.{◌≡◌, refl}
 use native.Mathlib.Omega.{arith}
 use lib.ListN.{drop, take}
 use Rattle.rules.specs.Consolidate.{occupied}
-use Rattle.rules.specs.Forests.{set_row}
+use Rattle.rules.specs.Forests.{Forests, row_of, set_row}
+use Rattle.rules.specs.WellFormed.{Disjoint, KeysFit}
 use Rattle.linking_places.specs.Places.{trees_of}
 use Rattle.consolidate.specs.Consolidating.{WritesRow}
-use Rattle.consolidate.specs.Writing.{WritesTree}
-use Rattle.consolidate.proofs.ClimbPlaces.{apart_by, equal_by}
+use Rattle.consolidate.specs.Writing.{WritesTree, WritingRow}
+use Rattle.consolidate.proofs.ClimbPlaces.{equal_by}
 use Rattle.consolidate.proofs.RowWritten.{
   coming,
+  goes_on,
   place_written,
   places_formed,
   places_row,
   row_written,
-  some_taken,
   writing_starts,
 }
 use Rattle.consolidate.proofs.write_row.Goals as goal
 
-pub put-requires : goal.put-requires
-put-requires c =
-    record { sized = c.requires.row_ready.state.says.sized; inside = c.requires.row_ready.state.heap }
-
-pub put-requires-2 : goal.put-requires-2
-put-requires-2 c =
-    record { sized = c.put.ensures.sized; inside = c.requires.row_ready.state.heap }
-
-pub loop-places-init : goal.loop-places-init
+pub loop-s-init : goal.loop-s-init
 unfolding occupied
-loop-places-init c = (refl, omega arith, λ a t D K e W. W)
+loop-s-init c =
+    let C = c.requires.state in
+    record {
+      inside = omega arith;
+      here = record {
+        amounts = c.requires.amounts;
+        forests = set_row c.args.h (occupied (trees_of c.args.linked.now.places)) c.requires.forests;
+        disjoint = (places_formed C).disjoint;
+        keys = (places_formed C).keys;
+        row = places_row C;
+        state = writing_starts C c.put.ensures c.put-2.ensures;
+      };
+      goes_on = λ a t D K e W. W;
+    }
 
 pub write_tree-m-requires : goal.write_tree-m-requires
 write_tree-m-requires c =
-    let here = c.loop-places.invariant.2 _ _ (places_formed c.requires.row_ready.state).disjoint (places_formed c.requires.row_ready.state).keys (places_row c.requires.row_ready.state) (writing_starts c.requires.row_ready.state c.put.ensures c.put-2.ensures) in
-    let goes_on : c.loop-places.r < 17 = let k = some_taken (trees_of c.args.places) c.loop-places.r (apart_by (c.any_from.ensures _ c.requires.taken_value) c.loop-places-test.true) in omega (arith, k, c.requires.row_ready.state.long) in
-    let ps = trees_of c.args.places in
-    let t = set_row c.args.h (occupied ps) c.requires.row_ready.forests in record {
+    let C = c.requires.state in
+    let H = c.loop-s.invariant.here in
+    let k = goes_on C c.args.linked.now.taken_places c.any_from.ensures c.loop-s-test.true in
+    let ps = trees_of c.args.linked.now.places in
+    record {
       tree_ready = record {
-        amounts = c.requires.row_ready.amounts;
-        forests = t;
-        written = occupied (take c.loop-places.r ps);
-        rest = occupied (drop (c.loop-places.r + 1) ps);
-        coming = coming c.args.h ps c.loop-places.r t (places_formed c.requires.row_ready.state).disjoint (places_formed c.requires.row_ready.state).keys c.requires.row_ready.state.heap
-            (places_row c.requires.row_ready.state) c.requires.row_ready.state.long goes_on refl;
-        state = here;
+        amounts = H.amounts;
+        forests = H.forests;
+        written = occupied (take c.loop-s.r ps);
+        rest = occupied (drop (c.loop-s.r + 1) ps);
+        coming = coming c.args.h ps c.loop-s.r H.forests H.disjoint H.keys C.heap H.row C.long k refl;
+        state = H.state;
       };
       taken_at = record {
-        places = omega (arith, c.requires.row_ready.state.long);
-        inside = omega (arith, c.requires.row_ready.state.long, goes_on);
-        number = c.requires.taken_value;
+        places = omega (arith, C.long);
+        inside = omega (arith, C.long, k);
+        number = c.args.linked.now.taken_places;
       };
     }
 
-pub loop-places-smaller : goal.loop-places-smaller
-loop-places-smaller c =
-    let goes_on : c.loop-places.r < 17 = let k = some_taken (trees_of c.args.places) c.loop-places.r (apart_by (c.any_from.ensures _ c.requires.taken_value) c.loop-places-test.true) in omega (arith, k, c.requires.row_ready.state.long) in
-    omega (arith, goes_on)
+pub loop-s-smaller : goal.loop-s-smaller
+loop-s-smaller c =
+    omega (arith, goes_on c.requires.state c.args.linked.now.taken_places c.any_from.ensures c.loop-s-test.true)
 
-pub loop-places-preserved : goal.loop-places-preserved
+pub loop-s-preserved : goal.loop-s-preserved
 unfolding WritesTree
-loop-places-preserved c =
-    let goes_on : c.loop-places.r < 17 = let k = some_taken (trees_of c.args.places) c.loop-places.r (apart_by (c.any_from.ensures _ c.requires.taken_value) c.loop-places-test.true) in omega (arith, k, c.requires.row_ready.state.long) in
-    let ps = trees_of c.args.places in (
-      omega (arith, c.write_tree-m.auto.s, c.loop-places.invariant.0),
-      omega (arith, goes_on),
-      λ a t D K e W.
-          place_written c.args.h ps c.loop-places.r t D K c.requires.row_ready.state.heap e c.requires.row_ready.state.long goes_on refl
-          (c.write_tree-m.ensures _ _ a t
-          (coming c.args.h ps c.loop-places.r t D K c.requires.row_ready.state.heap e c.requires.row_ready.state.long goes_on refl) (c.loop-places.invariant.2 a t D K e W)),
-    )
-
-pub put-requires-3 : goal.put-requires-3
-put-requires-3 c =
-    let here = c.loop-places.invariant.2 _ _ (places_formed c.requires.row_ready.state).disjoint (places_formed c.requires.row_ready.state).keys (places_row c.requires.row_ready.state) (writing_starts c.requires.row_ready.state c.put.ensures c.put-2.ensures) in
-    record { sized = here.says.sized; inside = c.requires.row_ready.state.heap }
-
-pub shape_of-s : goal.shape_of-s
-shape_of-s c =
-    omega (arith, c.put-3.auto.s, c.loop-places.invariant.0, c.put-2.auto.s, c.put.auto.s)
+loop-s-preserved c =
+    let C = c.requires.state in
+    let H = c.loop-s.invariant.here in
+    let k = goes_on C c.args.linked.now.taken_places c.any_from.ensures c.loop-s-test.true in
+    let ps = trees_of c.args.linked.now.places in
+    let next = λ (a : ℕ → ℕ) (t : Forests) (D : Disjoint t) (K : KeysFit t) (e : row_of t c.args.h ≡ occupied ps)
+    (W : WritingRow c.args.n c.args.h c.loop-s.s (occupied (take c.loop-s.r ps)) c.loop-s.m a t).
+    place_written c.args.h ps c.loop-s.r t D K C.heap e C.long k refl
+    (c.write_tree-m.ensures _ _ a t (coming c.args.h ps c.loop-s.r t D K C.heap e C.long k refl) W) in
+    record {
+      inside = omega (arith, k);
+      here = record {
+        amounts = H.amounts;
+        forests = H.forests;
+        disjoint = H.disjoint;
+        keys = H.keys;
+        row = H.row;
+        state = next H.amounts H.forests H.disjoint H.keys H.row H.state;
+      };
+      goes_on = λ a t D K e W. next a t D K e (c.loop-s.invariant.goes_on a t D K e W);
+    }
 
 pub returns : goal.returns
 unfolding WritesRow
 returns c =
     λ am t C.
-    row_written c.args.h (trees_of c.args.places) c.loop-places.r _ (places_formed C).disjoint (places_formed C).keys C.heap
+    row_written c.args.h (trees_of c.args.linked.now.places) c.loop-s.r _ (places_formed C).disjoint (places_formed C).keys C.heap
     (places_row C) C.long
-    (equal_by (c.any_from.ensures _ c.requires.taken_value) c.loop-places-test.false)
-    (c.loop-places.invariant.2 am _ (places_formed C).disjoint (places_formed C).keys (places_row C)
+    (equal_by (c.any_from.ensures _ c.args.linked.now.taken_places) c.loop-s-test.false)
+    (c.loop-s.invariant.goes_on am _ (places_formed C).disjoint (places_formed C).keys (places_row C)
     (writing_starts C c.put.ensures c.put-2.ensures)) c.put-3.ensures
-
-pub any_from-requires : goal.any_from-requires
-any_from-requires c = c.loop-places.invariant.1

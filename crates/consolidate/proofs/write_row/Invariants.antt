@@ -2,19 +2,23 @@
 use Prim.Native.Nat.{ℕ, ◌-◌, ◌≤◌}
 use mathlib.Core.Path.{◌≡◌}
 use mathlib.Core.List.{[]}
-use lib.ListN.{length, take}
+use lib.ListN.{take}
 use Rattle.rules.specs.Consolidate.{occupied}
 use Rattle.rules.specs.Forests.{Forests, none, row_of}
 use Rattle.rules.specs.WellFormed.{Disjoint, KeysFit}
 use Rattle.linking_places.specs.Places.{trees_of}
 use Rattle.consolidate.specs.Writing.{WritingRow}
+use Rattle.consolidate.proofs.RowWritten.{WrittenTo}
 use Rattle.consolidate.proofs.write_row.Given as goal
 
-abbrev pub invariant-loop-places : goal.invariant-loop-places
-invariant-loop-places l =
-    (length l.s ≡ length l.initial.s) × (l.r ≤ 17) ×
-    ((amounts : ℕ → ℕ) (t : Forests) → Disjoint t → KeysFit t → row_of t l.h ≡ occupied (trees_of l.places)
-    → WritingRow l.n l.h l.initial.s [] none amounts t → WritingRow l.n l.h l.s (occupied (take l.r (trees_of l.places))) l.m amounts t)
+abbrev pub invariant-loop-s : goal.invariant-loop-s
+invariant-loop-s l = record {
+  inside : l.r ≤ 17;
+  here : WrittenTo l.n l.h l.s (trees_of l.linked.places) l.r l.m;
+  goes_on : (amounts : ℕ → ℕ) (t : Forests) → Disjoint t → KeysFit t → row_of t l.h ≡ occupied (trees_of l.linked.places)
+      → WritingRow l.n l.h l.initial.s [] none amounts t
+      → WritingRow l.n l.h l.s (occupied (take l.r (trees_of l.linked.places))) l.m amounts t;
+}
 
-abbrev pub decreases-loop-places : goal.decreases-loop-places
-decreases-loop-places l = 17 - l.r
+abbrev pub decreases-loop-s : goal.decreases-loop-s
+decreases-loop-s l = 17 - l.r

@@ -1,17 +1,8 @@
 -- `consolidate::write_tree` meets its contract.
-use mathlib.Core.Logic.{◌≢◌}
-use native.Mathlib.Omega.{arith}
-use lib.ListN.{get_or}
-use Rattle.rules.specs.Forests.{none}
-use Rattle.linking_places.specs.Places.{trees_of}
 use Rattle.consolidate.specs.Writing.{WritesTree}
 use Rattle.consolidate.proofs.ClimbPlaces.{apart_by, equal_by}
 use Rattle.consolidate.proofs.WritingRow.{least_inside, none_written_tree, tree_inside, tree_ready, tree_written}
 use Rattle.consolidate.proofs.write_tree.Goals as goal
-
-pub is_taken-requires : goal.is_taken-requires
-is_taken-requires c =
-    omega (arith, c.requires.taken_at.inside, c.requires.taken_at.places)
 
 pub returns-then-not-is_taken : goal.returns-then-not-is_taken
 unfolding WritesTree
@@ -19,22 +10,14 @@ returns-then-not-is_taken c =
     λ written rest a t C W.
     none_written_tree C W (equal_by (c.is_taken.ensures _ c.requires.taken_at) c.if-not-is_taken.true)
 
-pub holder-x-requires : goal.holder-x-requires
-holder-x-requires c =
-    let stands : get_or (trees_of c.args.places.now) c.args.r 0 ≢ none = apart_by (c.is_taken.ensures _ c.requires.taken_at) c.if-not-is_taken.false in
-    record {
-      r_bound = omega (arith, c.requires.taken_at.inside, c.requires.taken_at.places);
-      r_nonzero = stands;
-    }
-
 pub append-requires : goal.append-requires
 append-requires c =
-    let stands : get_or (trees_of c.args.places.now) c.args.r 0 ≢ none = apart_by (c.is_taken.ensures _ c.requires.taken_at) c.if-not-is_taken.false in
+    let stands = apart_by (c.is_taken.ensures _ c.requires.taken_at) c.if-not-is_taken.false in
     rw c.holder-x.ensures (tree_ready c.requires.tree_ready.coming c.requires.tree_ready.state stands)
 
 pub lesser_of-requires : goal.lesser_of-requires
 lesser_of-requires c =
-    let stands : get_or (trees_of c.args.places.now) c.args.r 0 ≢ none = apart_by (c.is_taken.ensures _ c.requires.taken_at) c.if-not-is_taken.false in
+    let stands = apart_by (c.is_taken.ensures _ c.requires.taken_at) c.if-not-is_taken.false in
     record {
       h_bound = c.requires.tree_ready.coming.heap;
       two_items = record {
@@ -47,7 +30,7 @@ lesser_of-requires c =
 pub returns : goal.returns
 unfolding WritesTree
 returns c =
-    let stands : get_or (trees_of c.args.places.now) c.args.r 0 ≢ none = apart_by (c.is_taken.ensures _ c.requires.taken_at) c.if-not-is_taken.false in
+    let stands = apart_by (c.is_taken.ensures _ c.requires.taken_at) c.if-not-is_taken.false in
     λ written rest a t C W.
     tree_written C W stands (rw c.holder-x.ensures at c.append.ensures)
     (rw c.holder-x.ensures at c.lesser_of.ensures)

@@ -1,98 +1,78 @@
 -- `cut::cascading_cut` meets its contract. Invariant: what remains from here on gives the whole.
-use Prim.Native.Nat.{◌<◌}
-use mathlib.Core.Path.{refl, sym, ◌∙◌}
+use Prim.Native.Nat.{◌+◌, ◌-◌}
+use mathlib.Core.Path.{◌≡◌, sym, ◌∙◌}
 use mathlib.Core.Logic.{◌≢◌}
 use native.Mathlib.Omega.{arith}
+use Rattle.rules.specs.Cut.{cut}
 use Rattle.rules.specs.Forests.{none, parent_of}
-use Rattle.cut.proofs.Cutting.{member_item, parent_word, state_word, state_small}
+use Rattle.cut.proofs.Cutting.{after-cut, member_item, parent_word, state_word, state_small}
 use Rattle.cut.proofs.Cascading.{cascade_start, cascade_end, cascade_root, cascade_mark, cascade_turn}
 use Rattle.cut.proofs.cascading_cut.Goals as goal
 
-pub get-q-requires : goal.get-q-requires
-get-q-requires c =
-    let here = c.loop-left.invariant.2 c.requires.amounts c.requires.counts c.requires.minima c.requires.forests c.requires.holds c.requires.member in
-    let item : c.loop-left.p < c.args.n = member_item here.holds here.member in
-    record { sized = here.holds.says.sized; inside = item }
-
 pub returns-then-q : goal.returns-then-q
 returns-then-q c = λ amounts counts minima t H M.
-    let G = c.loop-left.invariant.2 amounts counts minima t H M in
-    cascade_root c.loop-left.left G c.loop-left-test.true
+    let G = c.loop-cuts.invariant.goes_on amounts counts minima t H M in
+    cascade_root _ G (omega arith)
     (sym (parent_word G.holds (member_item G.holds G.member)) ∙ sym c.get-q.ensures ∙ c.if-q.true)
-
-pub get-v-requires : goal.get-v-requires
-get-v-requires c =
-    let here = c.loop-left.invariant.2 c.requires.amounts c.requires.counts c.requires.minima c.requires.forests c.requires.holds c.requires.member in
-    let item : c.loop-left.p < c.args.n = member_item here.holds here.member in
-    record { sized = here.holds.says.sized; inside = item }
 
 pub overflow_add-v : goal.overflow_add-v
 overflow_add-v c =
-    let here = c.loop-left.invariant.2 c.requires.amounts c.requires.counts c.requires.minima c.requires.forests c.requires.holds c.requires.member in
-    let item : c.loop-left.p < c.args.n = member_item here.holds here.member in
-    omega (
-      arith,
-      c.get-v.ensures,
-      state_word here.holds item,
-      state_small here.member,
-    )
-
-pub put-requires : goal.put-requires
-put-requires c =
-    let here = c.loop-left.invariant.2 c.requires.amounts c.requires.counts c.requires.minima c.requires.forests c.requires.holds c.requires.member in
-    let item : c.loop-left.p < c.args.n = member_item here.holds here.member in
-    record { sized = here.holds.says.sized; inside = item }
+    let R = c.loop-cuts.invariant.ready in
+    omega (arith, c.get-v.ensures, state_word R.holds (member_item R.holds R.member), state_small R.member)
 
 pub returns-then-v-eq1 : goal.returns-then-v-eq1
 returns-then-v-eq1 c = λ amounts counts minima t H M.
-    let G = c.loop-left.invariant.2 amounts counts minima t H M in
+    let G = c.loop-cuts.invariant.goes_on amounts counts minima t H M in
     let i = member_item G.holds G.member in
-    cascade_mark _ c.loop-left.left G c.loop-left-test.true
-    (λ z. c.if-q.false (c.get-q.ensures ∙ parent_word G.holds i ∙ z))
+    cascade_mark _ _ G (omega arith) (λ z. c.if-q.false (c.get-q.ensures ∙ parent_word G.holds i ∙ z))
     (c.get-v.ensures ∙ state_word G.holds i) c.if-v-eq1.true c.put.ensures
 
 pub cut-requires : goal.cut-requires
 cut-requires c =
-    let here = c.loop-left.invariant.2 c.requires.amounts c.requires.counts c.requires.minima c.requires.forests c.requires.holds c.requires.member in
-    let item : c.loop-left.p < c.args.n = member_item here.holds here.member in
-    let G = here in
+    let R = c.loop-cuts.invariant.ready in
     record {
-      amounts = c.requires.amounts;
-      counts = c.requires.counts;
-      minima = c.requires.minima;
-      forests = G.here;
-      holds = G.holds;
+      amounts = R.amounts;
+      counts = R.counts;
+      minima = R.minima;
+      forests = R.forests;
+      holds = R.holds;
       child = record {
-        member = G.member;
-        child = λ z. c.if-q.false (c.get-q.ensures ∙ parent_word G.holds item ∙ z);
+        member = R.member;
+        child = λ z. c.if-q.false (c.get-q.ensures ∙ parent_word R.holds (member_item R.holds R.member) ∙ z);
       };
     }
 
-pub overflow_add-cuts : goal.overflow_add-cuts
-overflow_add-cuts c =
-    omega (arith, c.loop-left.invariant.1, c.requires.holds.says.sized.small)
-
-pub loop-left-preserved : goal.loop-left-preserved
-loop-left-preserved c = (
-  omega (arith, c.cut.auto.s, c.loop-left.invariant.0),
-  omega (arith, c.loop-left.invariant.1, c.loop-left-test.true),
-  λ amounts counts minima t H M.
-      let G = c.loop-left.invariant.2 amounts counts minima t H M in
+pub loop-cuts-preserved : goal.loop-cuts-preserved
+loop-cuts-preserved c = record {
+  ready =
+      let R = c.loop-cuts.invariant.ready in
+      let ne : parent_of R.forests c.loop-cuts.p ≢ none =
+      λ z. c.if-q.false (c.get-q.ensures ∙ parent_word R.holds (member_item R.holds R.member) ∙ z) in
+      let q : c.get-q.result ≡ parent_of R.forests c.loop-cuts.p = c.get-q.ensures ∙ parent_word R.holds (member_item R.holds R.member) in
+      record {
+        amounts = R.amounts;
+        counts = R.counts;
+        minima = R.minima;
+        forests = cut c.args.h c.loop-cuts.p R.forests;
+        holds = c.cut.ensures R.amounts R.counts R.minima R.forests R.holds (record { member = R.member; child = ne });
+        member = rw q (after-cut R.forests c.args.h c.loop-cuts.p R.member ne);
+      };
+  goes_on = λ amounts counts minima t H M.
+      let G = c.loop-cuts.invariant.goes_on amounts counts minima t H M in
       let i = member_item G.holds G.member in
-      let ne : parent_of G.here c.loop-left.p ≢ none =
+      let ne : parent_of G.here c.loop-cuts.p ≢ none =
       λ z. c.if-q.false (c.get-q.ensures ∙ parent_word G.holds i ∙ z) in
-      cascade_turn _ c.loop-left.left _ G c.loop-left-test.true ne
-      (c.get-v.ensures ∙ state_word G.holds i) c.if-v-eq1.false
+      let e : c.args.n + 1 - c.loop-cuts.cuts - 1 ≡ c.args.n + 1 - (c.loop-cuts.cuts + 1) = omega arith in
+      rw (← e)
+      (cascade_turn _ _ _ G (omega arith) ne (c.get-v.ensures ∙ state_word G.holds i) c.if-v-eq1.false
       (c.get-q.ensures ∙ parent_word G.holds i)
-      (c.cut.ensures amounts counts minima G.here G.holds (record { member = G.member; child = ne })),
-)
+      (c.cut.ensures amounts counts minima G.here G.holds (record { member = G.member; child = ne })));
+}
 
 pub returns : goal.returns
 returns c = λ amounts counts minima t H M.
-    cascade_end c.loop-left.left (c.loop-left.invariant.2 amounts counts minima t H M) (omega arith)
+    let e : c.loop-cuts.cuts ≡ c.args.n + 1 = omega arith in
+    rw (← e) (cascade_end _ (c.loop-cuts.invariant.goes_on amounts counts minima t H M) (omega arith))
 
-pub overflow_add-left : goal.overflow_add-left
-overflow_add-left c = omega (arith, c.requires.holds.says.sized.small)
-
-pub loop-left-init : goal.loop-left-init
-loop-left-init c = (refl, omega arith, λ amounts counts minima t H M. cascade_start H M)
+pub loop-cuts-init : goal.loop-cuts-init
+loop-cuts-init c = record { ready = c.requires; goes_on = λ amounts counts minima t H M. cascade_start H M }

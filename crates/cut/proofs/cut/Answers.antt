@@ -1,36 +1,12 @@
 -- `cut::cut` meets its contract.
 use mathlib.Core.Path.{refl, ◌∙◌}
-use native.Mathlib.Omega.{arith}
-use Rattle.cut.proofs.Cutting.{
-  member_heap,
-  member_item,
-  parent_word,
-  cut_remove_ready,
-  cut-append_ready,
-  cut_holds,
-}
+use Rattle.cut.proofs.Cutting.{member_item, parent_word, cut_remove_ready, cut-append_ready, cut_holds}
 use Rattle.cut.proofs.cut.Goals as goal
-
-pub get-p-requires : goal.get-p-requires
-get-p-requires c =
-    record { sized = c.requires.holds.says.sized; inside = member_item c.requires.holds c.requires.child.member }
 
 pub remove-requires : goal.remove-requires
 remove-requires c =
     let e = parent_word c.requires.holds (member_item c.requires.holds c.requires.child.member) in
     cut_remove_ready c.requires.holds c.requires.child (c.get-p.ensures ∙ e)
-
-pub overflow_mul-h : goal.overflow_mul-h
-overflow_mul-h c =
-    omega (arith, member_heap c.requires.child.member)
-
-pub overflow_add-h : goal.overflow_add-h
-overflow_add-h c =
-    omega (arith, member_heap c.requires.child.member)
-
-pub put-requires : goal.put-requires
-put-requires c =
-    record { sized = c.remove.ensures.sized; inside = member_item c.requires.holds c.requires.child.member }
 
 pub append-requires : goal.append-requires
 append-requires c =

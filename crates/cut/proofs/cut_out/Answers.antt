@@ -5,10 +5,6 @@ use Rattle.cut.proofs.Cutting.{member_item, parent_word}
 use Rattle.cut.proofs.CutOut.{parent_member, cuts_few, cut_out_holds}
 use Rattle.cut.proofs.cut_out.Goals as goal
 
-pub get-p-requires : goal.get-p-requires
-get-p-requires c =
-    record { sized = c.requires.holds.says.sized; inside = member_item c.requires.holds c.requires.child.member }
-
 pub cascading_cut-more-requires : goal.cascading_cut-more-requires
 cascading_cut-more-requires c =
     let e = c.get-p.ensures ∙ parent_word c.requires.holds (member_item c.requires.holds c.requires.child.member) in

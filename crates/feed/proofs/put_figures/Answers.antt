@@ -6,13 +6,13 @@ use Rattle.feed.proofs.put_figures.Goals as goal
 
 pub put_field-second-requires : goal.put_field-second-requires
 put_field-second-requires c =
-    omega (arith, field_11 c.args.links 44 (search rules), c.requires)
+    omega (arith, field_11 c.args.fed.links 44 (search rules), c.requires)
 
 pub put_field-third-requires : goal.put_field-third-requires
 put_field-third-requires c =
     omega (
       arith,
-      field_11 c.args.cuts 44
+      field_11 c.args.fed.cuts 44
           (search rules),
       after-field 22 _ _ (search rules) c.put_field-second.ensures
           (omega (arith, c.requires)),
@@ -23,7 +23,7 @@ put_field-requires c =
     omega (
       arith,
       field_11
-          c.args.examined 10
+          c.args.fed.examined 10
           (search rules),
       after-field 11 _ _ (search rules) c.put_field-third.ensures
           (omega (

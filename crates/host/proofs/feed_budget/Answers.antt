@@ -1,7 +1,26 @@
 -- `feed_budget` meets its contract: it hands on what the finder answers.
-use Rattle.host.proofs.Returned.{budget_returns}
+use Rattle.std.proofs.Common.{rules}
+use Rattle.relax.specs.Lent.{lists_of}
+use Rattle.host.proofs.Returned.{budget_returns, budget_refused}
 use Rattle.host.proofs.feed_budget.Goals as goal
 
-pub returns : goal.returns
-returns c =
-    budget_returns _ c.feed_within-within.ensures
+pub returns-in-Ok : goal.returns-in-Ok
+returns-in-Ok c =
+    let R = budget_returns {left = lists_of c.feed_within.new.table} c.in-Ok.ensures.fed in
+    record {
+      same_code = R.same_code;
+      same_figures = R.same_figures;
+      same_lists = search (rules, R.same_lists);
+      same_places = R.same_places;
+    }
+
+pub returns-in-Err : goal.returns-in-Err
+returns-in-Err c =
+    let R = budget_refused {left = lists_of c.feed_within.new.table} _ c.in-Err.ensures.fed in
+    rw c.code.ensures
+    (record {
+      same_code = R.same_code;
+      same_figures = R.same_figures;
+      same_lists = search (rules, R.same_lists);
+      same_places = R.same_places;
+    })

@@ -1,10 +1,25 @@
 -- `read_map` meets its contract.
-use Rattle.paths.specs.Map.{span_lists, windows}
-use Rattle.mapfile.specs.Read.{read_map}
-use Rattle.host.proofs.Returned.{read_returns}
+use Rattle.std.proofs.Common.{rules}
+use Rattle.host.proofs.Returned.{read_returns, read_refused}
 use Rattle.host.proofs.read_map.Goals as goal
 
-pub returns : goal.returns
-returns c =
-    read_returns (read_map _ (span_lists _ _ _) (windows _ _)) {left = span_lists _ _ _} {left_windows = windows _ _}
-    c.read-map.ensures
+pub returns-in-Ok : goal.returns-in-Ok
+returns-in-Ok c =
+    let R = read_returns _ c.in-Ok.ensures.reads in
+    record {
+      same_code = R.same_code;
+      same_figures = R.same_figures;
+      same_lists = search (rules, R.same_lists);
+      same_windows = search (rules, R.same_windows);
+    }
+
+pub returns-in-Err : goal.returns-in-Err
+returns-in-Err c =
+    let R = read_refused _ c.in-Err.ensures.reads in
+    rw c.code.ensures
+    (record {
+      same_code = R.same_code;
+      same_figures = R.same_figures;
+      same_lists = search (rules, R.same_lists);
+      same_windows = search (rules, R.same_windows);
+    })

@@ -4,7 +4,6 @@ use mathlib.Core.Path.{◌≡◌, refl, sym, ◌∙◌}
 use mathlib.Core.Logic.{◌≢◌}
 use mathlib.Core.List.{List}
 use mathlib.Core.Bool.{Bool, true, false}
-use native.Mathlib.Omega.{arith}
 use borrow.Author.Tests.{ltb-true, ltb-false}
 use lib.Dec.{ltb}
 use lib.ListN.{get_or}
@@ -24,12 +23,8 @@ is-item p d = go (ltb p free_place) refl
 below : (ps : List ℕ) (r : ℕ) → get_or (trees_of ps) r 0 ≢ none → get_or ps r 0 < free_place
 below ps r d = is-item (get_or ps r 0) (λ e. d (tree_read ps r ∙ e))
 
-pub overflow_cast-result-2 : goal.overflow_cast-result-2
-overflow_cast-result-2 c =
-    let a = c.args in
-    record { fits = omega (arith, below a.places.now a.r c.requires.r_nonzero) }
-
 pub returns : goal.returns
 returns c =
     let a = c.args in
-    sym (tree_read a.places.now a.r ∙ tree_item _ (below a.places.now a.r c.requires.r_nonzero))
+    rw (c.from-2.ensures, c.from.ensures)
+    (sym (tree_read a.places.now a.r ∙ tree_item _ (below a.places.now a.r c.requires.r_nonzero)))

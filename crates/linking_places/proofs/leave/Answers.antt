@@ -1,25 +1,17 @@
 -- `linking_places::leave` meets its contract.
-use mathlib.Core.Path.{refl, ap, ◌∙◌}
-use native.Mathlib.Numerals.{add-one}
-use native.Mathlib.Omega.{arith}
+use mathlib.Core.Path.{◌≡◌, refl, ap, ◌∙◌}
+use lib.ListN.{length, get_or}
+use Rattle.std.proofs.Common.{rules}
 use Rattle.linking_places.specs.Places.{trees_of}
-use Rattle.linking_places.proofs.Left.{all_left, left_to, next_left}
+use Rattle.linking_places.proofs.Left.{all_left, freed}
+use Rattle.linking_places.proofs.Made.{is_mapped}
 use Rattle.linking_places.proofs.leave.Goals as goal
-
-pub overflow_cast-gone : goal.overflow_cast-gone
-overflow_cast-gone c = record { fits = omega (arith, c.requires) }
-
-pub loop-at-init : goal.loop-at-init
-unfolding left_to
-loop-at-init c = refl
-
-pub loop-at-preserved : goal.loop-at-preserved
-loop-at-preserved c =
-    let c2 = c.before.before in
-    rw (c.free_if.ensures, c2.loop-at.invariant, add-one c2.loop-at.at) (next_left _ c2.loop-at.at _)
 
 pub returns : goal.returns
 returns c =
-    let c1 = c.before in
-    ap trees_of c1.loop-at.invariant ∙ all_left _ c1.loop-at.at _ c1.requires
-    (omega (arith, c1.well_formed.0, c.loop-at-test.false))
+    let a = c.args in
+    let long : length a.held ≡ 17 = search rules in
+    ap trees_of
+    (is_mapped _ _ (λ i. freed a.x (get_or a.held i 0)) (λ x y q k. search rules) (freed a.x) a.held c.from_fn.result 17
+    (λ k. refl) long c.from_fn.ensures.items)
+    ∙ all_left a.x a.held c.requires

@@ -31,12 +31,12 @@ loop-at-smaller c =
 pub loop-at-preserved : goal.loop-at-preserved
 loop-at-preserved c =
     one_counted c.loop-at.invariant _ c.line_end-end.ensures (omega arith)
-    (sym c.if-is_span.true ∙ c.is_span.ensures)
+    (sym c.if-not-is_span.false ∙ c.is_span.ensures)
 
-pub returns-else-is_span : goal.returns-else-is_span
-returns-else-is_span c =
+pub returns-then-not-is_span : goal.returns-then-not-is_span
+returns-then-not-is_span c =
     bad_line c.loop-at.invariant _ c.line_end-end.ensures (omega arith)
-    (sym c.if-is_span.false ∙ c.is_span.ensures)
+    (sym c.if-not-is_span.true ∙ c.is_span.ensures)
 
 pub returns : goal.returns
 returns c = all_counted c.loop-at.invariant (omega arith)

@@ -7,4 +7,4 @@ use Rattle.modem.proofs.queue_run.Goals as goal
 pub returns : goal.returns
 unfolding store_size
 returns c =
-    run_returned _ _ _ c.run_fresh-ran.ensures refl _ c.result_number.ensures
+    run_returned _ _ _ c.run_fresh.ensures refl _ c.result_number.ensures

@@ -1,31 +1,25 @@
 -- `run_kept` meets its contract.
-use native.Mathlib.Omega.{arith}
-use Rattle.sheet.proofs.Leaves.{kept_refused, unsound, kept_runnable, kept_fits, kept_ran}
-use mathlib.Core.Path.{sym, ◌∙◌}
+use borrow.Author.Rules.{rules}
+use mathlib.Core.Path.{refl, sym, ◌∙◌}
+use Rattle.rules.specs.Refusals.{code}
+use Rattle.sheet.proofs.Leaves.{kept_refused, unsound, few, kept_runnable, kept_ran}
 use Rattle.sheet.proofs.run_kept.Goals as goal
 
-pub returns-then-code-ne0 : goal.returns-then-code-ne0
-returns-then-code-ne0 c = kept_refused c.check_limits-within.ensures c.if-code-ne0.true c.refused_run.ensures
+pub returns-in_err-within : goal.returns-in_err-within
+returns-in_err-within c = let refused = kept_refused c.in_err-within.ensures in search rules
 
 pub returns-then-not-sound : goal.returns-then-not-sound
-returns-then-not-sound c =
-    unsound c.check_limits-within.ensures c.if-code-ne0.false
-    (sym c.sound.ensures ∙ c.if-not-sound.true) c.refused_run-then-not-sound.ensures
+unfolding code
+returns-then-not-sound c = unsound c.in_ok-within.ensures (sym c.sound.ensures ∙ c.if-not-sound.true) refl
 
-pub run_lines-bytes-requires : goal.run_lines-bytes-requires
-run_lines-bytes-requires c =
-    kept_runnable c.check_limits-within.ensures c.if-code-ne0.false
-    (sym c.sound.ensures ∙ c.if-not-sound.false)
+pub run_within-requires-clause-runnable : goal.run_within-requires-clause-runnable
+run_within-requires-clause-runnable c =
+    kept_runnable c.in_ok-within.ensures (sym c.sound.ensures ∙ c.if-not-sound.false)
 
-pub overflow_cast-result : goal.overflow_cast-result
-overflow_cast-result c =
-    omega (
-      arith,
-      kept_fits c.check_limits-within.ensures c.if-code-ne0.false
-          (sym c.sound.ensures ∙ c.if-not-sound.false) c.run_lines-bytes.ensures,
-    )
+pub run_within-requires-clause-few : goal.run_within-requires-clause-few
+run_within-requires-clause-few c = few c.in_ok-within.ensures
 
 pub returns : goal.returns
 returns c =
-    kept_ran c.check_limits-within.ensures c.if-code-ne0.false
-    (sym c.sound.ensures ∙ c.if-not-sound.false) c.run_lines-bytes.ensures
+    kept_ran c.in_ok-within.ensures (sym c.sound.ensures ∙ c.if-not-sound.false) c.run_within.ensures.same
+    c.run_within.ensures.ran

@@ -1,10 +1,8 @@
 -- `store::add_rank` meets its contract.
-use mathlib.Core.Path.{refl, subst}
+use mathlib.Core.Path.{subst}
 use native.Mathlib.Omega.{arith}
-use Rattle.rules.specs.declared.Field.TheVariants.{Rank}
 use Rattle.rules.specs.Words.{look}
 use Rattle.store.specs.Siblings.{RankRises}
-use Rattle.store.proofs.Owners.{children_within}
 use Rattle.store.proofs.Moves.{row_rank, add_changes}
 use Rattle.store.proofs.add_rank.Goals as goal
 
@@ -18,11 +16,5 @@ pub returns-in-Children : goal.returns-in-Children
 returns-in-Children c =
     add_changes c.in-Children.is c.requires.owner_ready.inside c.get-r.ensures c.put.ensures
 
-pub get-r-requires : goal.get-r-requires
-get-r-requires c = children_within Rank refl c.in-Children.is c.requires.owner_ready
-
-pub put-requires : goal.put-requires
-put-requires c = children_within Rank refl c.in-Children.is c.requires.owner_ready
-
-pub returns-in-Row : goal.returns-in-Row
-returns-in-Row c = (row_rank c.in-Row.is c.requires.owner_ready.sized).0
+pub returns-in_default : goal.returns-in_default
+returns-in_default c = (row_rank c.in_default.is c.requires.owner_ready.sized).0

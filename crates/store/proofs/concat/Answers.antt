@@ -1,16 +1,6 @@
 -- `store::concat` meets its contract.
-use mathlib.Core.Path.{sym, subst}
-use Rattle.store.specs.Siblings.{Link}
 use Rattle.store.proofs.Moves.{concat_changes, concat_empty}
 use Rattle.store.proofs.concat.Goals as goal
-
-pub join-requires : goal.join-requires
-join-requires c =
-    record {
-      owner = c.requires.owner;
-      last = subst (Link c.args.n) (sym c.last-l.ensures) c.requires.last;
-      item = c.requires.first c.if-x-ne-NONE.true;
-    }
 
 pub returns-then-x-ne-NONE : goal.returns-then-x-ne-NONE
 returns-then-x-ne-NONE c =

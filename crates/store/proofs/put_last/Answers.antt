@@ -1,8 +1,5 @@
 -- `store::put_last` meets its contract.
-use mathlib.Core.Path.{refl}
-use Rattle.rules.specs.declared.Field.TheVariants.{LastTree, LastChild}
 use Rattle.store.specs.Siblings.{set_last}
-use Rattle.store.proofs.Owners.{row_within, children_within}
 use Rattle.store.proofs.put_last.Goals as goal
 
 pub returns-in-Row : goal.returns-in-Row
@@ -14,9 +11,3 @@ pub returns-in-Children : goal.returns-in-Children
 unfolding set_last
 returns-in-Children c =
     rw c.in-Children.is c.put-in-Children.ensures
-
-pub put-requires : goal.put-requires
-put-requires c = row_within LastTree refl c.in-Row.is c.requires
-
-pub put-requires-in-Children : goal.put-requires-in-Children
-put-requires-in-Children c = children_within LastChild refl c.in-Children.is c.requires

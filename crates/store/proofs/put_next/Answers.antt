@@ -2,10 +2,6 @@
 use Rattle.store.proofs.Owners.{next_first, next_item}
 use Rattle.store.proofs.put_next.Goals as goal
 
-pub put-requires : goal.put-requires
-put-requires c =
-    record { sized = c.requires.owner.sized; inside = c.requires.link c.if-a-eq-NONE.false }
-
 pub returns-then-a-eq-NONE : goal.returns-then-a-eq-NONE
 returns-then-a-eq-NONE c =
     next_first _ _ _ c.if-a-eq-NONE.true c.put_first.ensures
@@ -13,6 +9,3 @@ returns-then-a-eq-NONE c =
 pub returns-else-a-eq-NONE : goal.returns-else-a-eq-NONE
 returns-else-a-eq-NONE c =
     next_item _ _ _ c.if-a-eq-NONE.false c.put.ensures
-
-pub put_first-requires : goal.put_first-requires
-put_first-requires c = c.requires.owner

@@ -2,10 +2,6 @@
 use Rattle.store.proofs.Owners.{prev_last, prev_item}
 use Rattle.store.proofs.put_prev.Goals as goal
 
-pub put-requires : goal.put-requires
-put-requires c =
-    record { sized = c.requires.owner.sized; inside = c.requires.link c.if-b-eq-NONE.false }
-
 pub returns-then-b-eq-NONE : goal.returns-then-b-eq-NONE
 returns-then-b-eq-NONE c =
     prev_last _ _ _ c.if-b-eq-NONE.true c.put_last.ensures
@@ -13,6 +9,3 @@ returns-then-b-eq-NONE c =
 pub returns-else-b-eq-NONE : goal.returns-else-b-eq-NONE
 returns-else-b-eq-NONE c =
     prev_item _ _ _ c.if-b-eq-NONE.false c.put.ensures
-
-pub put_last-requires : goal.put_last-requires
-put_last-requires c = c.requires.owner

@@ -1,9 +1,10 @@
 -- `ends_at` meets its contract.
+use Rattle.std.proofs.Common.{rules}
 use Rattle.text.proofs.LineRest.{ends_inside, ends_past}
 use Rattle.text.proofs.ends_at.Goals as goal
 
-pub returns-then-at-s : goal.returns-then-at-s
-returns-then-at-s c = ends_inside _ _ c.if-at-s.true
+pub returns-in-Some : goal.returns-in-Some
+returns-in-Some c = search (rules, ends_inside)
 
-pub returns : goal.returns
-returns c = ends_past _ _ c.if-at-s.false
+pub returns-in-None : goal.returns-in-None
+returns-in-None c = ends_past _ _ (search rules)

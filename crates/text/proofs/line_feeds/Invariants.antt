@@ -1,10 +1,8 @@
 -- `line_feeds` meets its contract. The invariant: the LF counted and those to come are all.
-use Rattle.std.proofs.Common.{◌-◌, length}
-use Rattle.text.proofs.LineFeeds.{Counted}
+use Rattle.std.proofs.Common.{◌≡◌, ◌+◌}
+use Rattle.text.specs.Lines.{line_feeds}
 use Rattle.text.proofs.line_feeds.Given as goal
 
-abbrev pub invariant-loop-at : goal.invariant-loop-at
-invariant-loop-at l = Counted l.s l.n l.at
-
-abbrev pub decreases-loop-at : goal.decreases-loop-at
-decreases-loop-at l = length l.s - l.at
+abbrev pub invariant-loop-part : goal.invariant-loop-part
+invariant-loop-part l =
+    (l.n + line_feeds l.part-iterator.rest.now ≡ line_feeds l.s) × (l.part-iterator.size ≡ 255)

@@ -1,29 +1,28 @@
 -- `row_from` meets its contract: one law for each way out of a turn.
-use Rattle.std.proofs.Common.{sym, ◌∙◌, arith}
+use Rattle.std.proofs.Common.{sym, ◌∙◌, arith, rules}
+use Rattle.text.specs.Fields.{RowAnswered}
 use Rattle.text.proofs.ReadingRow.{none_yet, row_fails, row-full, row_ends, row_goes_on}
 use Rattle.text.proofs.row_from.Goals as goal
 
-pub loop-count-init : goal.loop-count-init
-loop-count-init c = none_yet _ _
+pub loop-i-init : goal.loop-i-init
+loop-i-init g c = none_yet _ _ _
 
-pub returns-in_default : goal.returns-in_default
-returns-in_default c =
-    row_fails c.loop-count.invariant c.in_default.is c.no_row.ensures
+pub returns-in_err-x : goal.returns-in_err-x
+unfolding RowAnswered
+returns-in_err-x g c = search (rules, row_fails)
 
 pub returns-then-ends_at : goal.returns-then-ends_at
-returns-then-ends_at c =
-    let tested = c.before in
-    let found = tested.before.before in
-    row_ends found.loop-count.invariant (omega arith) found.in-Value.is
-    (sym tested.ends_at.ensures ∙ c.if-ends_at.true)
+unfolding RowAnswered
+returns-then-ends_at g c =
+    row_ends c.loop-i.invariant (omega arith) (search rules)
+    (sym c.ends_at.ensures ∙ c.if-ends_at.true)
 
-pub loop-count-preserved : goal.loop-count-preserved
-loop-count-preserved c =
-    let tested = c.before.before in
-    let found = tested.before.before in
+pub loop-i-preserved : goal.loop-i-preserved
+loop-i-preserved g c =
     rw c.field_at-next.ensures
-    (row_goes_on found.loop-count.invariant (omega arith) found.in-Value.is
-    (sym tested.ends_at.ensures ∙ c.if-ends_at.false))
+    (row_goes_on c.loop-i.invariant (omega arith) (search rules)
+    (sym c.ends_at.ensures ∙ c.if-ends_at.false))
 
 pub returns : goal.returns
-returns c = row-full c.loop-count.invariant (omega arith) c.no_row-2.ensures
+unfolding RowAnswered
+returns g c = row-full c.loop-i.invariant (omega arith)

@@ -1,22 +1,28 @@
 -- `turn::turn_store` meets its contract.
 use native.Mathlib.Omega.{arith}
+use Rattle.rules.specs.Refusals.{code}
 use Rattle.store.proofs.Sizes.{store_sized}
 use Rattle.turn.proofs.TurnDone.{no_store, other_length, unsound, sound_turned, same_size}
 use mathlib.Core.Path.{sym, ◌∙◌}
 use Rattle.turn.proofs.turn_store.Goals as goal
 
 pub returns-then-not-is_store : goal.returns-then-not-is_store
-returns-then-not-is_store c = no_store _ _ (sym c.is_store.ensures ∙ c.if-not-is_store.true)
+unfolding code
+returns-then-not-is_store c = rw c.code.ensures (no_store _ _ (sym c.is_store.ensures ∙ c.if-not-is_store.true))
 
 pub returns-then-turned-old : goal.returns-then-turned-old
+unfolding code
 returns-then-turned-old c =
-    other_length _ _ (sym c.is_store.ensures ∙ c.if-not-is_store.false)
-    (λ e. omega (arith, c.if-turned-old.true, e))
+    rw c.code-then-turned-old.ensures
+    (other_length _ _ (sym c.is_store.ensures ∙ c.if-not-is_store.false)
+    (λ e. omega (arith, c.if-turned-old.true, e)))
 
-pub returns-then-not-sound_in : goal.returns-then-not-sound_in
-returns-then-not-sound_in c =
-    unsound _ _ (sym c.is_store.ensures ∙ c.if-not-is_store.false) c.if-turned-old.false
-    (sym c.sound_in.ensures ∙ c.if-not-sound_in.true)
+pub returns-then-not-sound : goal.returns-then-not-sound
+unfolding code
+returns-then-not-sound c =
+    rw c.code-then-not-sound.ensures
+    (unsound _ _ (sym c.is_store.ensures ∙ c.if-not-is_store.false) c.if-turned-old.false
+    (sym c.sound.ensures ∙ c.if-not-sound.true))
 
 pub turn_heaps-requires : goal.turn_heaps-requires
 turn_heaps-requires c =
@@ -27,16 +33,7 @@ turn_heaps-requires c =
       sized_2 = same_size S c.if-turned-old.false;
     }
 
-pub turn_items-requires : goal.turn_items-requires
-turn_items-requires c =
-    let S =
-    store_sized _ (sym c.is_store.ensures ∙ c.if-not-is_store.false) c.items_of-n.ensures in
-    record {
-      sized = S;
-      turned_to = c.turn_heaps.ensures;
-    }
-
 pub returns : goal.returns
 returns c =
     sound_turned _ _ (sym c.is_store.ensures ∙ c.if-not-is_store.false) c.if-turned-old.false
-    (sym c.sound_in.ensures ∙ c.if-not-sound_in.false) c.turn_items.ensures
+    (sym c.sound.ensures ∙ c.if-not-sound.false) c.turn_items.ensures

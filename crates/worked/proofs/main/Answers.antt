@@ -1,32 +1,30 @@
--- The array is a store for nine items, and each run keeps its length.
-use borrow.Author.Rules.{rules}
+-- Each run keeps the length of the store, which is one for nine items.
+use Rattle.std.proofs.Common.{rules}
 use Rattle.rules.specs.Words.{store_size}
 use Rattle.worked.proofs.main.Goals as goal
 
-pub show_fresh-requires : goal.show_fresh-requires
-unfolding store_size
-show_fresh-requires c = search rules
+pub loop-name-init : goal.loop-name-init
+loop-name-init c = search rules
 
-pub show_fresh-requires-2 : goal.show_fresh-requires-2
+pub show-requires : goal.show-requires
 unfolding store_size
-show_fresh-requires-2 c = search rules
+show-requires c = let same = c.run_fresh-ran.auto.store in let kept = c.loop-name.invariant in search rules
 
-pub show_fresh-requires-3 : goal.show_fresh-requires-3
-unfolding store_size
-show_fresh-requires-3 c = search rules
+pub loop-name-preserved : goal.loop-name-preserved
+loop-name-preserved c = let same = c.run_fresh-ran.auto.store in let kept = c.loop-name.invariant in search rules
 
-pub show_fresh-requires-4 : goal.show_fresh-requires-4
-unfolding store_size
-show_fresh-requires-4 c = search rules
+pub loop-name-2-init : goal.loop-name-2-init
+loop-name-2-init c = let kept = c.loop-name.invariant in search rules
 
-pub show_kept-requires : goal.show_kept-requires
+pub show-requires-in-loop-name-2 : goal.show-requires-in-loop-name-2
 unfolding store_size
-show_kept-requires c = search rules
+show-requires-in-loop-name-2 c =
+    let same = c.run_kept-ran.auto.store in
+    let kept = c.loop-name-2.invariant in
+    search rules
 
-pub show_kept-requires-2 : goal.show_kept-requires-2
-unfolding store_size
-show_kept-requires-2 c = search rules
-
-pub show_kept-requires-3 : goal.show_kept-requires-3
-unfolding store_size
-show_kept-requires-3 c = search rules
+pub loop-name-2-preserved : goal.loop-name-2-preserved
+loop-name-2-preserved c =
+    let same = c.run_kept-ran.auto.store in
+    let kept = c.loop-name-2.invariant in
+    search rules

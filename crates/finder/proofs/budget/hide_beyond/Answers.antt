@@ -1,31 +1,33 @@
 -- `finder::budget::hide_beyond` meets its contract. Invariant: the words before p are rewritten, the others as at the
 -- start.
-use Prim.Native.Nat.{◌<◌}
 use mathlib.Core.Path.{refl, ◌∙◌}
 use native.Mathlib.Omega.{arith}
-use lib.ListN.{length, length-set}
+use borrow.Author.Rules.{rules}
+use lib.ListN.{length-set}
 use Rattle.finder.proofs.HideBeyond.{hide_more, hide_all}
 use Rattle.finder.proofs.budget.hide_beyond.Goals as goal
 
 pub loop-p-preserved : goal.loop-p-preserved
 loop-p-preserved c =
-    let h : c.loop-p.p < length c.args.best.now = omega arith in (
-      hide_more _ c.args.best.now c.args.best.now c.loop-p.p refl h c.loop-p.invariant.0 c.loop-p.invariant.0 c.word_within.ensures,
-      hide_more _ c.args.best.now c.args.last.now c.loop-p.p c.requires.0 h c.loop-p.invariant.0 c.loop-p.invariant.1 c.word_within-in-loop-p.ensures,
-      hide_more _ c.args.best.now c.args.joints.now c.loop-p.p c.requires.1 h c.loop-p.invariant.0 c.loop-p.invariant.2 c.word_within-in-loop-p-2.ensures,
-      omega arith,
-      length-set c.loop-p.best c.loop-p.p _ ∙ c.loop-p.invariant.4,
-      length-set c.loop-p.last c.loop-p.p _ ∙ c.loop-p.invariant.5,
-      length-set c.loop-p.joints c.loop-p.p _ ∙ c.loop-p.invariant.6,
+    let T = c.args.table.now in
+    let I = c.loop-p.invariant in (
+      search rules,
+      hide_more _ T.best.now T.best.now c.loop-p.p refl (omega arith) I.1 I.1 c.word_within.ensures,
+      hide_more _ T.best.now T.last.now c.loop-p.p c.requires.0 (omega arith) I.1 I.2 c.word_within-in-loop-p.ensures,
+      hide_more _ T.best.now T.joints.now c.loop-p.p c.requires.1 (omega arith) I.1 I.3
+          c.word_within-in-loop-p-2.ensures,
+      length-set c.loop-p.table.best.now c.loop-p.p _ ∙ I.4,
+      length-set c.loop-p.table.last.now c.loop-p.p _ ∙ I.5,
+      length-set c.loop-p.table.joints.now c.loop-p.p _ ∙ I.6,
+      I.7,
     )
 
-pub returns : goal.returns
-returns c =
+pub returns-clause-hidden : goal.returns-clause-hidden
+returns-clause-hidden c =
+    let T = c.args.table.now in
+    let I = c.loop-p.invariant in
     record {
-      best_is = c.loop-p.invariant.0 ∙ hide_all _ c.args.best.now c.args.best.now c.loop-p.p refl (omega arith);
-      last_is = c.loop-p.invariant.1 ∙ hide_all _ c.args.best.now c.args.last.now c.loop-p.p c.requires.0 (omega arith);
-      joints_is = c.loop-p.invariant.2 ∙ hide_all _ c.args.best.now c.args.joints.now c.loop-p.p c.requires.1 (omega arith);
+      best_is = I.1 ∙ hide_all _ T.best.now T.best.now c.loop-p.p refl (omega arith);
+      last_is = I.2 ∙ hide_all _ T.best.now T.last.now c.loop-p.p c.requires.0 (omega arith);
+      joints_is = I.3 ∙ hide_all _ T.best.now T.joints.now c.loop-p.p c.requires.1 (omega arith);
     }
-
-pub loop-p-init : goal.loop-p-init
-loop-p-init c = (refl, refl, refl, omega arith, refl, refl, refl)

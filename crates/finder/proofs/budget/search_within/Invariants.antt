@@ -1,27 +1,19 @@
 -- `finder::budget::search_within` meets its contract. The invariant: as many steps are made as places were visited, and
 -- the places taken are listed.
-use Prim.Native.Nat.{ℕ, ◌-◌}
+use Prim.Native.Nat.{◌-◌}
 use mathlib.Core.Path.{◌≡◌}
 use lib.ListN.{length}
-use Rattle.paths.specs.Map.{span_lists, windows, map_at}
 use Rattle.paths.specs.Table.{up_to}
 use Rattle.paths.specs.Search.{beyond}
-use Rattle.paths.specs.Feed.{result_lists}
-use Rattle.finder.specs.SearchState.{ListReady}
+use Rattle.spans.specs.Lists.{map_from}
+use Rattle.relax.specs.Lent.{lists_of, SameLists}
 use Rattle.finder.proofs.ListTaken.{ListsTaken}
 use Rattle.finder.proofs.budget.search_within.Given as goal
 
 abbrev pub invariant-loop-go : goal.invariant-loop-go
 invariant-loop-go l =
-    ((start : ℕ)
-    → ListReady l.budget (map_at l.places start l.minute (span_lists l.from l.to l.loss) (windows l.opens l.closes))
-    (result_lists l.initial.best l.initial.last l.initial.joints l.initial.store) l.initial.listed l.initial.go
-    → ListsTaken (beyond (up_to l.budget))
-    (map_at l.places start l.minute (span_lists l.from l.to l.loss) (windows l.opens l.closes)) l.initial.listed
-    (result_lists l.best l.last l.joints l.store) l.listed l.go)
-    × (length l.best ≡ length l.initial.best) × (length l.last ≡ length l.initial.last) × (length l.joints ≡ length l.initial.joints)
-    × (length l.listed ≡ length l.initial.listed) × (length l.store ≡ length l.initial.store)
+    ListsTaken (beyond (up_to l.budget)) (map_from l.map) l.initial.listed (lists_of l.table) l.listed l.go
+    × SameLists l.initial.table l.table × (length l.listed ≡ length l.initial.listed)
 
 abbrev pub decreases-loop-go : goal.decreases-loop-go
-decreases-loop-go l =
-    l.places - l.go.visited
+decreases-loop-go l = l.map.places - l.go.visited

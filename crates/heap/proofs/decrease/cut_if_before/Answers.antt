@@ -3,10 +3,6 @@ use Rattle.cut.proofs.Cutting.{member_heap, member_item}
 use Rattle.heap.proofs.CutIf.{before_cut, child, kept, later_kept, no_parent, parent_inside}
 use Rattle.heap.proofs.decrease.cut_if_before.Goals as goal
 
-pub get-p-requires : goal.get-p-requires
-get-p-requires c =
-    record { sized = c.requires.holds.says.sized; inside = member_item c.requires.holds c.requires.member }
-
 pub returns-then-p : goal.returns-then-p
 returns-then-p c =
     record { gives = λ amounts counts minima t H K M. kept H M c.get-p.ensures (rw (no_parent H M c.get-p.ensures c.if-p.true)) }

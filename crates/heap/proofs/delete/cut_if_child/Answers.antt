@@ -1,11 +1,6 @@
 -- `heap::delete::cut_if_child` meets its contract, by a law for each return.
-use Rattle.cut.proofs.Cutting.{member_item}
 use Rattle.heap.proofs.CutIf.{child, child_cut, kept, no_parent}
 use Rattle.heap.proofs.delete.cut_if_child.Goals as goal
-
-pub get-p-requires : goal.get-p-requires
-get-p-requires c =
-    record { sized = c.requires.holds.says.sized; inside = member_item c.requires.holds c.requires.member }
 
 pub returns-then-p : goal.returns-then-p
 returns-then-p c =

@@ -26,6 +26,3 @@ returns-then-m-i c =
 pub delete_other-requires : goal.delete_other-requires
 delete_other-requires c =
     as_other c.requires c.heap_of-h.ensures (rw c.heap_of-h.ensures at c.get-m.ensures) c.if-m-i.false
-
-pub returns : goal.returns
-returns c = c.delete_other.ensures

@@ -1,5 +1,5 @@
 -- `heap::insert::count_item` meets its contract.
-use Rattle.std.proofs.Common.{sym, subst, arith}
+use Rattle.std.proofs.Common.{sym, subst}
 use Rattle.store.specs.Siblings.{Link}
 use Rattle.heap.proofs.Entering.{count_item_changes}
 use Rattle.heap.proofs.insert.count_item.Goals as goal
@@ -14,10 +14,6 @@ lesser_of-least-requires c =
         two = λ _. c.requires.enter.item;
       };
     }
-
-pub overflow_add-c : goal.overflow_add-c
-overflow_add-c c =
-    omega (arith, c.get-c.ensures, c.requires.count)
 
 pub returns : goal.returns
 returns c =

@@ -1,5 +1,5 @@
 -- `heap::meld::join_heaps` meets its contract.
-use Rattle.std.proofs.Common.{sym, subst, arith}
+use Rattle.std.proofs.Common.{sym, subst}
 use Rattle.store.specs.Siblings.{Link}
 use Rattle.heap.proofs.JoiningHeaps.{join_heaps_changes}
 use Rattle.heap.proofs.meld.join_heaps.Goals as goal
@@ -14,14 +14,6 @@ lesser_of-least-requires c =
         two = subst (Link c.args.n) (sym c.get-q.ensures) c.requires.two;
       };
     }
-
-pub overflow_add-c : goal.overflow_add-c
-overflow_add-c c =
-    omega (arith, c.get-c.ensures, c.get-d.ensures, c.requires.count)
-
-pub put-requires-2 : goal.put-requires-2
-put-requires-2 c =
-    record { sized = c.put.ensures.sized; inside = c.requires.rows.heaps.into }
 
 pub returns : goal.returns
 returns c =

@@ -1,6 +1,6 @@
 -- `heap::perform::deleted` meets its contract.
 use Rattle.heap.proofs.SoundStore.{sound_says}
-use Rattle.heap.proofs.Answered.{deleted_item, deleted_performed}
+use Rattle.heap.proofs.Answered.{deleted_item, deleted_done}
 use Rattle.heap.proofs.Deleting.{deleted_in_heap}
 use Rattle.heap.proofs.ItemHeap.{heap_inside}
 use Rattle.heap.proofs.perform.deleted.Goals as goal
@@ -15,11 +15,7 @@ key_of-k-requires c =
       h_bound = rw c.heap_of.ensures (heap_inside (deleted_in_heap c.requires));
     }
 
-pub delete-after-requires : goal.delete-after-requires
-delete-after-requires c =
-    c.requires
-
 pub returns : goal.returns
 returns c =
-    deleted_performed c.requires c.heap_of.ensures c.key_of-k.ensures
-    c.delete-after.ensures c.answer.ensures
+    deleted_done c.requires c.heap_of.ensures c.key_of-k.ensures
+    c.delete-after.ensures

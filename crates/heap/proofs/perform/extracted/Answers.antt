@@ -2,7 +2,7 @@
 use Rattle.std.proofs.Common.{◌<◌, sym, ◌∙◌, subst}
 use Rattle.heap.proofs.SoundStore.{minimum-at, sound_says}
 use Rattle.heap.proofs.RefusalWords.{find_heap}
-use Rattle.heap.proofs.Answered.{as_find, minimum_item, extracted_performed}
+use Rattle.heap.proofs.Answered.{as_find, minimum_item, extracted_done}
 use Rattle.heap.proofs.perform.extracted.Goals as goal
 
 pub get-i-requires : goal.get-i-requires
@@ -23,12 +23,8 @@ key_of-k-requires c =
       h_bound = find_heap A;
     }
 
-pub extract_min-after-requires : goal.extract_min-after-requires
-extract_min-after-requires c =
-    c.requires
-
 pub returns : goal.returns
 returns c =
     let A = as_find c.requires.allowed in
-    extracted_performed c.requires (c.get-i.ensures ∙ minimum-at A.store (find_heap A)) c.key_of-k.ensures
-    c.extract_min-after.ensures c.answer.ensures
+    extracted_done c.requires (c.get-i.ensures ∙ minimum-at A.store (find_heap A)) c.key_of-k.ensures
+    c.extract_min-after.ensures

@@ -1,7 +1,7 @@
 -- `heap::perform::found_min` meets its contract.
 use Rattle.std.proofs.Common.{◌<◌, sym, subst}
 use Rattle.heap.proofs.SoundStore.{sound_says}
-use Rattle.heap.proofs.Answered.{minimum_item, found_min_performed}
+use Rattle.heap.proofs.Answered.{minimum_item, found_min_done}
 use Rattle.heap.proofs.RefusalWords.{find_heap}
 use Rattle.heap.proofs.perform.found_min.Goals as goal
 
@@ -17,7 +17,4 @@ key_of-k-requires c =
 
 pub returns : goal.returns
 returns c =
-    found_min_performed c.requires c.find_min-i.ensures c.key_of-k.ensures c.answer.ensures
-
-pub find_min-i-requires : goal.find_min-i-requires
-find_min-i-requires c = c.requires.allowed
+    found_min_done c.requires c.find_min-i.ensures c.key_of-k.ensures

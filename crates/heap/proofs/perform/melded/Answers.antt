@@ -1,7 +1,7 @@
 -- `heap::perform::melded` meets its contract.
 use Rattle.std.proofs.Common.{arith}
 use Rattle.heap.proofs.MeldWords.{counts_fit, move_items_ready}
-use Rattle.heap.proofs.Answered.{melded_performed}
+use Rattle.heap.proofs.Answered.{melded_done}
 use Rattle.heap.proofs.perform.melded.Goals as goal
 
 pub get-c-requires : goal.get-c-requires
@@ -14,14 +14,10 @@ get-d-requires c =
     let H = move_items_ready c.requires.allowed in
     record { sized = H.sized; inside = H.from }
 
-pub meld-requires : goal.meld-requires
-meld-requires c =
-    c.requires.allowed
-
-pub overflow_add-c : goal.overflow_add-c
-overflow_add-c c =
+pub overflow_add-result : goal.overflow_add-result
+overflow_add-result c =
     omega (arith, c.get-c.ensures, c.get-d.ensures, counts_fit c.requires.allowed)
 
 pub returns : goal.returns
 returns c =
-    melded_performed c.requires c.get-c.ensures c.get-d.ensures c.meld.ensures c.answer.ensures
+    melded_done c.requires c.get-c.ensures c.get-d.ensures c.meld.ensures

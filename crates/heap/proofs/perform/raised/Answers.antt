@@ -1,6 +1,6 @@
 -- `heap::perform::raised` meets its contract.
 use Rattle.heap.proofs.SoundStore.{sound_says}
-use Rattle.heap.proofs.Answered.{raised_performed}
+use Rattle.heap.proofs.Answered.{raised_done}
 use Rattle.heap.proofs.RaiseWords.{raise_heap}
 use Rattle.heap.proofs.perform.raised.Goals as goal
 
@@ -10,7 +10,4 @@ get-c-requires c =
 
 pub returns : goal.returns
 returns c =
-    raised_performed c.requires c.get-c.ensures c.raise.ensures c.answer.ensures
-
-pub raise-requires : goal.raise-requires
-raise-requires c = c.requires.allowed
+    raised_done c.requires c.get-c.ensures c.raise.ensures

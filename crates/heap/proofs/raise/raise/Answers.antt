@@ -1,4 +1,5 @@
 -- `heap::raise::raise` meets its contract.
+use Rattle.std.proofs.Common.{refl}
 use Rattle.heap.proofs.RaiseWords.{raise_heap, raise-none, raise_words}
 use Rattle.heap.proofs.SoundStore.{sound_says}
 use Rattle.heap.proofs.raise.raise.Goals as goal
@@ -18,7 +19,7 @@ put-requires c =
 pub returns-then-get-ne0 : goal.returns-then-get-ne0
 returns-then-get-ne0 c =
     raise_words c.requires c.get.ensures c.if-get-ne0.true c.get-amount.ensures
-    c.wrapping_add_u32.ensures.value c.put.ensures
+    refl c.put.ensures
 
 pub returns-else-get-ne0 : goal.returns-else-get-ne0
 returns-else-get-ne0 c =

@@ -2,12 +2,13 @@
 use Rattle.std.proofs.Common.{eq-eqb, ne_eqb, le-leb}
 use borrow.Author.Tests.{lt-leb}
 use Rattle.rules.specs.Answers.{refusal}
+use Rattle.rules.specs.Refusals.{code, code_of}
 use Rattle.heap.proofs.SoundStore.{sound_says}
 use Rattle.heap.proofs.RefusalWords.{table_le, table_lt, state_free, state_live}
 use Rattle.heap.proofs.refusal.refuse_delete.Goals as goal
 
 pub returns-then-i-n : goal.returns-then-i-n
-unfolding refusal
+unfolding refusal code_of code
 returns-then-i-n c =
     rw (le-leb _ _ (table_le c.requires c.if-i-n.true))
 
@@ -16,7 +17,7 @@ get-requires c =
     record { sized = (sound_says c.requires).sized; inside = c.if-i-n.false }
 
 pub returns-then-get-eq0 : goal.returns-then-get-eq0
-unfolding refusal
+unfolding refusal code_of code
 returns-then-get-eq0 c =
     rw (
       lt-leb _ _ (table_lt c.requires c.if-i-n.false),
@@ -24,7 +25,7 @@ returns-then-get-eq0 c =
     )
 
 pub returns : goal.returns
-unfolding refusal
+unfolding refusal code_of code
 returns c =
     rw (
       lt-leb _ _ (table_lt c.requires c.if-i-n.false),

