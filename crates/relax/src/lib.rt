@@ -6,7 +6,7 @@ ghost use Rattle.rules.specs.declared.Call.TheVariants.{Insert, DecreaseKey};
 ghost use Rattle.rules.specs.Forests.{none};
 ghost use Rattle.paths.specs.Search.{wins_tie};
 ghost use Rattle.relax.specs.Tracks.{examine_one, visit_one};
-ghost use Rattle.relax.specs.Lent.{lists_of, SameLists};
+ghost use Rattle.relax.specs.Lent.{lists_of, SameLists, SameLengths};
 ghost use Rattle.relax.specs.Advances.{offering, OfferReady, Improved, Advances};
 
 use heap::decrease::decrease_key;
@@ -98,6 +98,7 @@ impl<'a> Table<'a> {
         requires offer_ready { OfferReady offer.place offer.loss (lists_of self.old) go }
         requires place_value { get_or self.old.best.now offer.place 0 ≡ none }
         ensures same { SameLists self.old self.new }
+        ensures lengths { SameLengths self.old self.new }
         ensures improved { Improved (Insert 0 offer.place offer.loss) offer.place offer.loss offer.hops offer.span
             (go.met + 1) (lists_of self.old) go (lists_of self.new) result }
     {
@@ -117,6 +118,7 @@ impl<'a> Table<'a> {
         requires place_nonzero { get_or self.old.best.now offer.place 0 ≢ none }
         requires loss_bound { offer.loss < get_or self.old.best.now offer.place 0 }
         ensures same { SameLists self.old self.new }
+        ensures lengths { SameLengths self.old self.new }
         ensures improved { Improved (DecreaseKey offer.place offer.loss) offer.place offer.loss offer.hops offer.span
             go.met (lists_of self.old) go (lists_of self.new) result }
     {
@@ -132,6 +134,7 @@ impl<'a> Table<'a> {
     pub fn relax(&mut self, offer: Offer, go: Progress) -> Progress
         requires { OfferReady offer.place offer.loss (lists_of self.old) go }
         ensures same { SameLists self.old self.new }
+        ensures lengths { SameLengths self.old self.new }
         ensures advances { Advances offer.place (offering offer)
             (lists_of self.old) go (lists_of self.new) result }
     {
