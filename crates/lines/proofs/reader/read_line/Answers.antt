@@ -1,9 +1,9 @@
--- `line_at` meets its contract.
+-- `read_line` meets its contract.
 use native.Mathlib.Omega.{arith}
 use borrow.Author.Tests.{le-ltb}
 use Rattle.lines.specs.LineAt.{line_at}
 use Rattle.lines.proofs.LineAt.{found_here, short}
-use Rattle.lines.proofs.reader.line_at.Goals as goal
+use Rattle.lines.proofs.reader.read_line.Goals as goal
 
 pub overflow_add-result : goal.overflow_add-result
 overflow_add-result c = omega (arith, short c.parse-parsed.ensures)
