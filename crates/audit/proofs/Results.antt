@@ -9,6 +9,8 @@ use native.Mathlib.Omega.{arith}
 use lib.ListN.{length}
 use lib.Dec.{eqb, ltb}
 use borrow.Author.Tests.{ne_eqb, le-leb}
+use mir.Syntax.{w32}
+use mir.Val.{Fits}
 use Rattle.std.specs.Prelude.{Option, Some, None}
 use Rattle.std.specs.Option.{option_eq}
 use Rattle.std.proofs.lemmas.Option.{cond_some, none-some}
@@ -119,6 +121,10 @@ module _ (n : ℕ) (v : Values) (h : ℕ) where
 pub states_low : (n : ℕ) (v : Values) → all_to n (item_ok n v) ≡ true → (i : ℕ) → i < n → v State i ≤ 16
 states_low n v e i k =
     by_zero (v State i) (λ z. omega arith) (λ m. (is_member n v i (all_to-at n (item_ok n v) e i k) m).state)
+
+-- a word of 32 bits, in whichever order it was read
+pub word_most : {x : ℕ} → Fits w32 x → x ≤ 4294967295
+word_most f = omega (arith, f)
 
 -- no store, and a store
 pub sound_wrong : (o : Layout) (w : List ℕ) → is_store w ≡ false → false ≡ sound_words_in o w

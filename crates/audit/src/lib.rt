@@ -210,8 +210,7 @@ fn least_root(view: &View, h: usize) -> u32
     least
 }
 
-// The number of trees of a heap that has so many items, if the heap is right. One copy of the code, not one for each heap.
-#[inline(never)]
+// The number of trees of a heap that has so many items, if the heap is right.
 fn heap_length(view: &View, h: usize, count: usize) -> Option<usize>
     requires h_bound { h < 8 }
     requires count_value { count ≡ count_at view.now.n (values view.now) (suc h) }

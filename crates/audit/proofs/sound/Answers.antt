@@ -1,9 +1,7 @@
 -- `audit::sound` meets its contract.
 use mathlib.Core.Path.{sym, ◌∙◌}
-use native.Mathlib.Omega.{arith}
-use Rattle.rules.specs.Words.{place_in}
 use Rattle.store.proofs.Sizes.{store_sized}
-use Rattle.audit.proofs.Results.{sound_wrong, sound_all}
+use Rattle.audit.proofs.Results.{word_most, sound_wrong, sound_all}
 use Rattle.audit.proofs.sound.Goals as goal
 
 pub returns-then-not-is_store : goal.returns-then-not-is_store
@@ -13,7 +11,7 @@ pub invariant_of-all_ok : goal.invariant_of-all_ok
 invariant_of-all_ok c =
     record {
       sized = store_sized _ (sym c.is_store.ensures ∙ c.if-not-is_store.false) c.items_of.ensures;
-      fits = λ f i. omega (arith, c.type_inv.store (place_in c.args.layout c.items_of.result f i));
+      fits = λ f i. word_most (c.type_inv.store _);
     }
 
 pub returns : goal.returns
