@@ -171,16 +171,16 @@ fn write_tree(s: &mut [u32], n: usize, h: u32, m: u32, linked: &Linked, r: u16) 
 
 // The row of heap h written anew from the places, by ascending rank, with its minimum. The loop ends after the last
 // place that is taken, which their number tells.
-fn write_row(s: &mut [u32], n: usize, h: u32, linked: &Linked)
-    requires { RowReady n s.old h (trees_of linked.now.places) }
-    ensures { WritesRow n s.old h (trees_of linked.now.places) s.new }
+fn write_row(s: &mut [u32], n: usize, h: u32, linked: Linked)
+    requires { RowReady n s.old h (trees_of linked.places) }
+    ensures { WritesRow n s.old h (trees_of linked.places) s.new }
 {
     put(s, n, Field::FirstTree, h, NONE);
     put(s, n, Field::LastTree, h, NONE);
     let mut m = NONE;
     let mut r = 0;
     while any_from(linked.taken, r) {
-        m = write_tree(s, n, h, m, linked, r);
+        m = write_tree(s, n, h, m, &linked, r);
         r += 1;
     }
     put(s, n, Field::Minimum, h, m);
@@ -193,7 +193,7 @@ fn consolidate(s: &mut [u32], n: usize, h: u32, tally: Tally) -> Tally
     ensures cuts_value { result.cuts ≡ tally.cuts }
 {
     let linked = link_row(s, n, h);
-    write_row(s, n, h, &linked);
+    write_row(s, n, h, linked);
     tally.link(linked.links)
 }
 

@@ -11,8 +11,8 @@ use Rattle.consolidate.specs.Writing.{WritingRow}
 use Rattle.consolidate.proofs.RowWritten.{WrittenTo}
 use Rattle.consolidate.proofs.write_row.Given as goal
 
-abbrev pub invariant-loop-s : goal.invariant-loop-s
-invariant-loop-s l = record {
+abbrev pub invariant-loop-linked : goal.invariant-loop-linked
+invariant-loop-linked l = record {
   inside : l.r ≤ 17;
   here : WrittenTo l.n l.h l.s (trees_of l.linked.places) l.r l.m;
   goes_on : (amounts : ℕ → ℕ) (t : Forests) → Disjoint t → KeysFit t → row_of t l.h ≡ occupied (trees_of l.linked.places)
@@ -20,5 +20,5 @@ invariant-loop-s l = record {
       → WritingRow l.n l.h l.s (occupied (take l.r (trees_of l.linked.places))) l.m amounts t;
 }
 
-abbrev pub decreases-loop-s : goal.decreases-loop-s
-decreases-loop-s l = 17 - l.r
+abbrev pub decreases-loop-linked : goal.decreases-loop-linked
+decreases-loop-linked l = 17 - l.r
