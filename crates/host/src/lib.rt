@@ -2,8 +2,8 @@
 // itself, so their parameters stay loose here.
 #![tactic(auto)]
 
-ghost use Rattle.std.specs.Prelude.{◌≡◌};
-ghost use Rattle.rules.specs.Refusals.{code_of};
+ghost use Rattle.std.specs.Prelude.{◌≡◌, length, replicate};
+ghost use Rattle.rules.specs.Refusals.{code, code_of};
 ghost use Rattle.sheet.specs.Runs.{fresh_run, kept_run};
 ghost use Rattle.paths.specs.Map.{span_lists, windows, map_at};
 ghost use Rattle.paths.specs.Feed.{result_lists, feed_result, budget_result};
@@ -25,6 +25,15 @@ fn code(ran: Result<Ran, Refusal>) -> u32
         Ok(_) => 0,
         Err(refusal) => refusal.code(),
     }
+}
+
+// A refused feed call or reading: its figures are zeros, its code is returned.
+fn refuse(refusal: Refusal, figures: &mut [u32]) -> u32
+    ensures code_is { result ≡ code refusal }
+    ensures zeros { figures.new ≡ replicate (length figures.old) 0 }
+{
+    figures.fill(0);
+    refusal.code()
 }
 
 // A fresh run. Returns the code; the figures are lines and bytes written.
@@ -115,10 +124,7 @@ pub extern "C" fn feed_table(
             *figures = [fed.links, fed.cuts, fed.examined];
             0
         }
-        Err(refusal) => {
-            *figures = [0; 3];
-            refusal.code()
-        }
+        Err(refusal) => refuse(refusal, figures),
     }
 }
 
@@ -172,10 +178,7 @@ pub extern "C" fn feed_budget(
             *figures = [fed.links, fed.cuts, fed.examined, listed];
             0
         }
-        Err(refusal) => {
-            *figures = [0; 4];
-            refusal.code()
-        }
+        Err(refusal) => refuse(refusal, figures),
     }
 }
 
@@ -209,9 +212,6 @@ pub extern "C" fn read_map(
             *figures = [map.places, map.start, map.minute, map.spans];
             0
         }
-        Err(refusal) => {
-            *figures = [0; 4];
-            refusal.code()
-        }
+        Err(refusal) => refuse(refusal, figures),
     }
 }

@@ -17,10 +17,10 @@ returns-in-Ok c =
 pub returns-in-Err : goal.returns-in-Err
 returns-in-Err c =
     let R = budget_refused {left = lists_of c.feed_within.new.table} _ c.in-Err.ensures.fed in
-    rw c.code.ensures
+    rw c.refuse.ensures.code_is
     (record {
       same_code = R.same_code;
-      same_figures = R.same_figures;
+      same_figures = rw (c.refuse.ensures.zeros, c.told-figures) R.same_figures;
       same_lists = search (rules, R.same_lists);
       same_places = R.same_places;
     })

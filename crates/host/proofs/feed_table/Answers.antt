@@ -12,5 +12,5 @@ returns-in-Ok c =
 pub returns-in-Err : goal.returns-in-Err
 returns-in-Err c =
     let R = feed_refused {left = lists_of c.feed.new.table} _ c.in-Err.ensures.fed in
-    rw c.code.ensures
-    (record { same_code = R.same_code; same_figures = R.same_figures; same_lists = search (rules, R.same_lists) })
+    rw c.refuse.ensures.code_is
+    (record { same_code = R.same_code; same_figures = rw (c.refuse.ensures.zeros, c.told-figures) R.same_figures; same_lists = search (rules, R.same_lists) })

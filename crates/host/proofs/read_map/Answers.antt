@@ -16,10 +16,10 @@ returns-in-Ok c =
 pub returns-in-Err : goal.returns-in-Err
 returns-in-Err c =
     let R = read_refused _ c.in-Err.ensures.reads in
-    rw c.code.ensures
+    rw c.refuse.ensures.code_is
     (record {
       same_code = R.same_code;
-      same_figures = R.same_figures;
+      same_figures = rw (c.refuse.ensures.zeros, c.told-figures) R.same_figures;
       same_lists = search (rules, R.same_lists);
       same_windows = search (rules, R.same_windows);
     })
