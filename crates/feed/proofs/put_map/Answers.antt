@@ -7,6 +7,13 @@ use Rattle.feed.specs.Shown.{own_spans, own_windows, own_results}
 use Rattle.feed.proofs.MapShown.{spans_read, map_refused, map_many, map_fed}
 use Rattle.feed.proofs.put_map.Goals as goal
 
+-- In front stands the return that prints the table: room for another number of spans makes it false.
+pub returns : goal.returns
+unfolding own_spans own_windows own_results store_size
+returns c =
+    rw (map_fed _ (spans_in c.read.new.lists) (windows_in c.read.new.lists) own_results _ c.in_ok-read.ensures.reads
+    (omega (arith, c.if-n-gt-PLACES.false)) c.size_for-words.ensures) c.put_feed.ensures
+
 pub returns-in_err-read : goal.returns-in_err-read
 unfolding own_spans own_windows own_results store_size
 returns-in_err-read c =
@@ -57,9 +64,3 @@ pub slice_bounds-table-end-4 : goal.slice_bounds-table-end-4
 unfolding store_size
 slice_bounds-table-end-4 c =
     sym (length-take-le _ _ (omega (arith, c.size_for-words.ensures, c.if-n-gt-PLACES.false)))
-
-pub returns : goal.returns
-unfolding own_spans own_windows own_results store_size
-returns c =
-    rw (map_fed _ (spans_in c.read.new.lists) (windows_in c.read.new.lists) own_results _ c.in_ok-read.ensures.reads
-    (omega (arith, c.if-n-gt-PLACES.false)) c.size_for-words.ensures) c.put_feed.ensures

@@ -1,4 +1,5 @@
 -- `answer_line` meets its contract: code 6 where the line yields no call, else the reply of its call.
+-- In front stands the one that another code makes false.
 use mathlib.Core.Path.{◌≡◌, ◌∙◌}
 use native.Mathlib.Omega.{arith}
 use Rattle.rules.specs.Answers.{refused}
@@ -7,15 +8,15 @@ use Rattle.sheet.proofs.Answered.{answer_of, six_fits, answered_none, call_fits,
 use Rattle.sheet.proofs.answer_line.Goals.{in-Ok, in-Err}
 use Rattle.sheet.proofs.answer_line.Goals as goal
 
-pub put_answer-requires : goal.put_answer-requires
-unfolding refused code
-put_answer-requires c =
-    rw c.refused.ensures (six_fits c.requires)
-
 pub returns-in_default : goal.returns-in_default
 unfolding refused code
 returns-in_default c =
     answered_none c.requires c.in_default.is (rw c.refused.ensures at c.put_answer.ensures)
+
+pub put_answer-requires : goal.put_answer-requires
+unfolding refused code
+put_answer-requires c =
+    rw c.refused.ensures (six_fits c.requires)
 
 pub put_answer-requires-2 : goal.put_answer-requires-2
 unfolding answer_of refused

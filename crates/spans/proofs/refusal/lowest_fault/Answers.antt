@@ -1,5 +1,6 @@
 -- `spans::refusal::lowest_fault` meets its contract. The invariant: no span below e is faulty, and `before` is where
 -- the span before e comes from.
+-- In front stands the one that a wrong order of the tests makes false.
 use Rattle.std.proofs.Common.{rules, arith, ◌≡◌, Err}
 use mathlib.Core.Path.{refl}
 use Rattle.rules.specs.Refusals.{code_of}
@@ -9,6 +10,14 @@ use Rattle.rules.proofs.Codes.{some_code}
 use Rattle.spans.proofs.Refused.{stops, goes}
 use Rattle.spans.proofs.SpansCode.{loop_on, loop_out, previous-next}
 use Rattle.spans.proofs.refusal.lowest_fault.Goals as goal
+
+pub returns-in_err-check_window : goal.returns-in_err-check_window
+unfolding code_of
+returns-in_err-check_window c =
+    let r : c.from_residual-in_err-check_window.result ≡ Err c.in_err-check_window.field-0.0 = search rules in
+    rw r
+    (loop_out _ (spans_in c.args.map) (windows_in c.args.map) _ _ c.loop-e.invariant.1 _ _ c.loop-e.invariant.0
+    (goes _ c.in_ok-check_span.ensures c.in_err-check_window.ensures) _ (omega arith) (some_code _))
 
 pub loop-e-init : goal.loop-e-init
 unfolding previous code_below
@@ -21,14 +30,6 @@ returns-in_err-check_span c =
     rw r
     (loop_out _ (spans_in c.args.map) (windows_in c.args.map) _ _ c.loop-e.invariant.1 _ _ c.loop-e.invariant.0
     (stops _ _ c.in_err-check_span.ensures) _ (omega arith) (some_code _))
-
-pub returns-in_err-check_window : goal.returns-in_err-check_window
-unfolding code_of
-returns-in_err-check_window c =
-    let r : c.from_residual-in_err-check_window.result ≡ Err c.in_err-check_window.field-0.0 = search rules in
-    rw r
-    (loop_out _ (spans_in c.args.map) (windows_in c.args.map) _ _ c.loop-e.invariant.1 _ _ c.loop-e.invariant.0
-    (goes _ c.in_ok-check_span.ensures c.in_err-check_window.ensures) _ (omega arith) (some_code _))
 
 pub loop-e-preserved : goal.loop-e-preserved
 unfolding code_of
